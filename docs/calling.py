@@ -19,7 +19,19 @@ CALLS = [
     (
         "Shapes and positions",
         "zf_base",
-        ["Shape::new", "dims", "size", "values", "blocks", "contains", "place", "place_in", "extent"],
+        [
+            "Pos::new",
+            "Pos::of_sizes",
+            "Shape::new",
+            "dims",
+            "size",
+            "values",
+            "blocks",
+            "contains",
+            "place",
+            "place_in",
+            "extent",
+        ],
     ),
     ("Headers", "zf_header", ["read", "write", "mode_number", "rate_bytes"]),
     (

@@ -8,7 +8,7 @@ use Rattle.zf_cached.specs.State.{State, empty_line, none_dirty, is_block}
 use Rattle.zf_cached.proofs.States.{same_state}
 use Rattle.zf_header.specs.declared.header.Header.{Header}
 use Rattle.zf_cache.specs.Kept.{Kept, tag_at, block_in, line_of, dirty_tag}
-use Rattle.zf_cache.specs.Standing.{state_of, values_of, line_values, Fits, HasRoom}
+use Rattle.zf_cache.specs.Standing.{state_of, values_of, line_values, Fits, HasRoom, state_at}
 use Rattle.zf_cache.proofs.Tags.{names-clean, names-dirty}
 use Rattle.zf_store.specs.Stored as store
 use Rattle.zf_store.specs.Stored.{Stored, code_at, format_of}
@@ -31,7 +31,7 @@ module _ {X Code : Type 0} (value : X → ℤ) (f : Format Code) (c : Kept X) (k
   }
 
   pub none_coded : (s : State Code) → length c.tags ≡ s.lines → c.counts ≡ s.counts → state_of value c f k ≡ coded f s k
-  unfolding state_of values_of coded
+  unfolding state_at coded
   none_coded s lines counts =
       same_state (state_of value c f k) (coded f s k) lines none
       (λ b. ne_eqb (tag_at c.tags (line_of c b)) (dirty_tag b) (λ is. no_block (line_of c b) b (ap block_in is ∙ names-dirty b)))
@@ -46,19 +46,19 @@ module _ {X : Type 0} (value : X → ℤ) (w : Width) (d : ℕ) (s : Stored) (c 
   there = state_now value w d s c room joined now is
 
   pub none_held : HasEmptyLines now → (l : ℕ) → block_in (tag_at c.tags l) ≡ None
-  unfolding state_of
+  unfolding state_at
   none_held empty l = ap (λ (u : State (List Bool)). u.held l) (sym there) ∙ empty l
 
   lines_there : length c.tags ≡ (state now).lines
-  unfolding state_of
+  unfolding state_at
   lines_there = ap (λ (u : State (List Bool)). u.lines) (sym there)
 
   counts_there : c.counts ≡ (state now).counts
-  unfolding state_of
+  unfolding state_at
   counts_there = ap (λ (u : State (List Bool)). u.counts) (sym there)
 
   pub codes_there : (state now).codes ≡ code_at s
-  unfolding state_of
+  unfolding state_at
   codes_there = ap (λ (u : State (List Bool)). u.codes) there
 
   -- a block, and a line of its values, are those of the store

@@ -19,7 +19,7 @@ use Rattle.zf_lines.specs.Rows.{line_at, part, over, over_part}
 use Rattle.zf_lines.specs.Rows as rows
 use Rattle.zf_lines.proofs.Sizes.{length-over}
 use Rattle.zf_cache.specs.Kept.{Kept, HasRow, IsDirty, tag_at, block_in, line_of, dirty_tag}
-use Rattle.zf_cache.specs.Standing.{state_of}
+use Rattle.zf_cache.specs.Standing.{state_of, state_at}
 use Rattle.zf_cache.specs.Loans.{StandsFor}
 use Rattle.zf_cache.proofs.Steps.{part_written}
 use Rattle.zf_cache.proofs.Sound.{values_here}
@@ -191,7 +191,7 @@ bounded_values h s b values below bounded = record {
 
 module _ {X : Type 0} (value : X → ℤ) (w : Width) (d : ℕ) (s : Stored) (c : Kept X) (room : ℕ) (joined : IsJoined value w d s c room) (now : Held) (is : held_by value s c ≡ now) where
   bounded_of : IsBounded s.header (state_of value c (format_of s) (code_at s))
-  unfolding state_of array_of
+  unfolding state_at array_of
   bounded_of = record {
     held = none_past value s c joined.count joined.fits;
     dirty = clean_past value s c joined.count joined.fits;
@@ -200,7 +200,7 @@ module _ {X : Type 0} (value : X → ℤ) (w : Width) (d : ℕ) (s : Stored) (c 
   }
 
   pub tag_is : (b : ℕ) → (state now).dirty b ≡ true → IsDirty c b
-  unfolding state_of
+  unfolding state_at
   tag_is b dirty = eqb-true (tag_at c.tags (line_of c b)) (dirty_tag b) (sym (ap (λ (u : State (List Bool)). u.dirty b) (state_now value w d s c room joined now is)) ∙ dirty)
 
   module _ (b a n : ℕ) (dirty : (state now).dirty b ≡ true) (within : a + n ≤ 4 ^ d) (size : HasRow c b (4 ^ d)) where

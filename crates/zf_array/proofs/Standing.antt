@@ -15,7 +15,7 @@ use Rattle.zf_cached.specs.Arrays.{rate_coding}
 use Rattle.zf_cached.proofs.Arrays.{meant-zeros}
 use Rattle.zf_cached.proofs.States.{same_state}
 use Rattle.zf_cache.specs.Kept.{Kept, HasBlocks, tag_at, block_in, line_of, is_dirty, dirty_tag}
-use Rattle.zf_cache.specs.Standing.{state_of, values_of, line_values, Fits}
+use Rattle.zf_cache.specs.Standing.{state_of, values_of, line_values, Fits, state_at}
 use Rattle.zf_cache.proofs.Tags.{names-dirty, is_block-other}
 use Rattle.zf_store.specs.Stored.{Stored, Frame, code_at, format_of, frame_of, rate_of}
 use Rattle.zf_store.proofs.Kept.{blocks_is, block_len_is}
@@ -35,7 +35,7 @@ zero_meant s b = meant-zeros (width_of s.header.ty) (rate_of s) s.header.shape b
 module _ {X : Type 0} (value : X → ℤ) (s : Stored) (c : Kept X) (count : length s.codes ≡ blocks s.header.shape) (fits : Fits value c (format_of s) (code_at s)) where
   -- the codes, as a list
   pub stored_held : stored (held_by value s c) ≡ s
-  unfolding array_of state_of
+  unfolding array_of state_at
   stored_held =
       let codes : map (code_at s) (upto (blocks s.header.shape)) ≡ s.codes = map-get_or-upto s.codes (blocks s.header.shape) (replicate (rate_of s) false) count in
       λ i. record { header = s.header; codes = codes i }
@@ -55,7 +55,6 @@ module _ {X : Type 0} (value : X → ℤ) (s : Stored) (c : Kept X) (count : len
       by (inr e) = sym e
 
   pub zeros_past : (b : ℕ) → blocks s.header.shape ≤ b → zeros (format_of s) ≡ values_of value c (format_of s) (code_at s) b
-  unfolding values_of
   zeros_past b h =
       let out : block_in (tag_at c.tags (line_of c b)) ≢ Some b = λ e. let below : b < blocks s.header.shape = in_array (line_of c b) b e in omega (arith, h, below) in
       let none = is_block-other (block_in (tag_at c.tags (line_of c b))) b out in
@@ -63,7 +62,7 @@ module _ {X : Type 0} (value : X → ℤ) (s : Stored) (c : Kept X) (count : len
       ∙ ap (meant (format_of s) b) (get_or_past s.codes b (replicate (rate_of s) false) (omega arith)) ∙ zero_meant s b)
 
   pub state_held : state (held_by value s c) ≡ state_of value c (format_of s) (code_at s)
-  unfolding state array_of state_of
+  unfolding state array_of state_at
   state_held =
       let n = blocks s.header.shape in
       let t = state_of value c (format_of s) (code_at s) in

@@ -22,7 +22,7 @@ use Rattle.zf_cached.specs.Changes.{opened, raised, resized, zeros}
 use Rattle.zf_cached.specs.Arrays.{rate_coding, array_format, zero_codes, open_array, new_array, codes_of, saved_file}
 use Rattle.zf_cached.proofs.States.{same_state}
 use Rattle.zf_cache.specs.Kept.{Kept, IsEmpty, tag_at, block_in, dirty_tag}
-use Rattle.zf_cache.specs.Standing.{state_of, Fits, HasRoom}
+use Rattle.zf_cache.specs.Standing.{state_of, Fits, HasRoom, state_at}
 use Rattle.zf_cache.proofs.Stands.{standing}
 use Rattle.zf_cache.proofs.Steps.{empty_fits}
 use Rattle.zf_cache.proofs.Touches.{state_is, no_tag, all_meant}
@@ -116,7 +116,7 @@ module _ {X : Type 0} (value : X → ℤ) where
   pub resizes : (old : Stored) (c : Kept X) (t : Stored) (e : Kept X) (ty : Ty) (ns : List ℕ) (budget : ℕ) → t ≡ store.zeros ty ns budget
       → IsEmpty e (length c.tags) → e.counts ≡ c.counts → HasRoom e (format_of t).blocks
       → state (held_by value t e) ≡ resized (format (held_by value t e)) (replicate budget false) (state_of value c (format_of old) (code_at old))
-  unfolding resized state_of
+  unfolding resized state_at
   resizes old c t e ty ns budget is empty counts room =
       let f = format_of t in
       let k = code_at t in

@@ -179,7 +179,7 @@ impl<T: Lane, const D: usize> Array<T, D> {
     {
         let (b, place) = self.store.header().shape.place_in::<D>(p);
         self.cache.touch_mut(&mut self.store, b);
-        self.cache.value_mut(b, place)
+        self.cache.dirty_value_mut(b, place)
     }
 
     /// Touches block `b`, which is below the number of blocks; its `4^D` values, x fastest.

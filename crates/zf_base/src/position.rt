@@ -1,6 +1,6 @@
 //! Positions and extents, and the numbering of the positions of a box.
 
-ghost use Rattle.std.specs.Prelude.{◌≡◌, ◌≤◌, ◌<◌, ◌^◌, ◌/◌, ◌%◌, true, map, nat_lt, ◌==◌};
+ghost use Rattle.std.specs.Prelude.{◌≡◌, ◌≤◌, ◌<◌, ◌^◌, ◌/◌, ◌%◌, true, map, nat_lt, ◌==◌, slice_index_or};
 ghost use Rattle.std.specs.List.{AllByRecursion, list_any};
 ghost use Rattle.zf_spec.specs.Grid.{product, raster, coordinates, is_inside};
 ghost use Rattle.zf_base.specs.Positions.{axes, used_axes, with_unused};
@@ -24,7 +24,53 @@ pub struct Extent {
     pub size: Pos,
 }
 
+// The number of an axis in a list that has those of the first axes, or else `other`.
+#[inline(always)]
+fn along(list: &[u64], axis: usize, other: u64) -> u64
+    ensures { result ≡ slice_index_or list.now axis other }
+{
+    if axis < list.len() { list[axis] } else { other }
+}
+
 impl Pos {
+    /// The position with these coordinates along the first axes, x first, and 0 along those that are not
+    /// used.
+    ///
+    /// ```text
+    /// array.get(Pos::new([3, 5]))
+    /// ```
+    pub fn new<const D: usize>(coordinates: [u64; D]) -> Pos
+        requires { D ≤ 4 }
+        ensures { result ≡ with_unused 0 coordinates.entry }
+    {
+        Pos::of(&coordinates, 0)
+    }
+
+    /// Sizes, or steps: these along the first axes, x first, and 1 along those that are not used.
+    ///
+    /// ```text
+    /// Window::new(&shape, Pos::new([3, 5]), Pos::of_sizes([2, 4]), Pos::of_sizes([1, 1]))
+    /// ```
+    pub fn of_sizes<const D: usize>(sizes: [u64; D]) -> Pos
+        requires { D ≤ 4 }
+        ensures { result ≡ with_unused 1 sizes.entry }
+    {
+        Pos::of(&sizes, 1)
+    }
+
+    /// These numbers along the first axes, and `others` along the rest.
+    #[inline(always)]
+    fn of(first: &[u64], others: u64) -> Pos
+        ensures { result ≡ with_unused others first.now }
+    {
+        Pos {
+            x: along(first, 0, others),
+            y: along(first, 1, others),
+            z: along(first, 2, others),
+            w: along(first, 3, others),
+        }
+    }
+
     /// These numbers along the first axes, and `others` along the rest.
     #[inline(always)]
     pub(crate) fn first_axes(self, dims: u8, others: u64) -> Pos

@@ -13,7 +13,7 @@ use Rattle.zf_cache.specs.declared.body.Body.{Body}
 use Rattle.zf_cache.specs.Kept.{Kept, tag_at, dirty_tag, written_in}
 use Rattle.zf_cache.specs.Rules.{IsRule}
 use Rattle.zf_cache.specs.Bodies.{IsSound, ComesTo, kept_of, counts_of}
-use Rattle.zf_cache.specs.Standing.{state_at, FitsAt}
+use Rattle.zf_cache.specs.Standing.{values_by, state_at, FitsAt}
 use Rattle.zf_cache.specs.Steps.{touch_in}
 use Rattle.zf_cache.proofs.Tags.{names}
 use Rattle.zf_cache.proofs.Stands.{standing_at}
@@ -36,16 +36,17 @@ module _ (place : ℕ → List ℕ → ℕ → ℕ) (may_hold : ℕ → ℕ → 
   here = values_there place value h (kept_of t) j b l (sound.fits.own l b (names (tag_at t.tags.items l) b to.here)).0 to.here
 
   -- the value at a place that exists
-  pub gets : (values : List ℤ) → (state_at place value (kept_of t) h j).values b ≡ values → (p : ℕ) (line : List X) (r : X) → p < h.block_len → line ≡ line_at t.lines l → r ≡ get_or line p r
-      → OnTrue (f.exists b p) (value r ≡ get_or values p (pos 0))
-  gets values held p line r within is read = on_true (f.exists b p) (λ e.
+  pub gets : (p : ℕ) (line : List X) (r : X) → p < h.block_len → line ≡ line_at t.lines l → r ≡ get_or line p r
+      → OnTrue (f.exists b p) (value r ≡ get_or (values_by place value (kept_of t) h j b) p (pos 0))
+  unfolding state_at
+  gets p line r within is read = on_true (f.exists b p) (λ e.
       let row = line_at t.lines l in
       let inside : p < length row = subst (λ n. p < n) (sym whole) within in
       let exists : h.exists b p ≡ true = ap (λ q. q.exists b p) same ∙ e in
       ap value (read ∙ ap (λ ls. get_or ls p r) is)
       ∙ sym (get_or-map value row p r (pos 0) inside)
       ∙ sym (get_or-existing_of_exists h b (map value row) p within exists)
-      ∙ ap (λ xs. get_or xs p (pos 0)) (sym here ∙ held))
+      ∙ ap (λ xs. get_or xs p (pos 0)) (sym here))
 
   -- the whole block, for the state that the touch has made
   pub shows : (s : State Code) (line : List X) → state_at place value (kept_of t) h j ≡ s → line ≡ line_at t.lines l → existing_of f b (map value line) ≡ s.values b

@@ -1,6 +1,6 @@
 pub mod Doubled
 pub mod Lent
-pub mod OwnLines
+pub mod Placed
 pub mod Puts
 pub mod Rooms
 pub mod Sound

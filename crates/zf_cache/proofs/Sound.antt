@@ -16,7 +16,7 @@ use Rattle.zf_cache.specs.Standing.{state_at, state_of, evicted}
 use Rattle.zf_cache.specs.Steps.{taken_in, touch_in}
 use Rattle.zf_cache.proofs.Tags.{same_or_not, names, named, tag-set_same, tag-set_other}
 use Rattle.zf_cache.proofs.Stands.{standing_at, Fit, codes_after, counts_after, empties, fits_after, dirty_below, takes_in, fits_taken, writes, fits_written, soils, fits_soiled, vals-in}
-use Rattle.zf_cache.proofs.Touches.{no_tag, fits_of, fit_of, state_stands, one_line_state, touches_here, touches_away}
+use Rattle.zf_cache.proofs.Touches.{no_tag, fits_of, fit_of, state_stands, touches_here, touches_away}
 
 -- no line without a row holds a block
 abbrev pub IsBlank : ℕ → List ℕ → Type 0
@@ -256,7 +256,7 @@ values_there place value f c k b l own half =
 -- where each block has one line
 pub values_here : {X Code : Type 0} (value : X → ℤ) (f : Format Code) (c : Kept X) (k : ℕ → Code) (b l : ℕ) → b % length c.tags ≡ l → tag_at c.tags l / 2 ≡ b + 1
     → (state_of value c f k).values b ≡ existing_of f b (map value (line_at c.lines l))
-values_here value f c k b l own half = ap (λ (s : State _). s.values b) (sym (one_line_state value f c k)) ∙ values_there one_line value f c k b l own half
+values_here value f c k b l own half = values_there one_line value f c k b l own half
 
 -- a value put into a block, at the places that exist
 pub existing_of-set : {Code : Type 0} (f : Format Code) (b : ℕ) (xs : List ℤ) (p : ℕ) (v : ℤ) → length xs ≡ f.block_len → p < f.block_len

@@ -8,13 +8,14 @@ use Rattle.zf_cached.specs.Touch.{write_back_line, with_values}
 use Rattle.zf_cached.specs.Changes.{write_back_lines, flush, emptied, discard, relined}
 use Rattle.zf_cached.proofs.States.{same_state}
 use Rattle.zf_lines.specs.Rows.{line_at, over_part, with_part}
+use Rattle.zf_cached.specs.Placing.{IsDirect}
 use Rattle.zf_cache.specs.Kept.{Kept, IsClean, IsDirty, IsEmpty, line_of, tag_at, block_in, dirty_tag}
-use Rattle.zf_cache.specs.Rules.{one_line, IsOneLine, one_line_rule}
+use Rattle.zf_cache.specs.Rules.{one_line, one_line_rule}
 use Rattle.zf_cache.specs.Standing.{state_at, state_of, FitsAt, Fits, HasRoomAt, HasRoom}
 use Rattle.zf_cache.specs.Loans.{StandsFor}
 use Rattle.zf_cache.proofs.Stands.{standing_at, standing, Fit, write_back_line-none, write_back_line-some, write_back_dirty-false, undirty_values, writes, fits_written}
 use Rattle.zf_cache.proofs.Rooms.{room_stays}
-use Rattle.zf_cache.proofs.Touches.{no_tag, state_stands, state_is, one_line_state, fit_of, fits_of, fits_empty, all_meant_at, all_meant, discards}
+use Rattle.zf_cache.proofs.Touches.{no_tag, state_stands, state_is, fit_of, fits_of, fits_empty, all_meant_at, all_meant, discards}
 
 module _ (place : ℕ → List ℕ → ℕ → ℕ) {X Code : Type 0} (value : X → ℤ) (f : Format Code) (k : ℕ → Code) where
   empty_count : (c : Kept X) (n : ℕ) → IsEmpty c n → length c.tags ≡ n
@@ -54,7 +55,7 @@ module _ {X Code : Type 0} (value : X → ℤ) (f : Format Code) (k : ℕ → Co
   emptied_fits c d fits e rows = emptied_fits_at one_line value f k c d fits e rows
 
   pub discarded : (c d : Kept X) → Fits value c f k → IsEmpty d (length c.tags) → d.counts ≡ c.counts → state_of value d f k ≡ discard f (state_of value c f k)
-  discarded c d fits e counts = sym (one_line_state value f d k) ∙ discarded_at one_line value f k c d fits e counts ∙ ap (discard f) (one_line_state value f c k)
+  discarded c d fits e counts = discarded_at one_line value f k c d fits e counts
 
   -- where nothing is dirty a flush writes nothing
   pub flush_clean : (s : State Code) → ((b : ℕ) → s.dirty b ≡ false) → flush f s ≡ emptied s
@@ -93,9 +94,9 @@ module _ {X Code : Type 0} (value : X → ℤ) (f : Format Code) (k : ℕ → Co
       let fit = fit_of one_line value f c k m refl fits in
       let lt : l < m = inside c l (dirty_tag b) dirty (omega arith) in
       record {
-        state = state_is value f d k m refl ∙ writes one_line value f m IsOneLine one_line_rule c.lines c.tags c.counts k fit l lt b here row dirty
+        state = state_is value f d k m refl ∙ writes one_line value f m IsDirect one_line_rule c.lines c.tags c.counts k fit l lt b here row dirty
             ∙ ap (λ (s : State Code). with_values s b (existing_of f b (map value row))) (sym (state_is value f c k m refl));
-        fits = fits_of one_line value f d k m refl (fits_written one_line value f m IsOneLine one_line_rule c.lines c.tags c.counts k fit l lt b here row dirty);
+        fits = fits_of one_line value f d k m refl (fits_written one_line value f m IsDirect one_line_rule c.lines c.tags c.counts k fit l lt b here row dirty);
       }
     where
       inside : (c : Kept X) (l t : ℕ) → tag_at c.tags l ≡ t → 0 < t → l < length c.tags

@@ -5,12 +5,12 @@ use Rattle.std.proofs.lemmas.List.{length-replicate, get_or-replicate, get_or_pa
 use Rattle.zf_base.specs.Formats.{Format, meant, with_at}
 use Rattle.zf_base.proofs.Formats.{with_at-same, with_at-other}
 use Rattle.zf_cached.specs.State.{Counts, State}
-use Rattle.zf_cached.specs.Touch.{write_back, write_back_dirty, write_back_line, hit, miss, touch}
+use Rattle.zf_cached.specs.Touch.{write_back, write_back_dirty, write_back_line, hit, miss}
 use Rattle.zf_cached.specs.Changes.{write_back_lines, emptied, flush, discard}
 use Rattle.zf_cached.proofs.States.{same_state}
 use Rattle.zf_cache.specs.Kept.{Kept, IsAway, tag_at, block_in, clean_tag, dirty_tag}
 use Rattle.zf_cache.specs.Rules.{one_line}
-use Rattle.zf_cache.specs.Standing.{state_at, state_of, values_of, FitsAt, evicted}
+use Rattle.zf_cache.specs.Standing.{state_at, state_of, FitsAt, evicted}
 use Rattle.zf_cache.specs.Steps.{taken_in, touch_in}
 use Rattle.zf_cache.proofs.Tags.{same_or_not, is_block-same, is_block-other}
 use Rattle.zf_cache.proofs.Stands.{standing_at, standing, soiled_in, Fit, write_back_line-none, write_back_line-some, write_back_dirty-false, write_back_dirty-true, undirty_values, vals-out, dirty-out}
@@ -205,21 +205,8 @@ module _ (place : ℕ → List ℕ → ℕ → ℕ) {X Code : Type 0} (value : X
 -- ---- where each block has one line
 
 module _ {X Code : Type 0} (value : X → ℤ) (f : Format Code) where
-  pub one_line_state : (c : Kept X) (k : ℕ → Code) → state_at one_line value c f k ≡ state_of value c f k
-  unfolding state_at state_of values_of
-  one_line_state c k = refl
-
-  pub one_line_values : (c : Kept X) (k : ℕ → Code) (b : ℕ) → (state_at one_line value c f k).values b ≡ values_of value c f k b
-  unfolding state_at values_of
-  one_line_values c k b = refl
-
   pub state_is : (c : Kept X) (k : ℕ → Code) (n : ℕ) → length c.tags ≡ n → state_of value c f k ≡ standing value f n c.lines c.tags c.counts k
-  state_is c k n e = sym (one_line_state c k) ∙ state_stands one_line value f c k n e
+  state_is c k n e = state_stands one_line value f c k n e
 
   pub all_meant : (n : ℕ) (lines : List (List X)) (counts : Counts) (k : ℕ → Code) (b : ℕ) → (standing value f n lines (replicate n 0) counts k).values b ≡ meant f b (k b)
   all_meant n lines counts k b = all_meant_at one_line value f n lines counts k b
-
-  -- a touch of a block in its own line
-  pub one_line_touch : (c : Kept X) (k : ℕ → Code) (l b : ℕ) → l ≡ b % length c.tags → touch_in f (state_at one_line value c f k) l b ≡ touch f (state_of value c f k) b
-  unfolding state_at state_of values_of touch touch_in
-  one_line_touch c k l b at = ap (λ j. touch_in f (state_of value c f k) j b) at

@@ -98,10 +98,6 @@ module _ {X : Type 0} where
     counts = counts;
   }
 
-  -- block b is dirty, and these are the values in its line
-  abbrev pub written : Kept X → ℕ → List X → Counts → Kept X
-  written c b row counts = written_in c (line_of c b) b row counts
-
 abbrev pub counts_code : Coded Counts
 counts_code = code_by (ℕ × (ℕ × ℕ)) (coded× coded_ℕ (coded× coded_ℕ coded_ℕ))
     (λ c. (c.hits, (c.misses, c.writes))) (λ p. record { hits = p.0; misses = p.1.0; writes = p.1.1 })

@@ -28,20 +28,17 @@ module _ (place : ℕ → List ℕ → ℕ → ℕ) {X Code : Type 0} where
         | false ↦ meant format b (codes b)
       ]
 
-  -- lines, dirty blocks and counts are the cache's, codes the backing's
-  abbrev pub state_by : (ℕ → List ℤ) → Kept X → (ℕ → Code) → State Code
-  state_by values c codes = record {
+  -- the state that cache and backing stand for: lines, dirty blocks and counts are the cache's, codes the
+  -- backing's
+  unfoldable pub state_at : (X → ℤ) → Kept X → Format Code → (ℕ → Code) → State Code
+  state_at value c format codes = record {
     lines = length c.tags;
     held = λ l. block_in (tag_at c.tags l);
     dirty = λ b. tag_at c.tags (line_by place c b) == dirty_tag b;
-    values = values;
+    values = values_by value c format codes;
     codes = codes;
     counts = c.counts;
   }
-
-  -- the state that cache and backing stand for
-  unfoldable pub state_at : (X → ℤ) → Kept X → Format Code → (ℕ → Code) → State Code
-  state_at value c format codes = state_by (values_by value c format codes) c codes
 
   -- a line holds a block whose line it is and that the backing has, and a clean line has the values that the
   -- block's code means; and each block of the backing has a row of values to come to
@@ -58,11 +55,11 @@ abbrev pub HasRoom : {X : Type 0} → Kept X → ℕ → Type 0
 HasRoom c blocks = HasRoomAt one_line c blocks
 
 module _ {X Code : Type 0} (value : X → ℤ) where
-  unfoldable pub values_of : Kept X → Format Code → (ℕ → Code) → ℕ → List ℤ
-  values_of c format codes = values_by one_line value c format codes
+  abbrev pub values_of : Kept X → Format Code → (ℕ → Code) → ℕ → List ℤ
+  values_of c format codes b = values_by one_line value c format codes b
 
-  unfoldable pub state_of : Kept X → Format Code → (ℕ → Code) → State Code
-  state_of c format codes = state_by one_line (values_of c format codes) c codes
+  abbrev pub state_of : Kept X → Format Code → (ℕ → Code) → State Code
+  state_of c format codes = state_at one_line value c format codes
 
   abbrev pub Fits : Kept X → Format Code → (ℕ → Code) → Type 0
   Fits c format codes = FitsAt one_line value c format codes

@@ -16,10 +16,10 @@ ghost use Rattle.zf_cache.specs.Backed.{Backed, BackedAt, StepsTo, Shows, KeepsF
 
 use crate::body::Body;
 use crate::counts::rows_for;
-use crate::rule::OneLine;
 use std::alloc::{AllocError, Global};
 use std::marker::Model;
 use zf_base::{Backing, Lane, Reading, Stats, block_len};
+use zf_cached::placing::Direct;
 use zf_lines::Lines;
 
 /// A cache of blocks of `4^D` values, which stands on a backing that is passed to each call.
@@ -97,7 +97,7 @@ impl<T: Lane, const D: usize> Cache<T, D> {
             (values_of T.value self.new (B.format back.new) (B.codes back.new) b) p
             (pos 0)) }
     {
-        let l = self.body.touch::<OneLine, B>(back, b);
+        let l = self.body.touch::<Direct, B>(back, b);
         self.body.lines.line(l)[p]
     }
 
@@ -109,7 +109,7 @@ impl<T: Lane, const D: usize> Cache<T, D> {
         ensures step { StepsTo B.Reading (state_of T.value) (Fits T.value) (λ f s. put f s b p (T.value v))
             self.old back.old self.new back.new }
     {
-        self.body.set::<OneLine, B>(back, b, p, v);
+        self.body.set::<Direct, B>(back, b, p, v);
     }
 
     /// Touches block `b` for writing, so that `part_mut` can lend parts of it.
@@ -120,7 +120,7 @@ impl<T: Lane, const D: usize> Cache<T, D> {
             self.old back.old self.new back.new }
         ensures dirty { IsDirty self.new b }
     {
-        self.body.touch_for_writing::<OneLine, B>(back, b);
+        self.body.touch_for_writing::<Direct, B>(back, b);
     }
 
     /// The `n` values of block `b` from its place `a` on, for writing. The block is in its line and dirty.
@@ -132,13 +132,13 @@ impl<T: Lane, const D: usize> Cache<T, D> {
         ensures value { result.now ≡ part (line_at self.old.lines (line_of self.old b)) a n }
         ensures size { HasRow self.old b (4 ^ D) }
     {
-        let l = self.body.line_holding::<OneLine>(b);
+        let l = self.body.line_holding::<Direct>(b);
         self.body.lines.part_mut(l, a, n)
     }
 
     /// The value of block `b` at its place `p`, for writing. The block is in its line and dirty.
     #[inline]
-    pub fn value_mut(&mut self, b: u64, p: usize) -> &mut T
+    pub fn dirty_value_mut(&mut self, b: u64, p: usize) -> &mut T
         requires dirty { IsDirty self.old b }
         requires place { p < 4 ^ D }
         ensures* writes_back { sem 𝓛 (EndsWithValue T.row D.row self.entry b p result) }
@@ -146,7 +146,7 @@ impl<T: Lane, const D: usize> Cache<T, D> {
             ≡ result.now }
         ensures size { HasRow self.old b (4 ^ D) }
     {
-        let l = self.body.line_holding::<OneLine>(b);
+        let l = self.body.line_holding::<Direct>(b);
         self.body.lines.value_mut(l, p)
     }
 
@@ -158,7 +158,7 @@ impl<T: Lane, const D: usize> Cache<T, D> {
             self.old back.old self.new back.new }
         ensures here { Holds self.new b }
     {
-        self.body.touch::<OneLine, B>(back, b);
+        self.body.touch::<Direct, B>(back, b);
     }
 
     /// The `4^D` values of block `b`, which is in its line.
@@ -168,7 +168,7 @@ impl<T: Lane, const D: usize> Cache<T, D> {
         ensures value { result.now ≡ line_at self.now.lines (line_of self.now b) }
         ensures size { length result.now ≡ 4 ^ D }
     {
-        let l = self.body.line_holding::<OneLine>(b);
+        let l = self.body.line_holding::<Direct>(b);
         self.body.lines.line(l)
     }
 
@@ -182,7 +182,7 @@ impl<T: Lane, const D: usize> Cache<T, D> {
             (touch (B.format back.old) (state_of T.value self.old (B.format back.old) (B.codes back.old)) b)
             D b result.now back.old back.new }
     {
-        let l = self.body.touch::<OneLine, B>(back, b);
+        let l = self.body.touch::<Direct, B>(back, b);
         self.body.lines.line(l)
     }
 
@@ -198,7 +198,7 @@ impl<T: Lane, const D: usize> Cache<T, D> {
         ensures size { length result.now ≡ 4 ^ D }
         ensures keeps { KeepsFormat B.Reading back.old back.new }
     {
-        let l = self.body.touch_for_writing::<OneLine, B>(back, b);
+        let l = self.body.touch_for_writing::<Direct, B>(back, b);
         self.body.lines.line_mut(l)
     }
 
@@ -209,7 +209,7 @@ impl<T: Lane, const D: usize> Cache<T, D> {
             self.old back.old self.new back.new }
         ensures empty { IsEmpty self.new (length self.old.tags) }
     {
-        self.body.flush::<OneLine, B>(back)
+        self.body.flush::<Direct, B>(back)
     }
 
     /// Empties the cache; nothing is written.
@@ -238,7 +238,7 @@ impl<T: Lane, const D: usize> Cache<T, D> {
         let blocks = back.blocks();
         let rows = rows_for(lines, blocks);
         let taken = Body::new(self.alloc, lines, rows, block_len(D as u8))?;
-        self.body.flush::<OneLine, B>(back);
+        self.body.flush::<Direct, B>(back);
         self.body.replace(taken);
         Ok(())
     }
@@ -257,7 +257,7 @@ impl<T: Lane, const D: usize> Cache<T, D> {
             (values_of T.value self.new (B.format back.new) (B.codes back.new) b) p
             (pos 0)) }
     {
-        let l = self.body.touch_read::<OneLine, B>(back, b);
+        let l = self.body.touch_read::<Direct, B>(back, b);
         self.body.lines.line(l)[p]
     }
 
@@ -271,7 +271,7 @@ impl<T: Lane, const D: usize> Cache<T, D> {
         ensures clean { IsClean self.new }
         ensures here { Holds self.new b }
     {
-        self.body.touch_read::<OneLine, B>(back, b);
+        self.body.touch_read::<Direct, B>(back, b);
     }
 
     /// As `block`, over a backing that is only read. Nothing is dirty.
@@ -285,7 +285,7 @@ impl<T: Lane, const D: usize> Cache<T, D> {
             (touch (B.format back.old) (state_of T.value self.old (B.format back.old) (B.codes back.old)) b)
             D b result.now back.old back.new }
     {
-        let l = self.body.touch_read::<OneLine, B>(back, b);
+        let l = self.body.touch_read::<Direct, B>(back, b);
         self.body.lines.line(l)
     }
 
@@ -356,6 +356,6 @@ impl<T: Lane, const D: usize> Cache<T, D> {
     pub fn is_dirty(&self, b: u64) -> bool
         ensures { result ≡ is_dirty self.now b }
     {
-        self.body.is_dirty::<OneLine>(b)
+        self.body.is_dirty::<Direct>(b)
     }
 }

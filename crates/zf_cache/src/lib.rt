@@ -13,4 +13,4 @@ pub use body::Body;
 pub use cache::Cache;
 pub use counted::Counted;
 pub use counts::{default_lines, raised, rows_for};
-pub use rule::{OneLine, Rule};
+pub use rule::Rule;

@@ -1,16 +1,15 @@
-//! In which line a block is, or goes.
+//! In which line a block is, or goes, as the tags of the lines tell it.
 ghost use Rattle.std.specs.Prelude.{◌≡◌, ℕ, ◌<◌, ◌≤◌, ◌^◌, List, length};
 ghost use Rattle.zf_cache.specs.Bodies.{AreLines};
-ghost use Rattle.zf_cache.specs.Rules.{IsRule, one_line, IsOneLine, one_line_rule};
+ghost use Rattle.zf_cache.specs.Rules.{IsRule, IsTold, one_line, one_line_rule, one_line_told};
 
-/// Which lines may hold a block, and in which of them it is, or goes where none does. It is all in which
-/// caches over a `Body` differ.
-pub trait Rule {
+use zf_cached::placing::{Direct, Placing};
+
+/// A placing that the tags of the lines tell: which lines may hold a block, and in which of them it is, or
+/// goes where none does. It is all in which caches over a `Body` differ.
+pub trait Rule: Placing {
     // The line of a block, in a cache of so many lines with these tags.
     ghost place: { ℕ → List ℕ → ℕ → ℕ };
-
-    // In a cache of so many lines, this block may be in this line.
-    ghost may_hold: { ℕ → ℕ → ℕ → Type 0 };
 
     /// The line of block `b` in a cache with these tags, one a line: the line that it is in, or else the line
     /// that it goes to.
@@ -21,18 +20,18 @@ pub trait Rule {
 
     // Laws. The line is one that may hold the block; a block that is in such a line, and in no other, is
     // found there; and a block whose number is below the number of lines has the line of its number.
-    ghost rule: { IsRule place may_hold };
+    ghost rule: { IsRule place Self.may_hold };
+
+    // It is the line that the placing tells.
+    ghost told: { IsTold place Self.line };
 }
 
-/// Each block has one line, its number modulo the number of lines.
-pub struct OneLine;
-
-impl Rule for OneLine {
+impl Rule for Direct {
     ghost place = { one_line };
 
-    ghost may_hold = { IsOneLine };
-
     ghost rule = { one_line_rule };
+
+    ghost told = { one_line_told };
 
     #[inline]
     fn line_for(tags: &[u64], b: u64) -> u32 {

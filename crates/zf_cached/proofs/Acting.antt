@@ -3,27 +3,27 @@ use Rattle.std.proofs.Common.{◌≡◌, refl, ℕ, ℤ, pos, ◌+ℤ◌, Bool, 
 use Rattle.std.specs.Int.{Width}
 use Rattle.zf_spec.specs.Numbers.{wrap}
 use Rattle.zf_base.specs.Formats.{Format}
-use Rattle.zf_base.proofs.Formats.{with_at-same, existing_of-set}
+use Rattle.zf_base.proofs.Formats.{existing_of-set}
 use Rattle.zf_cached.specs.State.{State}
-use Rattle.zf_cached.specs.Touch.{touch, soiled, touch_for_writing, with_values}
+use Rattle.zf_cached.specs.Touch.{touch, soiled, touch_for_writing_at, touch_for_writing, with_values}
 use Rattle.zf_cached.specs.Changes.{discard}
-use Rattle.zf_cached.specs.Placing.{touch_at, direct, IsDirect, direct_placing}
+use Rattle.zf_cached.specs.Placing.{direct, IsDirect, direct_placing}
 use Rattle.zf_cached.specs.Acts.{Act}
 use Rattle.zf_cached.specs.Views.{changed, acted}
 use Rattle.zf_cached.specs.Consistency.{IsPossible, IsConsistent}
-use Rattle.zf_cached.proofs.Caching.{touch-left_clean}
+use Rattle.zf_cached.proofs.Caching.{touch-left_clean, touch_for_writing-dirty}
 use Rattle.zf_cached.proofs.Flushing.{flush-clean}
 use Rattle.zf_cached.proofs.Placed.{touch-consistent, touch_for_writing-consistent, with_values-consistent, flush-consistent, discard-consistent}
 
 module _ {Code : Type 0} (w : Width) (format : Format Code) where
   -- the code of a block that isn't dirty stays
   changed-codes : (s : State Code) (c p : ℕ) (change : ℤ → ℤ) (b : ℕ) → s.dirty b ≡ false → (changed format s c p change).codes b ≡ s.codes b
-  unfolding touch_for_writing soiled with_values
-  changed-codes s c p change b clean = (touch-left_clean format s c b clean).code
+  unfolding touch_for_writing_at soiled with_values
+  changed-codes s c p change b clean = (touch-left_clean direct format s c b clean).code
 
   pub acted-codes : (s : State Code) (a : Act) (b : ℕ) → s.dirty b ≡ false → (acted w format s a).codes b ≡ s.codes b
   unfolding acted discard
-  acted-codes s (Act.get c p) b clean = (touch-left_clean format s c b clean).code
+  acted-codes s (Act.get c p) b clean = (touch-left_clean direct format s c b clean).code
   acted-codes s (Act.set c p v) b clean = changed-codes s c p (λ old. v) b clean
   acted-codes s (Act.add c p v) b clean = changed-codes s c p (λ old. wrap w (old +ℤ v)) b clean
   acted-codes s Act.flush b clean = (flush-clean format s b clean).0
@@ -31,22 +31,16 @@ module _ {Code : Type 0} (w : Width) (format : Format Code) where
 
   module _ (owned : ℕ → Bool) (s : State Code) (h : IsConsistent direct owned format s) where
     touched-consistent : (b : ℕ) → owned b ≡ true → IsConsistent direct owned format (touch format s b)
-    unfolding touch touch_at
     touched-consistent b own = touch-consistent direct IsDirect direct_placing owned format s b own h
 
     soiled_by : (b : ℕ) → owned b ≡ true → IsConsistent direct owned format (touch_for_writing format s b)
-    unfolding touch touch_at touch_for_writing
     soiled_by b own = touch_for_writing-consistent direct IsDirect direct_placing owned format s b own h
-
-    is_soiled : (b : ℕ) → (touch_for_writing format s b).dirty b ≡ true
-    unfolding touch_for_writing soiled
-    is_soiled b = with_at-same (touch format s b).dirty b true
 
     changed-consistent : (b p : ℕ) (change : ℤ → ℤ) → owned b ≡ true → format.exists b p ≡ true → IsConsistent direct owned format (changed format s b p change)
     changed-consistent b p change own exists =
         let t = touch_for_writing format s b in
         let k = soiled_by b own in
-        with_values-consistent direct IsDirect direct_placing owned format t b (set (t.values b) p (change (get_or (t.values b) p (pos 0)))) (is_soiled b)
+        with_values-consistent direct IsDirect direct_placing owned format t b (set (t.values b) p (change (get_or (t.values b) p (pos 0)))) (touch_for_writing-dirty direct format s b)
         (existing_of-set format b (t.values b) p _ exists (k.whole b own)) k
 
     pub acted-consistent : (a : Act) → IsPossible owned format a → IsConsistent direct owned format (acted w format s a)

@@ -3,8 +3,9 @@ use Rattle.std.proofs.Common.{◌≡◌, ◌≢◌, refl, sym, ap, subst, ◌∙
 use Rattle.std.proofs.lemmas.Bool.{cases_eq}
 use Rattle.zf_base.specs.Formats.{Format, rounded, with_at}
 use Rattle.zf_base.proofs.Formats.{with_at-same, with_at-other}
-use Rattle.zf_cached.specs.State.{State, own_line, is_block, is_here}
-use Rattle.zf_cached.specs.Touch.{write_back, write_back_dirty, write_back_line, hit, miss, touch, soiled, touch_for_writing}
+use Rattle.zf_cached.specs.State.{State, is_block, is_here}
+use Rattle.zf_cached.specs.Placing.{Line, line_in, is_at, direct}
+use Rattle.zf_cached.specs.Touch.{write_back, write_back_dirty, write_back_line, hit, miss, touch_at, soiled, touch_for_writing_at, touch}
 use Rattle.zf_cached.specs.Fates.{IsLeft, IsRounded}
 
 pub true_is_not_false : {P : Type 0} (b : Bool) → b ≡ true → b ≡ false → P
@@ -66,8 +67,7 @@ write_back_line-other {Code} format s l b away = write_back_line_by format s l P
     P : State Code → Type 0
     P t = (t.dirty b ≡ s.dirty b) × (t.values b ≡ s.values b) × (t.codes b ≡ s.codes b)
 
--- ---- touches
-
+-- what a line holds
 pub is_block-true : (o : Option ℕ) (b : ℕ) → is_block o b ≡ true → o ≡ Some b
 is_block-true None b h = absurd (cc)
 is_block-true (Some a) b h = ap Some (eqb-true a b h)
@@ -76,34 +76,10 @@ pub is_block-false : (o : Option ℕ) (b : ℕ) → is_block o b ≡ false → o
 is_block-false None b h e = cc
 is_block-false (Some a) b h e = let same : a ≡ b = cc in let t = eq-eqb a b same in true_is_not_false (eqb a b) t h
 
-pub touch_by : {Code : Type 0} (format : Format Code) (s : State Code) (b : ℕ) (P : State Code → Type 0) → (is_here s b ≡ true → P (hit s)) → (is_here s b ≡ false → P (miss format s (own_line s b) b)) → P (touch format s b)
-unfolding touch
-touch_by format s b P here away = by (is_here s b) here away
-  where
-    by : (t : Bool) → (t ≡ true → P (hit s)) → (t ≡ false → P (miss format s (own_line s b) b)) → P (elim t [ true ↦ hit s | false ↦ miss format s (own_line s b) b ])
-    by true here away = here refl
-    by false here away = away refl
+pub is_block-some : (o : Option ℕ) (b : ℕ) → o ≡ Some b → is_block o b ≡ true
+is_block-some o b e = ap (λ p. is_block p b) e ∙ eq-eqb b b refl
 
-pub touch-lines : {Code : Type 0} (format : Format Code) (s : State Code) (b : ℕ) → (touch format s b).lines ≡ s.lines
-unfolding hit miss
-touch-lines format s b = touch_by format s b (λ t. t.lines ≡ s.lines) (λ here. refl) (λ away. write_back_line-lines format s (own_line s b))
-
--- the block is here then
-pub touch-here : {Code : Type 0} (format : Format Code) (s : State Code) (b : ℕ) → (touch format s b).held (own_line s b) ≡ Some b
-unfolding hit miss
-touch-here format s b = touch_by format s b (λ t. t.held (own_line s b) ≡ Some b)
-    (λ here. is_block-true (s.held (own_line s b)) b here) (λ away. with_at-same (write_back_line format s (own_line s b)).held (own_line s b) (Some b))
-
--- its values and its code are not changed by the touch, nor is it made clean or dirty
-pub touch-same : {Code : Type 0} (format : Format Code) (s : State Code) (b : ℕ) →
-    ((touch format s b).dirty b ≡ s.dirty b) × ((touch format s b).values b ≡ s.values b) × ((touch format s b).codes b ≡ s.codes b)
-unfolding hit miss
-touch-same {Code} format s b = touch_by format s b P (λ here. (refl, refl, refl)) (λ away. write_back_line-other format s (own_line s b) b (is_block-false (s.held (own_line s b)) b away))
-  where
-    P : State Code → Type 0
-    P t = (t.dirty b ≡ s.dirty b) × (t.values b ≡ s.values b) × (t.codes b ≡ s.codes b)
-
--- a clean block keeps its values and its code in every touch
+-- a clean block keeps its values and its code
 pub write_back_line-keeps_clean : {Code : Type 0} (format : Format Code) (s : State Code) (l b : ℕ) → s.dirty b ≡ false →
     ((write_back_line format s l).dirty b ≡ false) × ((write_back_line format s l).values b ≡ s.values b) × ((write_back_line format s l).codes b ≡ s.codes b)
 unfolding write_back
@@ -114,36 +90,6 @@ write_back_line-keeps_clean {Code} format s l b clean = write_back_line_by forma
   where
     P : State Code → Type 0
     P t = (t.dirty b ≡ false) × (t.values b ≡ s.values b) × (t.codes b ≡ s.codes b)
-
-pub touch-keeps_clean : {Code : Type 0} (format : Format Code) (s : State Code) (a b : ℕ) → s.dirty b ≡ false →
-    ((touch format s a).dirty b ≡ false) × ((touch format s a).values b ≡ s.values b) × ((touch format s a).codes b ≡ s.codes b)
-unfolding hit miss
-touch-keeps_clean {Code} format s a b clean = touch_by format s a P (λ here. (clean, refl, refl)) (λ away. write_back_line-keeps_clean format s (own_line s a) b clean)
-  where
-    P : State Code → Type 0
-    P t = (t.dirty b ≡ false) × (t.values b ≡ s.values b) × (t.codes b ≡ s.codes b)
-
--- ---- writing
-
--- ---- what becomes of a block, as the laws say it
-
-pub touch-is_here : {Code : Type 0} (format : Format Code) (s : State Code) (b : ℕ) → is_here (touch format s b) b ≡ true
-touch-is_here format s b =
-    ap (λ o. is_block o b) (ap (λ n. (touch format s b).held (b % n)) (touch-lines format s b) ∙ touch-here format s b) ∙ eq-eqb b b refl
-
-pub touch-hit : {Code : Type 0} (format : Format Code) (s : State Code) (b : ℕ) → is_here s b ≡ true → touch format s b ≡ hit s
-touch-hit format s b here = touch_by format s b (λ t. t ≡ hit s) (λ yes. refl) (λ no. true_is_not_false (is_here s b) here no)
-
-pub touch-left : {Code : Type 0} (format : Format Code) (s : State Code) (b : ℕ) → IsLeft s (touch format s b) b
-touch-left format s b = let h = touch-same format s b in record { dirty = h.0; values = h.1; code = h.2 }
-
-pub touch-left_clean : {Code : Type 0} (format : Format Code) (s : State Code) (a b : ℕ) → s.dirty b ≡ false → IsLeft s (touch format s a) b
-touch-left_clean format s a b clean = let h = touch-keeps_clean format s a b clean in record { dirty = h.0 ∙ sym clean; values = h.1; code = h.2 }
-
-pub touch-left_away : {Code : Type 0} (format : Format Code) (s : State Code) (a b : ℕ) → (s.held (own_line s a) ≡ Some b → ⊥) → IsLeft s (touch format s a) b
-unfolding hit miss
-touch-left_away format s a b away = touch_by format s a (λ t. IsLeft s t b) (λ here. record { dirty = refl; values = refl; code = refl })
-    (λ gone. let h = write_back_line-other format s (own_line s a) b away in record { dirty = h.0; values = h.1; code = h.2 })
 
 -- the block in a line that is written back, where it is dirty
 pub write_back_line-rounded : {Code : Type 0} (format : Format Code) (s : State Code) (l b : ℕ) → s.held l ≡ Some b → s.dirty b ≡ true → IsRounded format s (write_back_line format s l) b
@@ -156,11 +102,58 @@ write_back_line-rounded format s l b held dirty = write_back_line_by format s l 
     }))
     (λ a here clean. let same : b ≡ a = cc in true_is_not_false (s.dirty b) dirty (ap s.dirty same ∙ clean)) (λ nothing. absurd (cc))
 
-pub touch-evicts : {Code : Type 0} (format : Format Code) (s : State Code) (a b : ℕ) → is_here s a ≡ false → s.held (own_line s a) ≡ Some b → s.dirty b ≡ true → IsRounded format s (touch format s a) b
-unfolding miss
-touch-evicts format s a b away held dirty = touch_by format s a (λ t. IsRounded format s t b) (λ here. true_is_not_false (is_here s a) here away)
-    (λ gone. let h = write_back_line-rounded format s (own_line s a) b held dirty in record { clean = h.clean; values = h.values; code = h.code })
+-- ---- touches, whatever the placing
 
-pub touch_for_writing-dirty : {Code : Type 0} (format : Format Code) (s : State Code) (b : ℕ) → (touch_for_writing format s b).dirty b ≡ true
-unfolding touch_for_writing soiled
-touch_for_writing-dirty format s b = with_at-same (touch format s b).dirty b true
+module _ (line : Line) {Code : Type 0} (format : Format Code) (s : State Code) where
+  pub touch_by : (b : ℕ) (P : State Code → Type 0) → (is_at line s b ≡ true → P (hit s)) → (is_at line s b ≡ false → P (miss format s (line_in line s b) b)) → P (touch_at line format s b)
+  unfolding touch_at
+  touch_by b P here away = by (is_at line s b) here away
+    where
+      by : (t : Bool) → (t ≡ true → P (hit s)) → (t ≡ false → P (miss format s (line_in line s b) b)) → P (elim t [ true ↦ hit s | false ↦ miss format s (line_in line s b) b ])
+      by true here away = here refl
+      by false here away = away refl
+
+  pub touch-lines : (b : ℕ) → (touch_at line format s b).lines ≡ s.lines
+  unfolding hit miss
+  touch-lines b = touch_by b (λ t. t.lines ≡ s.lines) (λ here. refl) (λ away. write_back_line-lines format s (line_in line s b))
+
+  -- the line holds the block then
+  pub touch-here : (b : ℕ) → (touch_at line format s b).held (line_in line s b) ≡ Some b
+  unfolding hit miss
+  touch-here b = touch_by b (λ t. t.held (line_in line s b) ≡ Some b)
+      (λ here. is_block-true (s.held (line_in line s b)) b here) (λ away. with_at-same (write_back_line format s (line_in line s b)).held (line_in line s b) (Some b))
+
+  pub touch-hit : (b : ℕ) → is_at line s b ≡ true → touch_at line format s b ≡ hit s
+  touch-hit b here = touch_by b (λ t. t ≡ hit s) (λ yes. refl) (λ no. true_is_not_false (is_at line s b) here no)
+
+  -- a block that is not in the line which is taken is left as it was
+  pub touch-left_away : (a b : ℕ) → (s.held (line_in line s a) ≡ Some b → ⊥) → IsLeft s (touch_at line format s a) b
+  unfolding hit miss
+  touch-left_away a b away = touch_by a (λ t. IsLeft s t b) (λ here. record { dirty = refl; values = refl; code = refl })
+      (λ gone. let h = write_back_line-other format s (line_in line s a) b away in record { dirty = h.0; values = h.1; code = h.2 })
+
+  -- so is the block that is touched, and one that is clean
+  pub touch-left : (b : ℕ) → IsLeft s (touch_at line format s b) b
+  unfolding hit miss
+  touch-left b = touch_by b (λ t. IsLeft s t b) (λ here. record { dirty = refl; values = refl; code = refl })
+      (λ gone. let h = write_back_line-other format s (line_in line s b) b (is_block-false (s.held (line_in line s b)) b gone) in record { dirty = h.0; values = h.1; code = h.2 })
+
+  pub touch-left_clean : (a b : ℕ) → s.dirty b ≡ false → IsLeft s (touch_at line format s a) b
+  unfolding hit miss
+  touch-left_clean a b clean = touch_by a (λ t. IsLeft s t b) (λ here. record { dirty = refl; values = refl; code = refl })
+      (λ gone. let h = write_back_line-keeps_clean format s (line_in line s a) b clean in record { dirty = h.0 ∙ sym clean; values = h.1; code = h.2 })
+
+  -- the dirty block in the line that is taken is written back
+  pub touch-evicts : (a b : ℕ) → is_at line s a ≡ false → s.held (line_in line s a) ≡ Some b → s.dirty b ≡ true → IsRounded format s (touch_at line format s a) b
+  unfolding miss
+  touch-evicts a b away held dirty = touch_by a (λ t. IsRounded format s t b) (λ here. true_is_not_false (is_at line s a) here away)
+      (λ gone. let h = write_back_line-rounded format s (line_in line s a) b held dirty in record { clean = h.clean; values = h.values; code = h.code })
+
+  pub touch_for_writing-dirty : (b : ℕ) → (touch_for_writing_at line format s b).dirty b ≡ true
+  unfolding touch_for_writing_at soiled
+  touch_for_writing-dirty b = with_at-same (touch_at line format s b).dirty b true
+
+-- where each block has one line, it is here after the touch
+pub touch-is_here : {Code : Type 0} (format : Format Code) (s : State Code) (b : ℕ) → is_here (touch format s b) b ≡ true
+touch-is_here format s b =
+    is_block-some _ b (ap (λ n. (touch format s b).held (b % n)) (touch-lines direct format s b) ∙ touch-here direct format s b)

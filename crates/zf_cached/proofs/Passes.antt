@@ -62,7 +62,7 @@ record Misses {Code : Type 0} (s t : State Code) (b : ℕ) : Type 0 where
 
 touch-misses : {Code : Type 0} (format : Format Code) (s : State Code) (b : ℕ) → (s.held (own_line s b) ≡ Some b → ⊥) → Misses s (touch format s b) b
 unfolding miss
-touch-misses format s b away = touch_by format s b (λ t. Misses s t b) (λ here. absurd (away (is_block-true (s.held (own_line s b)) b here)))
+touch-misses format s b away = touch_by direct format s b (λ t. Misses s t b) (λ here. absurd (away (is_block-true (s.held (own_line s b)) b here)))
     (λ gone. let c = write_back_line-touches format s (own_line s b) in record {
       held = ap (λ f. with_at f (own_line s b) (Some b)) (write_back_line-held format s (own_line s b));
       hits = c.0;
@@ -89,7 +89,7 @@ passed {Code} format s n (suc k) below room h =
     let so_far = p.misses in
     let one : risen t.counts.misses ≡ s.counts.misses + suc k = omega arith in
     record {
-      lines = touch-lines format t k ∙ p.lines;
+      lines = touch-lines direct format t k ∙ p.lines;
       underway = subst (IsUnderway n (suc k) s.lines) (sym held) (underway_more n k s.lines t.held (omega arith) p.underway);
       hits = m.hits ∙ p.hits;
       misses = m.misses ∙ one;

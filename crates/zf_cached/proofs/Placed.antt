@@ -3,14 +3,14 @@ use Rattle.std.proofs.Common.{◌≡◌, refl, sym, ap, subst, ◌∙◌, ℕ, z
 use Rattle.std.proofs.lemmas.Bool.{cases_eq}
 use Rattle.zf_base.specs.Formats.{Format, existing_of, meant, encoded, with_at}
 use Rattle.zf_base.proofs.Formats.{with_at-same, with_at-other, existing_of-meant}
-use Rattle.zf_cached.specs.State.{State, is_block, most_counted}
-use Rattle.zf_cached.specs.Touch.{write_back, write_back_line, hit, miss, soiled, with_values}
+use Rattle.zf_cached.specs.State.{State, most_counted}
+use Rattle.zf_cached.specs.Touch.{write_back, write_back_line, hit, miss, touch_at, soiled, touch_for_writing_at, with_values}
 use Rattle.zf_cached.specs.Changes.{write_back_lines, emptied, flush, discard, relined, opened, zeros, resized}
 use Rattle.zf_cached.specs.Fates.{IsLeft, IsRounded}
 use Rattle.zf_cached.specs.Unwritten.{holds_dirty, dirty_lines}
-use Rattle.zf_cached.specs.Placing.{Line, IsPlacing, line_in, touch_at}
+use Rattle.zf_cached.specs.Placing.{Line, IsPlacing, line_in}
 use Rattle.zf_cached.specs.Consistency.{IsConsistent, IsEmpty}
-use Rattle.zf_cached.proofs.Caching.{true_is_not_false, at_change, is_block-true, is_block-false, write_back_line_by, write_back_line-lines, write_back_line-held, write_back_line-clean, write_back_line-other}
+use Rattle.zf_cached.proofs.Caching.{true_is_not_false, at_change, is_block-true, is_block-false, write_back_line_by, write_back_line-lines, write_back_line-held, write_back_line-clean, write_back_line-other, touch_by, touch-here}
 use Rattle.zf_cached.proofs.Flushing.{write_back_lines-lines, write_back_lines-held, write_back_lines-clean, flush-dirty_codes, flush-clean, discard-values_by}
 
 -- ---- a touch, by whether the block is in its line
@@ -20,27 +20,7 @@ module _ {Code : Type 0} (line : Line) (format : Format Code) (s : State Code) (
   l = line_in line s b
 
   pub touch_at_by : (P : State Code → Type 0) → (s.held l ≡ Some b → P (hit s)) → ((s.held l ≡ Some b → ⊥) → P (miss format s l b)) → P (touch_at line format s b)
-  unfolding touch_at
-  touch_at_by P here away = by (is_block (s.held l) b) refl
-    where
-      by : (t : Bool) → is_block (s.held l) b ≡ t → P (elim t [ true ↦ hit s | false ↦ miss format s l b ])
-      by true is = here (is_block-true (s.held l) b is)
-      by false is = away (is_block-false (s.held l) b is)
-
-  pub touch_at-lines : (touch_at line format s b).lines ≡ s.lines
-  unfolding hit miss
-  touch_at-lines = touch_at_by (λ t. t.lines ≡ s.lines) (λ here. refl) (λ away. write_back_line-lines format s l)
-
-  pub touch_at-hit : s.held l ≡ Some b → touch_at line format s b ≡ hit s
-  touch_at-hit is = touch_at_by (λ t. t ≡ hit s) (λ here. refl) (λ away. absurd (away is))
-
-  pub touch_at-miss : (s.held l ≡ Some b → ⊥) → touch_at line format s b ≡ miss format s l b
-  touch_at-miss out = touch_at_by (λ t. t ≡ miss format s l b) (λ here. absurd (out here)) (λ away. refl)
-
-  -- the line holds the block then
-  pub touch_at-here : (touch_at line format s b).held l ≡ Some b
-  unfolding hit miss
-  touch_at-here = touch_at_by (λ t. t.held l ≡ Some b) (λ here. here) (λ away. with_at-same (write_back_line format s l).held l (Some b))
+  touch_at_by P here away = touch_by line format s b P (λ yes. here (is_block-true (s.held l) b yes)) (λ no. away (is_block-false (s.held l) b no))
 
 one_more : (w d x most : ℕ) → x ≡ min (w + d) most → min (x + 1) most ≡ min (w + (d + 1)) most
 one_more w d x most e = omega (arith, e)
@@ -183,7 +163,7 @@ module _ (line : Line) (may_hold : ℕ → ℕ → ℕ → Type 0) (placing : Is
     -- the block is in its line then
     pub touched_here : (format : Format Code) (s : State Code) (b : ℕ) → owned b ≡ true → IsConsistent line owned format s → (touch_at line format s b).held (line_in line (touch_at line format s b) b) ≡ Some b
     touched_here format s b own h =
-        let there = touch_at-here line format s b in
+        let there = touch-here line format s b in
         ap (touch_at line format s b).held ((touch-consistent format s b own h).in_its_line (line_in line s b) b there) ∙ there
 
     pub soiled-consistent : (format : Format Code) (s : State Code) (b : ℕ) → s.held (line_in line s b) ≡ Some b → IsConsistent line owned format s → IsConsistent line owned format (soiled s b)
@@ -201,7 +181,8 @@ module _ (line : Line) (may_hold : ℕ → ℕ → ℕ → Type 0) (placing : Is
         found : IsFound (soiled s b)
         found = found_again s (soiled s b) refl refl h.in_its_line
 
-    pub touch_for_writing-consistent : (format : Format Code) (s : State Code) (b : ℕ) → owned b ≡ true → IsConsistent line owned format s → IsConsistent line owned format (soiled (touch_at line format s b) b)
+    pub touch_for_writing-consistent : (format : Format Code) (s : State Code) (b : ℕ) → owned b ≡ true → IsConsistent line owned format s → IsConsistent line owned format (touch_for_writing_at line format s b)
+    unfolding touch_for_writing_at
     touch_for_writing-consistent format s b own h =
         soiled-consistent format (touch_at line format s b) b (touched_here format s b own h) (touch-consistent format s b own h)
 

@@ -7,10 +7,10 @@ use Rattle.zf_spec.specs.Grid.{upto, blocks}
 use Rattle.zf_spec.specs.Stream.{Mode, file}
 use Rattle.zf_base.specs.Places.{block_number}
 use Rattle.zf_cached.specs.State.{State}
-use Rattle.zf_cached.specs.Touch.{write_back_line, hit, miss}
+use Rattle.zf_cached.specs.Touch.{write_back_line, hit, miss, touch_at}
 use Rattle.zf_cached.specs.Changes.{write_back_lines, emptied, flush, relined}
 use Rattle.zf_cached.specs.Windows.{mapped}
-use Rattle.zf_cached.specs.Placing.{Line, direct, touch_at}
+use Rattle.zf_cached.specs.Placing.{Line, direct}
 use Rattle.zf_cached.specs.Arrays.{codes_of, saved_file}
 use Rattle.zf_cached.specs.Commands.{Command}
 use Rattle.zf_cached.specs.Replies.{Refusal, Reply}

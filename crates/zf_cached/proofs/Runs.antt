@@ -18,7 +18,7 @@ use Rattle.zf_cached.proofs.Windows.{LiesIn-whole}
 use Rattle.zf_cached.proofs.Arrays.{meant-zeros}
 use Rattle.zf_cached.proofs.ReadLines.{read_line-Some}
 use Rattle.zf_cached.proofs.Sessions.{first_refusal, step_by, step-sound, joined-sound}
-use Rattle.zf_cached.specs.Placing.{Line, IsPlacing, direct, touch_at}
+use Rattle.zf_cached.specs.Placing.{Line, IsPlacing, direct}
 
 -- lines, and then more lines
 pub run_lines-append : {Code : Type 0} (setting : Setting Code) (starved : List ℕ) (k : ℕ) (lines more : List (List ℕ)) (s : Session Code)
@@ -65,7 +65,7 @@ unfolding refusal
 refusal-word setting s c starving e = refusal_word (refuses_split s c) (refuses_size setting s c) (refuses_range s c) (refuses_value setting.width c) (takes_memory c && starving) e
 
 pub array_setting-cached : (w : Width) (budget : ℕ) → IsCached direct (array_setting w budget)
-unfolding array_setting touch touch_at
+unfolding array_setting
 array_setting-cached w budget = record { touches = refl; zero = meant-zeros w budget }
 
 module _ (at : Line) (may_hold : ℕ → ℕ → ℕ → Type 0) (placing : IsPlacing at may_hold) where

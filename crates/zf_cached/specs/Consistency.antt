@@ -6,7 +6,8 @@ use Rattle.zf_base.specs.Formats.{Format, existing_of, meant}
 use Rattle.zf_cached.specs.State.{State}
 use Rattle.zf_cached.specs.Changes.{zeros}
 use Rattle.zf_cached.specs.Arrays.{array_format}
-use Rattle.zf_cached.specs.Placing.{Line, direct, line_in, touch_at}
+use Rattle.zf_cached.specs.Touch.{touch_at}
+use Rattle.zf_cached.specs.Placing.{Line, direct, line_in}
 use Rattle.zf_cached.specs.Acts.{Act}
 use Rattle.zf_cached.specs.Splits.{is_owner}
 use Rattle.zf_cached.specs.Windows.{LiesIn}

@@ -1,11 +1,9 @@
 -- In which line a block is, or goes: all in which caches differ.
 --     `line n held dirty b` is the line of block b among n lines, where they hold these blocks and these are dirty: the line that
 --     it is in, or else the line that it goes to.
-use Rattle.std.specs.Prelude.{◌≡◌, ℕ, ◌%◌, ◌<◌, Bool, true, false, Option, Some, refl}
+use Rattle.std.specs.Prelude.{◌≡◌, ℕ, ◌%◌, ◌<◌, Bool, Option, Some, refl}
 use Rattle.std.proofs.lemmas.Nat.{mod_below}
-use Rattle.zf_base.specs.Formats.{Format}
 use Rattle.zf_cached.specs.State.{State, is_block}
-use Rattle.zf_cached.specs.Touch.{hit, miss}
 
 abbrev pub Line : Type 0
 Line = ℕ → (ℕ → Option ℕ) → (ℕ → Bool) → ℕ → ℕ
@@ -22,10 +20,9 @@ pub record IsPlacing (line : Line) (may_hold : ℕ → ℕ → ℕ → Type 0) :
 abbrev pub line_in : {Code : Type 0} → Line → State Code → ℕ → ℕ
 line_in line s b = line s.lines s.held s.dirty b
 
--- a touch of block b: where its line does not hold it, it is put there
-unfoldable pub touch_at : {Code : Type 0} → Line → Format Code → State Code → ℕ → State Code
-touch_at line format s b = elim (is_block (s.held (line_in line s b)) b)
-    [ true ↦ hit s | false ↦ miss format s (line_in line s b) b ]
+-- block b is here: its line holds it
+abbrev pub is_at : {Code : Type 0} → Line → State Code → ℕ → Bool
+is_at line s b = is_block (s.held (line_in line s b)) b
 
 -- ---- each block has one line: its number modulo the number of lines
 

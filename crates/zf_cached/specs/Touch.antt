@@ -1,7 +1,8 @@
 -- What a touch of a block does, and what writes a block back.
 use Rattle.std.specs.Prelude.{ℕ, ℤ, true, false, List, Some, None}
 use Rattle.zf_base.specs.Formats.{Format, meant, encoded, with_at}
-use Rattle.zf_cached.specs.State.{State, risen, own_line, is_here}
+use Rattle.zf_cached.specs.State.{State, risen}
+use Rattle.zf_cached.specs.Placing.{Line, line_in, is_at, direct}
 
 -- write-back: the code of block b is made of its values, its values become what this code means, and it is
 -- not dirty any more
@@ -32,18 +33,26 @@ miss format s l b =
     let t = write_back_line format s l in
     record t { held = with_at t.held l (Some b); counts = record t.counts { misses = risen t.counts.misses } }
 
--- a touch of block b: where it is not here, it is put into its line
-unfoldable pub touch : {Code : Type 0} → Format Code → State Code → ℕ → State Code
-touch format s b = elim (is_here s b) [ true ↦ hit s | false ↦ miss format s (own_line s b) b ]
+-- a touch of block b, whatever the placing: where it is not here, it is put into its line
+unfoldable pub touch_at : {Code : Type 0} → Line → Format Code → State Code → ℕ → State Code
+touch_at line format s b = elim (is_at line s b) [ true ↦ hit s | false ↦ miss format s (line_in line s b) b ]
 
 -- block b is dirty
 unfoldable pub soiled : {Code : Type 0} → State Code → ℕ → State Code
 soiled s b = record s { dirty = with_at s.dirty b true }
 
 -- a touch for writing: the block is dirty from then on, whatever is written
-unfoldable pub touch_for_writing : {Code : Type 0} → Format Code → State Code → ℕ → State Code
-touch_for_writing format s b = soiled (touch format s b) b
+unfoldable pub touch_for_writing_at : {Code : Type 0} → Line → Format Code → State Code → ℕ → State Code
+touch_for_writing_at line format s b = soiled (touch_at line format s b) b
 
 -- these are the values of block b
 unfoldable pub with_values : {Code : Type 0} → State Code → ℕ → List ℤ → State Code
 with_values s b values = record s { values = with_at s.values b values }
+
+-- ---- where each block has one line
+
+abbrev pub touch : {Code : Type 0} → Format Code → State Code → ℕ → State Code
+touch format s b = touch_at direct format s b
+
+abbrev pub touch_for_writing : {Code : Type 0} → Format Code → State Code → ℕ → State Code
+touch_for_writing format s b = touch_for_writing_at direct format s b

@@ -19,7 +19,7 @@ use Rattle.zf_cached.specs.Arrays.{array_format}
 use Rattle.zf_cached.proofs.States.{same_state}
 use Rattle.zf_cached.proofs.Caching.{is_block-true}
 use Rattle.zf_cache.specs.Kept.{Kept, HasBlocks, IsClean, IsEmpty, tag_at, block_in, line_of, dirty_tag, clean_tag}
-use Rattle.zf_cache.specs.Standing.{state_of, values_of, line_values, Fits, HasRoom}
+use Rattle.zf_cache.specs.Standing.{state_of, values_of, line_values, Fits, HasRoom, state_at}
 use Rattle.zf_cache.proofs.Tags.{named}
 use Rattle.zf_cache.proofs.Touches.{no_tag}
 use Rattle.zf_const.specs.Standing.{Held, format, state, touched}
@@ -36,7 +36,6 @@ clean_empty c n e l = ap (λ (tags : List ℕ). tag_at tags l % 2) e ∙ ap (λ 
 module _ {X : Type 0} (value : X → ℤ) (s : Coded) (c : Kept X) (fits : Fits value c (format_of s) (code_at s)) (clean : IsClean c) where
   -- a block has the values that its code means, whether it is in its line or not
   values_meant : (b : ℕ) → meant (format_of s) b (code_at s b) ≡ values_of value c (format_of s) (code_at s) b
-  unfolding values_of
   values_meant b = by (cases_Bool (is_block (block_in (tag_at c.tags (line_of c b))) b))
     where
       tag : ℕ
@@ -54,7 +53,7 @@ module _ {X : Type 0} (value : X → ℤ) (s : Coded) (c : Kept X) (fits : Fits 
       by (inr e) = sym (ap Of e)
 
   pub state_held : state (held_by value s c) ≡ state_of value c (format_of s) (code_at s)
-  unfolding state state_of
+  unfolding state state_at
   state_held =
       same_state (state (held_by value s c)) (state_of value c (format_of s) (code_at s))
       (length-map c.tags block_in)
@@ -127,7 +126,7 @@ module _ {X : Type 0} (value : X → ℤ) (w : Width) (d : ℕ) (s : Coded) (c :
 
       -- and the array itself is known by a touch
       pub touched_is : (b : ℕ) → state_of value e (format_of t) (code_at t) ≡ touch (format_of s) (state_of value c (format_of s) (code_at s)) b → held_by value t e ≡ touched now b
-      unfolding touched state_of
+      unfolding touched state_at
       touched_is b given =
           let With : Header → List (List Bool) → State (List Bool) → Held = λ h cs u. record { header = h; codes = cs; lines = map u.held (upto u.lines); counts = u.counts } in
           let lines : held_by value t e ≡ With t.header t.codes (state_of value e (format_of t) (code_at t)) =

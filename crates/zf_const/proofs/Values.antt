@@ -9,6 +9,7 @@ use Rattle.zf_base.specs.Places.{block_number, place_of}
 use Rattle.zf_base.proofs.Places.{IsAt-position}
 use Rattle.zf_base.proofs.Extents.{length-used_axes}
 use Rattle.zf_cached.specs.State.{State, own_line}
+use Rattle.zf_cached.specs.Placing.{direct}
 use Rattle.zf_cached.proofs.Caching.{touch_by}
 use Rattle.zf_cached.specs.Touch.{write_back_line, hit, miss, touch}
 use Rattle.zf_cached.specs.Changes.{write_back_lines, emptied, flush, relined}
@@ -59,7 +60,7 @@ module _ (a : Held) where
   pub values-touch : (b : ℕ) → (touch (format a) (state a) b).values ≡ (state a).values
   unfolding hit miss
   values-touch b =
-      touch_by (format a) (state a) b (λ s. s.values ≡ (state a).values)
+      touch_by direct (format a) (state a) b (λ s. s.values ≡ (state a).values)
       (λ _. refl)
       (λ _. ap (λ (s : State (List Bool)). s.values) (clean_line (own_line (state a) b)))
 

@@ -6,8 +6,9 @@ use Rattle.zf_spec.specs.Numbers.{wrap}
 use Rattle.zf_base.specs.Formats.{Format, meant, encoded, with_at}
 use Rattle.zf_base.proofs.Formats.{with_at-same, with_at-other}
 use Rattle.zf_cached.specs.State.{State, risen, own_line, is_block, is_here}
-use Rattle.zf_cached.specs.Touch.{write_back, write_back_dirty, write_back_line, hit, miss, touch, soiled, touch_for_writing, with_values}
+use Rattle.zf_cached.specs.Touch.{write_back, write_back_dirty, write_back_line, hit, miss, touch, soiled, touch_for_writing, with_values, touch_for_writing_at, touch_at}
 use Rattle.zf_cached.specs.Changes.{write_back_lines, emptied, flush, discard}
+use Rattle.zf_cached.specs.Placing.{direct}
 use Rattle.zf_cached.proofs.Caching.{at_change, write_back_line_by, write_back_line-other, touch_by, touch-left_away}
 use Rattle.zf_cache.proofs.Stands.{write_back_line-none, write_back_line-some, write_back_dirty-false, write_back_dirty-true}
 use Rattle.zf_cached.specs.Acts.{Act}
@@ -40,7 +41,7 @@ module _ {Code : Type 0} (f : Format Code) (owned : ℕ → Type 0) where
 
   own-touch : (s : State Code) (b : ℕ) → owned b → HasOwn owned s → HasOwn owned (touch f s b)
   unfolding hit miss
-  own-touch s b own h = touch_by f s b (HasOwn owned)
+  own-touch s b own h = touch_by direct f s b (HasOwn owned)
       (λ here. record { held = h.held; dirty = h.dirty })
       (λ away. let k = own-write_back_line s (own_line s b) h in let t = write_back_line f s (own_line s b) in record {
         held = λ l a. at_change (λ m o. o ≡ Some a → owned a) t.held (own_line s b) (Some b) l (λ e. let same : b ≡ a = cc in subst owned same own) (λ ne. k.held l a);
@@ -48,7 +49,7 @@ module _ {Code : Type 0} (f : Format Code) (owned : ℕ → Type 0) where
       })
 
   own-changed : (s : State Code) (b p : ℕ) (change : ℤ → ℤ) → owned b → HasOwn owned s → HasOwn owned (changed f s b p change)
-  unfolding touch_for_writing soiled with_values
+  unfolding touch_for_writing_at soiled with_values
   own-changed s b p change own h =
       let k = own-touch s b own h in record {
         held = k.held;
@@ -74,7 +75,7 @@ module _ {Code : Type 0} (f : Format Code) (owned : ℕ → Type 0) where
   -- ---- the codes of blocks that are not owned stay
 
   stay-touch : (s : State Code) (a b : ℕ) → HasOwn owned s → (owned b → ⊥) → (touch f s a).codes b ≡ s.codes b
-  stay-touch s a b h not = let left = touch-left_away f s a b (λ e. not (h.held (own_line s a) b e)) in left.code
+  stay-touch s a b h not = let left = touch-left_away direct f s a b (λ e. not (h.held (own_line s a) b e)) in left.code
 
   stay-write_back_lines : (s : State Code) (n b : ℕ) → HasOwn owned s → (owned b → ⊥) → (write_back_lines f s n).codes b ≡ s.codes b
   unfolding write_back_lines
@@ -84,7 +85,7 @@ module _ {Code : Type 0} (f : Format Code) (owned : ℕ → Type 0) where
       (write_back_line-other f (write_back_lines f s n) n b (λ e. not (k.held n b e))).2 ∙ stay-write_back_lines s n b h not
 
   pub stay-acted : (w : Width) (s : State Code) (a : Act) (b : ℕ) → HasOwn owned s → (owned b → ⊥) → (acted w f s a).codes b ≡ s.codes b
-  unfolding acted touch_for_writing soiled with_values flush emptied discard
+  unfolding acted touch_for_writing_at soiled with_values flush emptied discard
   stay-acted w s (Act.get a p) b h not = stay-touch s a b h not
   stay-acted w s (Act.set a p v) b h not = stay-touch s a b h not
   stay-acted w s (Act.add a p v) b h not = stay-touch s a b h not
@@ -94,7 +95,7 @@ module _ {Code : Type 0} (f : Format Code) (owned : ℕ → Type 0) where
   -- ---- and so do the values that a view has of them, if it has any
 
   quiet-touch : (s : State Code) (a b : ℕ) → HasOwn owned s → (owned b → ⊥) → (touch f s a).values b ≡ s.values b
-  quiet-touch s a b h not = let left = touch-left_away f s a b (λ e. not (h.held (own_line s a) b e)) in left.values
+  quiet-touch s a b h not = let left = touch-left_away direct f s a b (λ e. not (h.held (own_line s a) b e)) in left.values
 
   quiet-write_back_lines : (s : State Code) (n b : ℕ) → HasOwn owned s → (owned b → ⊥) → (write_back_lines f s n).values b ≡ s.values b
   unfolding write_back_lines
@@ -104,7 +105,7 @@ module _ {Code : Type 0} (f : Format Code) (owned : ℕ → Type 0) where
       (write_back_line-other f (write_back_lines f s n) n b (λ e. not (k.held n b e))).1 ∙ quiet-write_back_lines s n b h not
 
   quiet-changed : (s : State Code) (a p b : ℕ) (change : ℤ → ℤ) → owned a → HasOwn owned s → (owned b → ⊥) → (changed f s a p change).values b ≡ s.values b
-  unfolding touch_for_writing soiled with_values
+  unfolding touch_for_writing_at soiled with_values
   quiet-changed s a p b change own h not = with_at-other (touch f s a).values a _ b (λ e. not (subst owned (sym e) own)) ∙ quiet-touch s a b h not
 
   quiet-discard : (s : State Code) (b : ℕ) → HasOwn owned s → (owned b → ⊥) → (discard f s).values b ≡ s.values b
@@ -185,7 +186,7 @@ module _ {Code : Type 0} (f : Format Code) (owned : ℕ → Type 0) where
       }
 
   alike-touch : (s t : State Code) (b : ℕ) → HasOwn owned s → AreAlike owned s t → AreAlike owned (touch f s b) (touch f t b)
-  unfolding touch
+  unfolding touch_at
   alike-touch s t b own h = by (is_here s b) refl
     where
       here : is_here s b ≡ is_here t b
@@ -203,7 +204,7 @@ module _ {Code : Type 0} (f : Format Code) (owned : ℕ → Type 0) where
           (ap (λ (d : Bool). elim d [ true ↦ hit t | false ↦ miss f t (own_line t b) b ]) (sym here ∙ e)) at_line
 
   alike-changed : (s t : State Code) (b p : ℕ) (change : ℤ → ℤ) → owned b → HasOwn owned s → AreAlike owned s t → AreAlike owned (changed f s b p change) (changed f t b p change)
-  unfolding touch_for_writing soiled with_values
+  unfolding touch_for_writing_at soiled with_values
   alike-changed s t b p change o own h =
       let k = alike-touch s t b own h in
       let new : List ℤ → List ℤ = λ vs. set vs p (change (get_or vs p (pos 0))) in record {

@@ -11,13 +11,14 @@ use Rattle.zf_base.specs.Formats.{Format, existing_of, meant}
 use Rattle.zf_base.proofs.Formats.{existing_of-existing_of, existing_of-meant, existing_of-set, get_or-existing_of_exists}
 use Rattle.zf_base.proofs.Sizes.{blocks_le}
 use Rattle.zf_cached.specs.State.{State, is_block}
-use Rattle.zf_cached.specs.Touch.{touch, soiled, touch_for_writing, with_values}
-use Rattle.zf_cached.proofs.Caching.{touch-same}
+use Rattle.zf_cached.specs.Touch.{touch, soiled, touch_for_writing, with_values, touch_for_writing_at}
+use Rattle.zf_cached.specs.Placing.{direct}
+use Rattle.zf_cached.proofs.Caching.{touch-left}
 use Rattle.zf_lines.specs.Rows.{line_at, part, over_part, with_part}
 use Rattle.zf_lines.proofs.Sizes.{over_same}
 use Rattle.zf_cache.specs.Kept.{Kept, HasBlocks, HasRow, IsIn, IsDirty, tag_at, block_in, dirty_tag, line_of}
-use Rattle.zf_cache.specs.Standing.{state_of, values_of, line_values, Fits}
-use Rattle.zf_cache.specs.Steps.{with_value, put}
+use Rattle.zf_cache.specs.Standing.{state_of, values_of, line_values, Fits, state_at}
+use Rattle.zf_cache.specs.Steps.{with_value, put, put_at}
 use Rattle.zf_cache.proofs.Tags.{names-dirty, named}
 use Rattle.zf_cache.specs.Loans.{StandsFor}
 use Rattle.zf_cache.proofs.Steps.{part_written}
@@ -32,7 +33,7 @@ use Rattle.zf_private.proofs.Alike.{own-acted, stay-acted}
 module _ {X Code : Type 0} (value : X → ℤ) where
   -- the values of a block are 0 where no place exists
   pub values_whole : (c : Kept X) (f : Format Code) (k : ℕ → Code) (b : ℕ) → existing_of f b ((state_of value c f k).values b) ≡ (state_of value c f k).values b
-  unfolding state_of values_of
+  unfolding state_at
   values_whole c f k b = by (is_block (block_in (tag_at c.tags (line_of c b))) b)
     where
       vals : Bool → List ℤ
@@ -44,7 +45,7 @@ module _ {X Code : Type 0} (value : X → ℤ) where
 
   -- what a view that is whole has in its lines, or dirty, is its own
   pub own_state : (d : ℕ) (v : Held X) (f : Format Code) (k : ℕ → Code) → IsWhole d v → HasOwn (Own v) (state value v f k)
-  unfolding state_of
+  unfolding state_at
   own_state d v f k whole = record {
     held = whole.own;
     dirty = λ b e. let l = line_of v.cache b in whole.own l b (ap block_in (eqb-true (tag_at v.cache.tags l) (dirty_tag b) e) ∙ names-dirty b);
@@ -52,10 +53,10 @@ module _ {X Code : Type 0} (value : X → ℤ) where
 
   -- a value put at a place that exists
   pub put-changed : (f : Format Code) (s : State Code) (b p : ℕ) (v : ℤ) → f.exists b p ≡ true → existing_of f b (s.values b) ≡ s.values b → put f s b p v ≡ changed f s b p (λ old. v)
-  unfolding put with_value touch_for_writing soiled
+  unfolding put_at with_value touch_for_writing_at soiled
   put-changed f s b p v exists whole =
       let t = touch_for_writing f s b in
-      let same : (touch f s b).values b ≡ s.values b = (touch-same f s b).1 in
+      let same : (touch f s b).values b ≡ s.values b = (touch-left direct f s b).values in
       let still : existing_of f b ((touch f s b).values b) ≡ (touch f s b).values b = ap (existing_of f b) same ∙ whole ∙ sym same in
       ap (with_values t b) (existing_of-set f b ((touch f s b).values b) p v exists still)
 
@@ -87,7 +88,7 @@ module _ {X Code : Type 0} (value : X → ℤ) (w : Width) (d : ℕ) (v now : He
     -- what is read there
     pub answer_is : (new : Kept X) (h : Format Code) (j : ℕ → Code) (r : ℤ) → r ≡ get_or (values_of value new h j b) place (pos 0)
         → Some r ≡ answered (state_of value new h j) (Act.get (block_at now p) (place_at now p))
-    unfolding answered state_of
+    unfolding answered state_at
     answer_is new h j r e =
         ap Some (e ∙ ap (λ n. get_or (values_of value new h j n) place (pos 0)) (block ∙ ap (λ u. block_at u p) is)
         ∙ ap (λ n. get_or (values_of value new h j (block_at now p)) n (pos 0)) (at_place ∙ ap (λ u. place_at u p) is))
@@ -101,14 +102,14 @@ module _ {X Code : Type 0} (value : X → ℤ) (w : Width) (d : ℕ) (v now : He
   -- a step of the state leaves the other codes, and nothing but owned blocks in the lines
   module _ (new : Kept X) (h : Format Code) (j : ℕ → Code) (a : Act) (step : state_of value new h j ≡ acted w f (state value now f k) a) where
     pub others_stay : (b : ℕ) → (Own now b → ⊥) → j b ≡ k b
-    unfolding state_of
+    unfolding state_at
     others_stay b not = ap (λ (t : State Code). t.codes b) step ∙ stay-acted f (Own now) w (state value now f k) a b own_now not
 
     abbrev pub after : Held X
     after = record { cache = new; shape = v.shape; first = v.first; count = v.count }
 
     pub still_whole : IsWithin (Own now) a → IsWhole d after
-    unfolding state_of
+    unfolding state_at
     still_whole within =
         let own : HasOwn (Own now) (state_of value new h j) = subst (HasOwn (Own now)) (sym step) (own-acted f (Own now) w (state value now f k) a within own_now) in
         let back : HasOwn (Own v) (state_of value new h j) = subst (λ u. HasOwn (Own u) (state_of value new h j)) (sym is) own in
@@ -186,5 +187,5 @@ module _ {X Code : Type 0} (value : X → ℤ) (w : Width) (f h : Format Code) (
 -- the values of a block that is touched for writing are whole where they were
 pub touched_whole : {Code : Type 0} (f : Format Code) (s : State Code) (b : ℕ) → existing_of f b (s.values b) ≡ s.values b
     → existing_of f b ((touch_for_writing f s b).values b) ≡ (touch_for_writing f s b).values b
-unfolding touch_for_writing soiled
-touched_whole f s b whole = let same = (touch-same f s b).1 in ap (existing_of f b) same ∙ whole ∙ sym same
+unfolding touch_for_writing_at soiled
+touched_whole f s b whole = let same = (touch-left direct f s b).values in ap (existing_of f b) same ∙ whole ∙ sym same

@@ -9,7 +9,7 @@ use Rattle.zf_cached.specs.State.{State, is_block}
 use Rattle.zf_cached.specs.Touch.{touch}
 use Rattle.zf_cached.specs.Changes.{flush, discard}
 use Rattle.zf_cache.specs.Kept.{tag_at, block_in, line_of}
-use Rattle.zf_cache.specs.Standing.{state_of, values_of, line_values, Fits}
+use Rattle.zf_cache.specs.Standing.{state_of, values_of, line_values, Fits, state_at}
 use Rattle.zf_cache.proofs.Tags.{names-clean}
 use Rattle.zf_cached.specs.Acts.{Act}
 use Rattle.zf_cached.specs.Views.{changed, acted, AreAlike}
@@ -47,7 +47,7 @@ module _ {X Code : Type 0} (value : X → ℤ) (d : ℕ) (v : Held X) (f g : For
   })
 
   pub other_codes_alike : AreAlike (Own v) (state value v f k) (state value v g j)
-  unfolding state_of values_of
+  unfolding state_at
   other_codes_alike = subst (λ h. AreAlike (Own v) (state value v f k) (state value v h j)) (sym same) (record {
     lines = refl;
     held = refl;

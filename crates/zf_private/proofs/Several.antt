@@ -4,7 +4,7 @@ use Rattle.std.specs.Int.{Width}
 use Rattle.std.proofs.lemmas.Bool.{cases_lt}
 use Rattle.zf_base.specs.Formats.{Format}
 use Rattle.zf_cached.specs.State.{State}
-use Rattle.zf_cache.specs.Standing.{state_of, Fits}
+use Rattle.zf_cache.specs.Standing.{state_of, Fits, state_at}
 use Rattle.zf_cache.proofs.Tags.{same_or_not}
 use Rattle.zf_cached.specs.Acts.{Act}
 use Rattle.zf_cached.specs.Views.{Views, Step, state_of_view, acted, answered, stepped, IsWithin, HasOwn, AreAlike}
@@ -63,7 +63,7 @@ module _ {X Code : Type 0} (value : X → ℤ) (d : ℕ) (w : Width) (views news
       by (inr ne) = subst (λ (v : Held X). Own v b) (others m ne)
 
   codes-stay : (b : ℕ) → (Own (views i) b → ⊥) → j b ≡ k b
-  unfolding state_of
+  unfolding state_at
   codes-stay b not = ap (λ (t : State Code). t.codes b) step ∙ stay-acted f (Own (views i)) w (state value (views i) f k) a b (own_state value d (views i) f k (ready.whole i)) not
 
   codes-of-other : (m b : ℕ) → m ≢ i → Own (views m) b → j b ≡ k b
@@ -109,7 +109,7 @@ module _ {X Code : Type 0} (value : X → ℤ) (d : ℕ) (w : Width) (views news
         (alike-other w f owns m ready.apart s s st (λ e. ne (sym e)) own_all (alike-refl f (Own (views m)) (state_of_view s m))))))
 
     codes-stand : (b : ℕ) → j b ≡ (stepped w f s st).codes b
-    unfolding state_of
+    unfolding state_at
     codes-stand b = by (own-or-not (views i) b)
       where
         by : Own (views i) b ⊎ (Own (views i) b → ⊥) → j b ≡ (stepped w f s st).codes b

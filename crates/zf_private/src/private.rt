@@ -122,7 +122,7 @@ impl<T: Lane, const D: usize> Private<T, D> {
     {
         let (b, place) = self.shape.place(p);
         self.cache.touch_mut(back, b);
-        let value = self.cache.value_mut(b, place);
+        let value = self.cache.dirty_value_mut(b, place);
         *value = value.add(v);
     }
 

@@ -16,7 +16,7 @@ use Rattle.zf_base.proofs.Sizes.{blocks_le}
 use Rattle.zf_header.specs.declared.header.Header.{Header}
 use Rattle.zf_header.specs.HeaderBits.{block_bits}
 use Rattle.zf_cached.specs.State.{State, is_block}
-use Rattle.zf_cached.specs.Touch.{soiled, with_values}
+use Rattle.zf_cached.specs.Touch.{soiled, with_values, touch_for_writing_at}
 use Rattle.zf_cached.specs.Changes.{flush, discard, raised, relined}
 use Rattle.zf_cached.specs.Arrays.{rate_coding, array_format}
 use Rattle.zf_cached.specs.Windows.{Window}
@@ -26,15 +26,15 @@ use Rattle.zf_lines.specs.Rows.{over}
 use Rattle.zf_lines.proofs.Sizes.{over_same}
 use Rattle.zf_cache.specs.Kept.{Kept, HasBlocks, tag_at, block_in, line_by}
 use Rattle.zf_cache.specs.Standing.{state_at}
-use Rattle.zf_cache.specs.Steps.{with_value}
+use Rattle.zf_cache.specs.Steps.{with_value, put_at}
 use Rattle.zf_cache.proofs.Sound.{existing_of-set}
 use Rattle.zf_store.specs.Stored.{Stored, Frame, IsStore, frame_of, rate_of, format_of, code_at}
 use Rattle.zf_store.proofs.Kept.{blocks_is, block_len_is}
 use Rattle.zf_twoway.specs.Touch.{touch, touch_for_writing, put}
-use Rattle.zf_twoway.specs.Placing.{skewed}
+use Rattle.zf_twoway.specs.Placing.{skewed, two_lines}
 use Rattle.zf_twoway.specs.Standing.{state_of}
 use Rattle.zf_twoway.specs.Runs.{twoway_setting}
-use Rattle.zf_twoway.proofs.Touches.{touch-left}
+use Rattle.zf_cached.proofs.Caching.{touch-left}
 use Rattle.zf_commands.specs.Sittings.{session}
 use Rattle.zf_commands.proofs.Passing.{map-replicate}
 use Rattle.zf_run.specs.Pairs.{pair_state, two_setting_of}
@@ -97,7 +97,7 @@ module _ (w : Width) (s : Stored) (same : w ≡ width_of s.header.ty) {X : Type 
 
     pub changed_two : (k : ℕ) (change : List ℤ → List ℤ) → pair_state value t e ≡ (let u = touch_for_writing (format_of s) (pair_state value s c) k in with_values u k (change (u.values k)))
         → changed S now k change ≡ next
-    unfolding touched changed twoway_setting touch_for_writing
+    unfolding touched changed twoway_setting touch_for_writing_at
     changed_two k change is =
         let End = λ (f : Format (List Bool)). let u = touch_for_writing f (pair_state value s c) k in with_values u k (change (u.values k)) in
         next_is (End (format_in S now)) (is ∙ ap End (sym format_two))
@@ -137,19 +137,19 @@ module _ {X Code : Type 0} (value : X → ℤ) (f : Format Code) (c : Kept X) (k
   written = touch_for_writing f (state_of value c f k) b
 
   whole_written : existing_of f b (written.values b) ≡ written.values b
-  unfolding touch_for_writing soiled
-  whole_written = let left = touch-left f (state_of value c f k) b in subst (λ vs. existing_of f b vs ≡ vs) (sym left.values) whole_now
+  unfolding touch_for_writing_at soiled
+  whole_written = let left = touch-left two_lines f (state_of value c f k) b in subst (λ vs. existing_of f b vs ≡ vs) (sym left.values) whole_now
 
   -- a value that is put where a place exists
   pub put_two : (p : ℕ) (x : ℤ) → f.exists b p ≡ true → put f (state_of value c f k) b p x ≡ with_values written b (set (written.values b) p x)
-  unfolding put with_value
+  unfolding put_at with_value
   put_two p x exists = ap (with_values written b) (formats.existing_of-set f b (written.values b) p x exists whole_written)
 
   -- a value that is added to through a loan of the block's line
   pub increase_two : (row : List X) (p : ℕ) (r y x : X) (w : Width) → f.exists b p ≡ true → length row ≡ f.block_len → p < f.block_len
       → existing_of f b (map value row) ≡ (touch f (state_of value c f k) b).values b → r ≡ get_or row p r → value y ≡ wrap w (value r +ℤ value x)
       → with_values written b (existing_of f b (map value (over row (set row p y)))) ≡ with_values written b (set (written.values b) p (wrap w (get_or (written.values b) p (pos 0) +ℤ value x)))
-  unfolding touch_for_writing soiled
+  unfolding touch_for_writing_at soiled
   increase_two row p r y x w exists long below held read sum =
       let vs = (touch f (state_of value c f k) b).values b in
       let inside : p < length row = omega (arith, long, below) in

@@ -6,7 +6,7 @@ use Rattle.zf_base.specs.Formats.{Format}
 use Rattle.zf_header.specs.declared.header.Header.{Header}
 use Rattle.zf_header.specs.HeaderBits.{block_bits}
 use Rattle.zf_cached.specs.State.{State}
-use Rattle.zf_cached.specs.Touch.{touch, touch_for_writing, with_values}
+use Rattle.zf_cached.specs.Touch.{touch, touch_for_writing, with_values, touch_for_writing_at}
 use Rattle.zf_cached.specs.Arrays.{rate_coding, array_format}
 use Rattle.zf_cached.specs.Windows.{Window}
 use Rattle.zf_cached.specs.Changes.{flush, discard, raised, relined}
@@ -41,7 +41,7 @@ module _ (w : Width) (a : Held) (same : w ≡ width_of a.header.ty) (v : Window)
   -- a change of block k
   pub changed_is : (b : Held) (k : ℕ) (change : List ℤ → List ℤ) → state b ≡ (let t = touch_for_writing (format a) (state a) k in with_values t k (change (t.values k)))
       → b.header ≡ a.header → changed (setting_of w a) (session_of a v) k change ≡ session_of b v
-  unfolding touched changed array_setting touch_for_writing
+  unfolding touched changed array_setting touch_for_writing_at
   changed_is b k change is head =
       let End = λ (f : Format (List Bool)). let t = touch_for_writing f (state a) k in with_values t k (change (t.values k)) in
       session_is b (End (format_of (setting_of w a) (session_of a v))) (ap End format_is ∙ sym is) head

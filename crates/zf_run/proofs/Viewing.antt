@@ -25,7 +25,7 @@ use Rattle.zf_cached.specs.Ownership.{Owns, first_of, count_of}
 use Rattle.zf_cached.specs.Splits.{is_view_count, is_owner, no_view, view_at, coded}
 use Rattle.zf_cached.specs.Steps.{Setting, Session, format_of, state_of_view, with_view, by_view, has_view, view_has, refuses_split, refuses_size, refuses_range, refuses_value, done}
 use Rattle.zf_cached.specs.Runs.{array_setting}
-use Rattle.zf_cache.specs.Standing.{state_of, Fits}
+use Rattle.zf_cache.specs.Standing.{state_of, Fits, state_at}
 use Rattle.zf_private.specs.Standing as private
 use Rattle.zf_private.specs.Standing.{Own, IsSameView, IsWhole}
 use Rattle.zf_private.proofs.Alike.{stay-acted, quiet-acted, alike-acted, alike-answered}
@@ -77,7 +77,7 @@ module _ {X : Type 0} (value : X → ℤ) where
 
   -- its state over the codes is that of the language in the blocks of its own
   seen_alike : (a : Held) (v : private.Held X) → AreAlike (Own v) (with_codes (view_of value a v) (state a).codes) (view_state value a v)
-  unfolding state_of
+  unfolding state_at
   seen_alike a v = record {
     lines = refl;
     held = refl;
@@ -96,7 +96,7 @@ module _ {X : Type 0} (value : X → ℤ) where
 
   -- of two arrays with the same codes of its blocks a view is the same
   seen_same : (d : ℕ) (a b : Held) (o : private.Held X) → IsWhole d o → format b ≡ format a → ((k : ℕ) → Own o k → (state b).codes k ≡ (state a).codes k) → view_of value b o ≡ view_of value a o
-  unfolding state_of
+  unfolding state_at
   seen_same d a b o whole same codes =
       let alike = other_codes_alike value d o (format a) (format b) (state a).codes (state b).codes whole same codes in
       λ i. record {
@@ -147,7 +147,7 @@ module _ {X : Type 0} (value : X → ℤ) (w : Width) (d : ℕ) (a b : Held) (vi
   after_alike = subst (AreAlike (Own v) after) (sym step) (alike-acted f (Own v) w seen (view_state value a v) act within seen_is_own (seen_alike value a v))
 
   codes_are : (k : ℕ) → after.codes k ≡ (state b).codes k
-  unfolding state_of
+  unfolding state_at
   codes_are k = by (own-or-not v k)
     where
       by : Own v k ⊎ (Own v k → ⊥) → after.codes k ≡ (state b).codes k
@@ -338,7 +338,7 @@ has_no_view value a views i u many = ap (ltb i) (length-map views (view_of value
 
 -- the counts of a view
 pub counts_are : {X : Type 0} (value : X → ℤ) (a : Held) (views : List (private.Held X)) (i : ℕ) (v : private.Held X) → i < length views → v ≡ get_or views i v → (view_at (views_seen value a views) i).counts ≡ v.cache.counts
-unfolding state_of
+unfolding state_at
 counts_are value a views i v lt at = ap (λ (x : View). x.counts) (seen_at value a views i v lt at)
 
 -- a view that there is is flushed

@@ -1,36 +1,29 @@
 -- What a two-way cache ends as, once a loan has ended, and what that means for the state that it stands for.
-use Rattle.std.specs.Prelude.{◌≡◌, ℕ, ℤ, List, map, ⊤}
+use Rattle.std.specs.Prelude.{ℕ, ℤ, List, ⊤}
 use Rattle.std.specs.Borrow.{Fml, RattleType, MutBor, Array, Lends, follows_so}
 use mathlib.Core.Option.{none}
-use Rattle.zf_base.specs.Formats.{Format, existing_of}
+use Rattle.zf_base.specs.Formats.{Format}
 use Rattle.zf_cached.specs.State.{State}
-use Rattle.zf_cached.specs.Touch.{with_values}
-use Rattle.zf_lines.specs.Rows.{over}
-use Rattle.zf_cache.specs.Kept.{Kept, written_in}
-use Rattle.zf_twoway.specs.Touch.{touch, touch_for_writing}
-use Rattle.zf_twoway.specs.Standing.{line_of, state_of, Fits}
+use Rattle.zf_cache.specs.Kept.{Kept}
+use Rattle.zf_cache.specs.Loans.{StandsForAt, lent_block_at, LendsBlockAt}
+use Rattle.zf_twoway.specs.Placing.{skewed, two_lines}
+use Rattle.zf_twoway.specs.Touch.{touch}
+use Rattle.zf_twoway.specs.Standing.{state_of, Fits}
 use Rattle.zf_twoway.specs.contracts.twoway.TwoWay.{the_row}
 
--- the cache d, over these codes, stands for this state, and fits
-pub record StandsFor {X Code : Type 0} (value : X → ℤ) (d : Kept X) (format : Format Code)
-    (codes : ℕ → Code) (s : State Code) : Type 0 where
-  pub state : state_of value d format codes ≡ s
-  pub fits : Fits value d format codes
+module _ {X Code : Type 0} (value : X → ℤ) where
+  -- the cache d, over these codes, stands for this state, and fits
+  abbrev pub StandsFor : Kept X → Format Code → (ℕ → Code) → State Code → Type 0
+  StandsFor d format codes s = StandsForAt skewed two_lines (Fits value) value d format codes s
 
--- the cache c with block b dirty and ws over the row that was lent; its counts are those after the touch
-abbrev pub lent_block : {X Code : Type 0} → (X → ℤ) → Format Code → (ℕ → Code) → Kept X → ℕ → List X → List X
-    → Kept X
-lent_block value format codes c b row ws = written_in c (line_of c b) b (over row ws)
-    (touch format (state_of value c format codes) b).counts
+  -- the cache c with block b dirty and ws over the row that was lent
+  abbrev pub lent_block : Format Code → (ℕ → Code) → Kept X → ℕ → List X → List X → Kept X
+  lent_block format codes c b row ws = lent_block_at skewed two_lines (Fits value) value format codes c b row ws
 
--- the row that is lent has the values of block b; and whatever list ws is written through the loan, the block
--- has its values, and is dirty
-pub record LendsBlock {X Code : Type 0} (value : X → ℤ) (format : Format Code)
-    (codes now : ℕ → Code) (c : Kept X) (b : ℕ) (row : List X) : Type 0 where
-  pub held : existing_of format b (map value row) ≡ (touch format (state_of value c format codes) b).values b
-  pub written : (ws : List X) → StandsFor value (lent_block value format codes c b row ws) format now
-      (with_values (touch_for_writing format (state_of value c format codes) b) b
-      (existing_of format b (map value (over row ws))))
+  -- whatever list is written through the loan, the block has its values, and is dirty
+  abbrev pub LendsBlock : Format Code → (ℕ → Code) → (ℕ → Code) → Kept X → ℕ → List X → Type 0
+  LendsBlock format codes now c b row =
+      LendsBlockAt skewed two_lines (Fits value) value format codes now c b row
 
 module _ (R D : RattleType) (c : MutBor (Kept R.Denot)) where
   -- the block in its line is the last list written through r

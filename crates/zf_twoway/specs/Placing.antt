@@ -1,16 +1,39 @@
 -- In which line a block is, or goes, as a state tells, and as the tags of the lines tell.
-use Rattle.std.specs.Prelude.{◌≡◌, ℕ, ◌%◌, Bool, true, false, List, Option, Some, is_none, if◌then◌else◌}
-use Rattle.std.specs.Prelude.{bit_xor, refl}
+use Rattle.std.specs.Prelude.{◌≡◌, ℕ, zero, suc, ◌+◌, ◌/◌, ◌%◌, ◌==◌, Bool, true, false, not, List, Option, Some}
+use Rattle.std.specs.Prelude.{None, is_none}
+use Rattle.std.specs.Prelude.{if◌then◌else◌, bit_xor, refl}
 use Rattle.std.specs.Int.Bits.{xor_zero_r}
-use Rattle.std.proofs.Common.{◌⊎◌, inl, inr, ap, ◌∙◌, ◌<◌}
+use Rattle.std.proofs.Common.{◌⊎◌, inl, inr, sym, ap, ◌∙◌, ◌<◌, eq-eqb, arith}
+use Rattle.std.proofs.lemmas.Bool.{ne_eqb}
 use Rattle.std.proofs.Math.Nat.{mod-eq_of_lt, div-eq_of_lt}
 use Rattle.std.proofs.lemmas.Nat.{mod_below}
 use Rattle.zf_cached.specs.State.{is_block}
-use Rattle.zf_cache.specs.Kept.{IsIn, tag_at, block_in, dirty_of}
-use Rattle.zf_cache.specs.Rules.{IsRule}
-use Rattle.zf_cache.proofs.Tags.{is_or_not, is_block-same, is_block-other}
 use Rattle.zf_cached.specs.Placing.{Line, IsPlacing}
-use Rattle.zf_twoway.specs.Touch.{first_line, second_line, choice, is_clean_in}
+use Rattle.zf_cache.specs.Kept.{IsIn, tag_at, block_in, dirty_tag, dirty_of}
+use Rattle.zf_cache.specs.Rules.{IsRule, IsTold}
+use Rattle.zf_cache.proofs.Tags.{named, is_or_not, is_block-same, is_block-other}
+
+-- the first line of block b among n lines: its number modulo n
+abbrev pub first_line : ℕ → ℕ → ℕ
+first_line n b = b % n
+
+-- its second line: where its number and the n-th part of it differ, bit by bit, modulo n. So blocks with one
+-- first line have several second ones
+abbrev pub second_line : ℕ → ℕ → ℕ
+second_line n b = bit_xor b (b / n) % n
+
+-- which of two lines takes a block in: the first of these cases that holds
+abbrev pub choice : Bool → Bool → Bool → Bool → ℕ → ℕ → ℕ
+choice first_empty second_empty first_clean second_clean first second =
+    if first_empty then first
+    else (if second_empty then second
+    else (if first_clean then first
+    else (if second_clean then second
+    else first)))
+
+-- no dirty block is in line l, where the lines hold these blocks and these are dirty
+abbrev pub is_clean_in : (ℕ → Option ℕ) → (ℕ → Bool) → ℕ → Bool
+is_clean_in held dirty l = elim (held l) [ None ↦ true | Some b ↦ not (dirty b) ]
 
 -- the line that holds the block, or else the line that takes it in: whether the first holds it, whether the
 -- second does, and which takes it in
@@ -104,6 +127,48 @@ skewed_rule = record {
   ];
   low = λ n tags b lt. either (λ l. l ≡ b) n tags b (mod-eq_of_lt lt) (second-low n b lt);
 }
+
+-- ---- the line that the tags tell is the one that the state tells
+
+module _ (n : ℕ) (tags : List ℕ) (is_placed : (l a : ℕ) → IsIn tags l a → skewed n tags a ≡ l) where
+  abbrev soiled : ℕ → Bool
+  soiled a = tag_at tags (skewed n tags a) == dirty_tag a
+
+  -- no dirty block is in a line where its tag names none
+  clean_line : (l : ℕ) → is_clean_in (λ m. block_in (tag_at tags m)) soiled l ≡ is_none (dirty_of (tag_at tags l))
+  clean_line l = by (tag_at tags l) (block_in (tag_at tags l)) refl refl
+    where
+      odd : (t b r : ℕ) → r ≡ t % 2 → t / 2 ≡ b + 1
+          → not (t == dirty_tag b) ≡ is_none (elim (r == 1) [ true ↦ Some b | false ↦ None ])
+      odd t b zero at half = ap not (ne_eqb t (dirty_tag b) (λ e. omega (arith, at, half, e)))
+      odd t b (suc zero) at half = ap not (eq-eqb t (dirty_tag b) (omega (arith, at, half)))
+      odd t b (suc (suc r)) at half = absurd (omega (arith, at))
+
+      none : (odd : Bool) → true ≡ is_none (elim odd [ true ↦ block_in 0 | false ↦ None ])
+      none true = refl
+      none false = refl
+
+      by : (t : ℕ) (o : Option ℕ) → tag_at tags l ≡ t → block_in t ≡ o
+          → is_clean_in (λ m. block_in (tag_at tags m)) soiled l ≡ is_none (dirty_of t)
+      by t None is e =
+          ap (λ (p : Option ℕ). elim p [ None ↦ true | Some b ↦ not (soiled b) ]) (ap block_in is ∙ e)
+          ∙ none (t % 2 == 1)
+          ∙ ap (λ (p : Option ℕ). is_none (elim (t % 2 == 1) [ true ↦ p | false ↦ None ])) (sym e)
+      by t (Some b) is e =
+          let there : IsIn tags l b = ap block_in is ∙ e in
+          ap (λ (p : Option ℕ). elim p [ None ↦ true | Some a ↦ not (soiled a) ]) there
+          ∙ ap (λ j. not (tag_at tags j == dirty_tag b)) (is_placed l b there)
+          ∙ ap (λ u. not (u == dirty_tag b)) is
+          ∙ odd t b (t % 2) refl (named t b e)
+          ∙ ap (λ (p : Option ℕ). is_none (elim (t % 2 == 1) [ true ↦ p | false ↦ None ])) (sym e)
+
+pub skewed_told : IsTold skewed two_lines
+skewed_told n tags b is_placed =
+    let first = first_line n b in let second = second_line n b in
+    let t = tag_at tags first in let u = tag_at tags second in
+    λ i. place_by (is_block (block_in t) b) (is_block (block_in u) b)
+    (choice (is_none (block_in t)) (is_none (block_in u)) (clean_line n tags is_placed first i)
+    (clean_line n tags is_placed second i) first second) first second
 
 -- ---- the same, where the state tells
 

@@ -6,7 +6,8 @@ use Rattle.zf_cached.specs.Commands.{Command}
 use Rattle.zf_cached.specs.Kinds.{kind_of, is_windowless}
 use Rattle.zf_cached.specs.Steps.{Setting}
 use Rattle.zf_cached.specs.Runs.{run, replies_text}
-use Rattle.zf_twoway.specs.Touch.{touch}
+use Rattle.zf_cached.specs.Touch.{touch_at}
+use Rattle.zf_twoway.specs.Placing.{two_lines}
 
 -- the commands on single values and on all, on the cache and the counts; none on windows and sizes
 abbrev pub needs_no_window : Command → Bool
@@ -18,7 +19,7 @@ twoway_setting w budget = record {
   width = w;
   coding = rate_coding w budget;
   has_room = λ ns. false;
-  touch = touch;
+  touch = touch_at two_lines;
   allows = needs_no_window;
 }
 

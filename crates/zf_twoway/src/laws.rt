@@ -7,7 +7,7 @@ ghost use Rattle.zf_cached.specs.State.{no_counts};
 ghost use Rattle.zf_cached.specs.Changes.{discard, opened};
 ghost use Rattle.zf_cache.specs.Kept.{Kept, IsEmpty, IsIn, IsAway, tag_at, dirty_tag};
 ghost use Rattle.zf_cache.specs.Standing.{line_values};
-ghost use Rattle.zf_twoway.specs.Touch.{first_line, second_line};
+ghost use Rattle.zf_twoway.specs.Placing.{first_line, second_line};
 ghost use Rattle.zf_twoway.specs.Standing.{is_dirty, state_of, Fits, HasRoom};
 
 use zf_base::{Lane, Reading};

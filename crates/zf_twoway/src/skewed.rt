@@ -3,9 +3,8 @@ ghost use Rattle.std.specs.Prelude.{◌≡◌, ◌+◌, ◌*◌, ◌/◌, ◌%�
 ghost use Rattle.zf_cached.specs.State.{is_block};
 ghost use Rattle.zf_cache.specs.Bodies.{IsMask};
 ghost use Rattle.zf_cache.specs.Kept.{block_in, dirty_of};
-ghost use Rattle.zf_twoway.specs.Touch.{second_line};
-ghost use Rattle.zf_twoway.specs.Placing.{skewed, taking_line, IsOneOfTwo, skewed_rule, two_lines};
-ghost use Rattle.zf_twoway.specs.Placing.{two_placing};
+ghost use Rattle.zf_twoway.specs.Placing.{second_line, taking_line, IsOneOfTwo, two_lines, two_placing};
+ghost use Rattle.zf_twoway.specs.Placing.{skewed, skewed_rule, skewed_told};
 
 use zf_cache::Rule;
 use zf_cached::placing::Placing;
@@ -76,9 +75,9 @@ impl Placing for Skewed {
 impl Rule for Skewed {
     ghost place = { skewed };
 
-    ghost may_hold = { IsOneOfTwo };
-
     ghost rule = { skewed_rule };
+
+    ghost told = { skewed_told };
 
     #[inline]
     fn line_for(tags: &[u64], b: u64) -> u32 {

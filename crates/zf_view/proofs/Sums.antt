@@ -8,6 +8,7 @@ use Rattle.zf_cached.specs.State.{State}
 use Rattle.zf_cached.specs.Touch.{touch}
 use Rattle.zf_cached.specs.Windows.{Window}
 use Rattle.zf_cached.specs.Unwritten.{IsUnwritten}
+use Rattle.zf_cached.specs.Placing.{direct}
 use Rattle.zf_cached.proofs.Caching.{touch-left_clean}
 use Rattle.zf_window.specs.Positions.{raster_at}
 use Rattle.zf_window.specs.Bounds.{IsUpTo}
@@ -20,9 +21,9 @@ module _ {Code : Type 0} (codes : ℕ → Code) (values : ℕ → List ℤ) wher
   -- a touch leaves it so
   pub touch-unwritten : (format : Format Code) (s : State Code) (a : ℕ) → IsUnwritten codes values s → IsUnwritten codes values (touch format s a)
   touch-unwritten format s a h = record {
-    codes = (λ i b. (touch-left_clean format s a b (h.clean b)).code i) ∙ h.codes;
-    values = (λ i b. (touch-left_clean format s a b (h.clean b)).values i) ∙ h.values;
-    clean = λ b. (touch-left_clean format s a b (h.clean b)).dirty ∙ h.clean b;
+    codes = (λ i b. (touch-left_clean direct format s a b (h.clean b)).code i) ∙ h.codes;
+    values = (λ i b. (touch-left_clean direct format s a b (h.clean b)).values i) ∙ h.values;
+    clean = λ b. (touch-left_clean direct format s a b (h.clean b)).dirty ∙ h.clean b;
   }
 
   pub touched_to-unwritten : (format : Format Code) (ns : List ℕ) (s : State Code) (w : Window) (n : ℕ) → IsUnwritten codes values s → IsUnwritten codes values (touched_to format ns s w n)

@@ -13,9 +13,13 @@ use Rattle.zf_window.specs.Positions.{raster_at}
 abbrev pub block_of : List ℕ → Pos → ℕ
 block_of ns p = block_number ns (used_axes (length ns) p)
 
+-- its place there
+abbrev pub place_in : List ℕ → Pos → ℕ
+place_in ns p = place_of (used_axes (length ns) p)
+
 -- the value at a position in a state
 abbrev pub value_in : {Code : Type 0} → List ℕ → State Code → Pos → ℤ
-value_in ns s p = slice_index_or (s.values (block_of ns p)) (place_of (used_axes (length ns) p)) (pos 0)
+value_in ns s p = slice_index_or (s.values (block_of ns p)) (place_in ns p) (pos 0)
 
 -- the sum, without wrap, of the values at the first n positions of a window in raster order
 unfoldable pub sum_in : {Code : Type 0} → List ℕ → State Code → Window → ℕ → ℤ

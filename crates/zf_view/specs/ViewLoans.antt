@@ -12,10 +12,13 @@ use Rattle.zf_lines.specs.Rows.{over}
 use Rattle.zf_array.specs.Standing.{Held}
 use Rattle.zf_array.specs.Loans.{with_value}
 use Rattle.zf_array.specs.contracts.array.Array as array
+use Rattle.zf_const.specs.Standing as const
 use Rattle.zf_window.specs.Positions.{position_at}
 use Rattle.zf_view.specs.Runs.{with_run, with_touch}
+use Rattle.zf_view.specs.declared.const_view.ConstView.{ConstView}
 use Rattle.zf_view.specs.declared.view.View.{View}
 use Rattle.zf_view.specs.declared.view.ElemMut.{ElemMut}
+use Rattle.zf_view.specs.contracts.const_view.ConstView as const_view
 use Rattle.zf_view.specs.contracts.view.View as view
 use Rattle.zf_view.specs.contracts.view.ElemMut as elem
 
@@ -23,6 +26,10 @@ module _ {X : Type 0} {n : ℕ} where
   -- the view v with this array behind it
   abbrev pub view_of : View X n → Held → View X n
   view_of v a = record v { array = record v.array { now = a } }
+
+  -- the view v of a read-only array with this one behind it
+  abbrev pub const_view_of : ConstView X n → const.Held → ConstView X n
+  const_view_of v a = record v { array = record v.array { now = a } }
 
   -- the element e with this array behind it
   abbrev pub elem_of : ElemMut X n → Held → ElemMut X n
@@ -40,6 +47,14 @@ module _ (R D : RattleType) (lane : Lane.Ghosts R.Denot) (eq : PartialEq.Ghosts 
       follows_so (view.the_row (record { mir = named 1; lft = [] }) R D lane eq)
       (view.the_row (record { mir = named 1; lft = [] }) R D lane eq) v.ghost_name none (λ _ _. ⊤)
       (λ e. e ≡ view_of v.now (with_touch v.now.array.now (position_at v.now.window p)))
+
+  -- so does one of a view of a read-only array
+  abbrev pub EndsConstTouched : MutBor (ConstView R.Denot (number_of w64 (lone D.mir))) → Pos → Fml
+  EndsConstTouched v p =
+      let a = v.now.array.now in
+      follows_so (const_view.the_row (record { mir = named 1; lft = [] }) R D lane eq)
+      (const_view.the_row (record { mir = named 1; lft = [] }) R D lane eq) v.ghost_name none (λ _ _. ⊤)
+      (λ e. e ≡ const_view_of v.now (const.touched a (const.block_at a (position_at v.now.window p))))
 
   -- the values from position p of the view on are the last ones written through r
   abbrev pub EndsWithRun : MutBor (View R.Denot (number_of w64 (lone D.mir))) → Pos → MutBor (List R.Denot)

@@ -35,8 +35,8 @@ impl<'a, T: Lane, const D: usize> View<'a, T, D> {
     }
 }
 
-// The `len` values of a block from a place on.
-fn part<T: Lane>(block: &[T], place: usize, len: usize) -> &[T]
+/// The `len` values of a block from a place on.
+pub(crate) fn part<T: Lane>(block: &[T], place: usize, len: usize) -> &[T]
     requires { place + len ≤ length block.now }
     ensures { result.now ≡ take len (drop place block.now) }
 {

@@ -1,10 +1,12 @@
 //! What a caller knows of an array after views of it, after elements one after the other, and after a loop.
 
-ghost use Rattle.std.specs.Prelude.{◌≡◌};
+ghost use Rattle.std.specs.Prelude.{◌≡◌, ◌≤◌};
+ghost use Rattle.zf_spec.specs.Grid.{product};
 ghost use Rattle.zf_base.specs.Positions.{IsPosition};
 ghost use Rattle.zf_cached.specs.Windows.{LiesIn};
 ghost use Rattle.zf_array.specs.Standing.{state, format, shape};
 ghost use Rattle.zf_window.specs.Positions.{position_at};
+ghost use Rattle.zf_view.specs.Sums.{value_in};
 ghost use Rattle.zfpi_uses.specs.Changed.{set_in};
 
 use zf_array::Array;
@@ -42,11 +44,14 @@ pub fn set_both(array: &mut Array<i32, 2>, p: Pos, q: Pos, v: i32)
     ElemMut::bind(array, q).set(v);
 }
 
-/// How many values of a window are zero, and then the value at position `p`.
+/// How many values of a window are zero, and then the value at position `p`: the one that the array has
+/// behind the loop.
 pub fn zeros_and_value(array: &mut Array<i32, 2>, window: Window, p: Pos) -> (u64, i32)
     requires lies { LiesIn (shape array.old) window }
     requires position { IsPosition (shape array.old) p }
-    ensures { array.new.header ≡ array.old.header }
+    ensures few { result.0 ≤ product window.size }
+    ensures value { result.1 ≡ value_in (shape array.old) (state array.new) p }
+    ensures header { array.new.header ≡ array.old.header }
 {
     let mut zeros = 0u64;
     for value in ElemIter::bind(array, window) {

@@ -20,20 +20,6 @@ use zf_view::{View, ViewFault, Window};
 /// The cache lines that the array has.
 const LINES: u32 = 8;
 
-const FIRST: Pos = Pos {
-    x: 0,
-    y: 0,
-    z: 0,
-    w: 0,
-};
-
-const NEXT: Pos = Pos {
-    x: 1,
-    y: 1,
-    z: 1,
-    w: 1,
-};
-
 /// The sum of `count` values from place `first` on, of the array of int32 in one dimension that `file` holds;
 /// and its file once `v` was written over the first of them, as far as they lie in one block.
 pub fn sum_and_mark(
@@ -85,7 +71,7 @@ fn fill_first(view: &mut View<'_, i32, 1>, v: i32)
     ensures state { state view.new.array.now ≡ marked view.old.array.now view.old.window v }
     ensures header { view.new.array.now.header ≡ view.old.array.now.header }
 {
-    view.run_mut(FIRST).fill(v);
+    view.run_mut(Pos::new([0])).fill(v);
 }
 
 // The file of an array, with all that was changed.
@@ -105,8 +91,8 @@ fn places_from(shape: &Shape, first: u64, count: u64) -> Result<Window, ViewFaul
 {
     Window::new(
         shape,
-        Pos { x: first, ..FIRST },
-        Pos { x: count, ..NEXT },
-        NEXT,
+        Pos::new([first]),
+        Pos::of_sizes([count]),
+        Pos::of_sizes([1]),
     )
 }

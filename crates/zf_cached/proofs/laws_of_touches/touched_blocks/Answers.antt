@@ -1,12 +1,15 @@
-use Rattle.zf_cached.specs.Touch.{touch}
-use Rattle.zf_cached.proofs.Caching.{touch-is_here, touch-left, touch-hit, touch_for_writing-dirty}
+use Rattle.zf_cached.specs.Touch.{touch_at}
+use Rattle.zf_cached.proofs.Caching.{touch-here, touch-left, touch-hit, touch_for_writing-dirty, is_block-some}
+use Rattle.zf_cached.proofs.Placed.{touched_here}
 use Rattle.zf_cached.proofs.laws_of_touches.touched_blocks.Goals as goal
 
 pub returns : goal.returns
-returns g c = record {
-  here = touch-is_here;
-  same = touch-left;
-  hit = touch-hit;
-  again = λ format s b. touch-hit format (touch format s b) b (touch-is_here format s b);
-  dirty = touch_for_writing-dirty;
+returns g c = let line = g.P.Placing.line in record {
+  here = touch-here line;
+  same = touch-left line;
+  hit = touch-hit line;
+  again = λ owned format s b own h.
+      touch-hit line format (touch_at line format s b) b
+      (is_block-some _ b (touched_here line g.P.Placing.may_hold g.P.Placing.placing owned format s b own h));
+  dirty = touch_for_writing-dirty line;
 }

@@ -1,12 +1,10 @@
 use Rattle.zf_twoway.specs.Touch.{touch}
-use Rattle.zf_twoway.proofs.Touches.{touch-here, touch-left, touch-hit, touch_for_writing-dirty}
+use Rattle.zf_twoway.proofs.Touches.{touch-is_here, touch-hits}
 use Rattle.zf_twoway.proofs.laws_of_touches.touched_blocks.Goals as goal
 
 pub returns : goal.returns
 returns g c = record {
-  here = touch-here;
-  same = touch-left;
-  hit = touch-hit;
-  again = λ format s b. touch-hit format (touch format s b) b (touch-here format s b);
-  dirty = touch_for_writing-dirty;
+  here = λ format s b. touch-is_here s format b;
+  hit = λ format s b. touch-hits s format b;
+  again = λ format s b. touch-hits (touch format s b) format b (touch-is_here s format b);
 }

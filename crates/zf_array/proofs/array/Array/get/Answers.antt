@@ -3,7 +3,7 @@ use Rattle.std.specs.Vec.{vec_len}
 use Rattle.zf_header.specs.declared.header.Header.{Header}
 use Rattle.zf_cached.specs.State.{State}
 use Rattle.zf_cached.specs.Touch.{touch}
-use Rattle.zf_cache.specs.Standing.{state_of}
+use Rattle.zf_cache.specs.Standing.{state_of, state_at}
 use Rattle.zf_store.proofs.Kept.{blocks_is}
 use Rattle.zf_array.specs.Standing.{format, state, block_at}
 use Rattle.std.proofs.lemmas.Bool.{OnTrue_at}
@@ -39,7 +39,7 @@ returns-clause-state g c =
     ∙ ap (touch (format c.args.self.now) (state c.args.self.now)) (block_is g.T.Lane.value g.T.Lane.width g.row.D s.store s.cache (vec_len s.buffer) c.self.invariant c.args.self.now c.self.view_is c.args.p c.header.result c.header.ensures.value c.place_in-b.result.0 c.place_in-b.ensures.block)
 
 pub returns-clause-value : goal.returns-clause-value
-unfolding state_of
+unfolding state_at
 returns-clause-value g c =
     let s = c.self.inside in
     let t = c.get.new.back in

@@ -6,6 +6,7 @@ use Rattle.zf_cached.specs.Touch.{touch_for_writing}
 use Rattle.zf_header.specs.declared.header.Header.{Header}
 use Rattle.zf_store.proofs.Kept.{blocks_is}
 use Rattle.zf_array.specs.Standing.{format, state}
+use Rattle.zf_cached.specs.Placing.{direct}
 use Rattle.zf_cached.proofs.Caching.{touch_for_writing-dirty}
 use Rattle.zf_array.proofs.Standing.{has_blocks, header_now, joined_after}
 use Rattle.zf_array.proofs.Steps.{step, header_step}
@@ -36,4 +37,4 @@ pub returns-clause-dirty : goal.returns-clause-dirty
 returns-clause-dirty g c =
     let s = c.self.inside in
     ap (λ (u : State (List Bool)). u.dirty c.args.b) (step g.T.Lane.value g.T.Lane.width g.row.D s.store s.cache (vec_len s.buffer) c.self.invariant c.args.self.now c.self.view_is c.touch_mut.new.back c.touch_mut.new.self c.touch_mut.ensures.step.kept c.touch_mut.ensures.step.fits (λ f u. touch_for_writing f u c.args.b) c.touch_mut.ensures.step.state)
-    ∙ touch_for_writing-dirty (format c.args.self.now) (state c.args.self.now) c.args.b
+    ∙ touch_for_writing-dirty direct (format c.args.self.now) (state c.args.self.now) c.args.b

@@ -29,7 +29,7 @@ pub store-requires-clause-block : goal.store-requires-clause-block
 store-requires-clause-block g c =
     let a = c.args.self.now in let f = g.B.Reading.format c.args.back.now in let k = g.B.Reading.codes c.args.back.now in
     let tag = get_or_default a.tags.items c.args.l 0 c.index.result.now c.requires.line ∙ sym c.index.ensures in
-    evicts_below g.R.Rule.place g.R.Rule.may_hold g.met.R.Rule.rule g.T.Lane.value a a f f k k refl c.requires.sound c.args.l c.requires.line c.in-Some.b (ap dirty_of tag ∙ sym c.dirty_block.ensures ∙ c.in-Some.is)
+    evicts_below g.R.Rule.place g.R.Placing.may_hold g.met.R.Rule.rule g.T.Lane.value a a f f k k refl c.requires.sound c.args.l c.requires.line c.in-Some.b (ap dirty_of tag ∙ sym c.dirty_block.ensures ∙ c.in-Some.is)
 
 pub returns-clause-step : goal.returns-clause-step
 returns-clause-step g c =
@@ -38,7 +38,7 @@ returns-clause-step g c =
     let h = g.B.Reading.format m.back in let j = g.B.Reading.codes m.back in
     let tag = get_or_default a.tags.items l 0 c.index.result.now c.requires.line ∙ sym c.index.ensures in
     let d : Body g.row.T.Denot = record { lines = m.self.lines; tags = with_item m.self.tags l 0; counts = m.self.counts } in
-    let evicted_is = λ (o : Option ℕ) (format : h ≡ f). evicts place g.R.Rule.may_hold g.met.R.Rule.rule value a d f h k j format c.requires.sound l c.requires.line o in
+    let evicted_is = λ (o : Option ℕ) (format : h ≡ f). evicts place g.R.Placing.may_hold g.met.R.Rule.rule value a d f h k j format c.requires.sound l c.requires.line o in
     let both : IsSound place value d h j × (state_at place value (kept_of d) h j ≡ evicted f (state_at place value (kept_of a) f k) l) = elim m.branch [
       | in-Some w ↦
           evicted_is (Some w.in-Some.b) (ap g.B.Reading.format w.back-is ∙ w.store.ensures.format) (ap dirty_of tag ∙ sym c.dirty_block.ensures ∙ w.in-Some.is)

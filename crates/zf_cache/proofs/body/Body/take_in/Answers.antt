@@ -21,6 +21,6 @@ returns-clause-step g c =
     let long = length-over (line_at a.lines l) c.load.new.line ∙ sound.whole.size.1 l c.requires.row in
     let same = over_same (line_at a.lines l) c.load.new.line (c.load.auto.line ∙ ap length c.line_mut.ensures.value) in
     let loaded = ap (λ r. existing_of f b (map g.T.Lane.value r)) same ∙ c.load.ensures.value in
-    let both = takes g.R.Rule.place g.R.Rule.may_hold g.met.R.Rule.rule g.T.Lane.value a d f (g.B.Reading.format c.load.new.self) k (g.B.Reading.codes c.load.new.self) c.load.ensures.format sound l lt b row long
+    let both = takes g.R.Rule.place g.R.Placing.may_hold g.met.R.Rule.rule g.T.Lane.value a d f (g.B.Reading.format c.load.new.self) k (g.B.Reading.codes c.load.new.self) c.load.ensures.format sound l lt b row long
     c.requires.row c.requires.line.1 c.requires.empty c.requires.away loaded c.requires.block.0 refl refl (ap (λ n. record { hits = a.counts.hits; misses = n; writes = a.counts.writes }) c.saturating_add-self.ensures) c.load.ensures.codes in
     record { state = both.1; fits = both.0; format = c.load.ensures.format; kept = c.load.ensures.kept }

@@ -17,7 +17,7 @@ returns-then-index-b-clause-step g c =
       tags = a.tags;
       counts = record { hits = c.saturating_add-self.result; misses = a.counts.misses; writes = a.counts.writes };
     } in
-    let both = hits_block g.R.Rule.place g.R.Rule.may_hold g.met.R.Rule.rule g.T.Lane.value a d f f k k refl c.requires.ready.sound b l (ap (λ t. t / 2) tag ∙ c.if-index-b.true) refl refl
+    let both = hits_block g.R.Rule.place g.R.Placing.may_hold g.met.R.Rule.rule g.T.Lane.value a d f f k k refl c.requires.ready.sound b l (ap (λ t. t / 2) tag ∙ c.if-index-b.true) refl refl
     (ap (λ n. record { hits = n; misses = a.counts.misses; writes = a.counts.writes }) c.saturating_add-self.ensures) refl in
     record { state = both.1; fits = both.0; format = refl; kept = refl }
 
@@ -40,7 +40,7 @@ take_in-requires-clause-line g c =
     let tags = c.evict.new.self.tags.items in
     let size : length tags ≡ length a.tags.items = ap length c.evict.ensures.tags ∙ length-set a.tags.items l 0 in (
       omega (arith, size, c.line_of-l.ensures.inside),
-      subst (λ n. g.R.Rule.may_hold n b l) (sym size) (subst (g.R.Rule.may_hold (length a.tags.items) b) (sym c.line_of-l.ensures.place) (g.met.R.Rule.rule.allowed (length a.tags.items) a.tags.items b)),
+      subst (λ n. g.R.Placing.may_hold n b l) (sym size) (subst (g.R.Placing.may_hold (length a.tags.items) b) (sym c.line_of-l.ensures.place) (g.met.R.Rule.rule.allowed (length a.tags.items) a.tags.items b)),
     )
 
 pub take_in-requires-clause-away : goal.take_in-requires-clause-away
@@ -48,7 +48,7 @@ take_in-requires-clause-away g c =
     let a = c.args.self.now in let f = g.B.Reading.format c.args.back.now in let k = g.B.Reading.codes c.args.back.now in let b = c.args.b in let value = g.T.Lane.value in
     let l = c.line_of-l.result in
     let tag = get_or_default a.tags.items l 0 c.index.result.now c.line_of-l.ensures.inside ∙ sym c.index.ensures in
-    let out = none_in g.R.Rule.place g.R.Rule.may_hold g.met.R.Rule.rule value a a f f k k refl c.requires.ready.sound b l (sym c.line_of-l.ensures.place) c.line_of-l.ensures.inside (λ e. c.if-index-b.false (ap (λ t. t / 2) (sym tag) ∙ e)) in
+    let out = none_in g.R.Rule.place g.R.Placing.may_hold g.met.R.Rule.rule value a a f f k k refl c.requires.ready.sound b l (sym c.line_of-l.ensures.place) c.line_of-l.ensures.inside (λ e. c.if-index-b.false (ap (λ t. t / 2) (sym tag) ∙ e)) in
     subst (λ ts. IsAway ts b) (sym c.evict.ensures.tags) out
 
 pub returns-clause-step : goal.returns-clause-step

@@ -10,13 +10,13 @@ pub returns-clause-step : goal.returns-clause-step
 returns-clause-step g c =
     let t = c.touch-l.new.self in let l = c.touch-l.result in let h = g.B.Reading.format c.touch-l.new.back in let j = g.B.Reading.codes c.touch-l.new.back in
     let e = c.touch-l.ensures in let b = c.args.b in
-    let lt = line_below g.R.Rule.place g.R.Rule.may_hold g.met.R.Rule.rule g.T.Lane.value t h j e.step.fits (kept_of c.args.self.now) b l e.line in
+    let lt = line_below g.R.Rule.place g.R.Placing.may_hold g.met.R.Rule.rule g.T.Lane.value t h j e.step.fits (kept_of c.args.self.now) b l e.line in
     let d : Body g.row.T.Denot = record { lines = t.lines; tags = with_item t.tags l (2 * b + 3); counts = t.counts } in
-    let both = soils_line g.R.Rule.place g.R.Rule.may_hold g.met.R.Rule.rule g.T.Lane.value t d h h j j refl e.step.fits l lt.0 b e.line.here refl refl refl refl in
+    let both = soils_line g.R.Rule.place g.R.Placing.may_hold g.met.R.Rule.rule g.T.Lane.value t d h h j j refl e.step.fits l lt.0 b e.line.here refl refl refl refl in
     record { state = both.1 ∙ ap (λ s. soiled s b) e.step.state; fits = both.0; format = e.step.format; kept = e.step.kept }
 
 pub returns-clause-line : goal.returns-clause-line
 returns-clause-line g c =
     let a = c.args.self.now in let t = c.touch-l.new.self in let l = c.touch-l.result in let e = c.touch-l.ensures in let b = c.args.b in
-    let lt = line_below g.R.Rule.place g.R.Rule.may_hold g.met.R.Rule.rule g.T.Lane.value t (g.B.Reading.format c.touch-l.new.back) (g.B.Reading.codes c.touch-l.new.back) e.step.fits (kept_of a) b l e.line in
+    let lt = line_below g.R.Rule.place g.R.Placing.may_hold g.met.R.Rule.rule g.T.Lane.value t (g.B.Reading.format c.touch-l.new.back) (g.B.Reading.codes c.touch-l.new.back) e.step.fits (kept_of a) b l e.line in
     comes_soiling g.R.Rule.place (kept_of a) (kept_of t) b l _ e.line lt refl refl

@@ -18,7 +18,7 @@ returns-then-index-b-clause-step g c =
       tags = a.tags;
       counts = record { hits = c.saturating_add-self.result; misses = a.counts.misses; writes = a.counts.writes };
     } in
-    let both = hits_block g.R.Rule.place g.R.Rule.may_hold g.met.R.Rule.rule g.T.Lane.value a d f f k k refl c.requires.ready.sound b l (ap (λ t. t / 2) tag ∙ c.if-index-b.true) refl refl
+    let both = hits_block g.R.Rule.place g.R.Placing.may_hold g.met.R.Rule.rule g.T.Lane.value a d f f k k refl c.requires.ready.sound b l (ap (λ t. t / 2) tag ∙ c.if-index-b.true) refl refl
     (ap (λ n. record { hits = n; misses = a.counts.misses; writes = a.counts.writes }) c.saturating_add-self.ensures) refl in
     record { state = both.1; fits = both.0; format = refl; kept = refl }
 
@@ -40,7 +40,7 @@ take_in-requires-clause-line g c =
     let tags = set a.tags.items l 0 in
     let size : length tags ≡ length a.tags.items = length-set a.tags.items l 0 in (
       omega (arith, size, c.line_of-l.ensures.inside),
-      subst (λ n. g.R.Rule.may_hold n b l) (sym size) (subst (g.R.Rule.may_hold (length a.tags.items) b) (sym c.line_of-l.ensures.place) (g.met.R.Rule.rule.allowed (length a.tags.items) a.tags.items b)),
+      subst (λ n. g.R.Placing.may_hold n b l) (sym size) (subst (g.R.Placing.may_hold (length a.tags.items) b) (sym c.line_of-l.ensures.place) (g.met.R.Rule.rule.allowed (length a.tags.items) a.tags.items b)),
     )
 
 pub take_in-requires-clause-away : goal.take_in-requires-clause-away
@@ -48,7 +48,7 @@ take_in-requires-clause-away g c =
     let a = c.args.self.now in let f = g.B.Reading.format c.args.back.now in let k = g.B.Reading.codes c.args.back.now in let b = c.args.b in let value = g.T.Lane.value in
     let l = c.line_of-l.result in
     let tag = get_or_default a.tags.items l 0 c.index.result.now c.line_of-l.ensures.inside ∙ sym c.index.ensures in
-    let out = none_in g.R.Rule.place g.R.Rule.may_hold g.met.R.Rule.rule value a a f f k k refl c.requires.ready.sound b l (sym c.line_of-l.ensures.place) c.line_of-l.ensures.inside (λ e. c.if-index-b.false (ap (λ t. t / 2) (sym tag) ∙ e)) in
+    let out = none_in g.R.Rule.place g.R.Placing.may_hold g.met.R.Rule.rule value a a f f k k refl c.requires.ready.sound b l (sym c.line_of-l.ensures.place) c.line_of-l.ensures.inside (λ e. c.if-index-b.false (ap (λ t. t / 2) (sym tag) ∙ e)) in
     out
 
 pub take_in-requires-clause-sound : goal.take_in-requires-clause-sound
@@ -58,7 +58,7 @@ take_in-requires-clause-sound g c =
     let lt = c.line_of-l.ensures.inside in
     let tag = get_or_default a.tags.items l 0 c.index.result.now lt ∙ sym c.index.ensures in
     let d : Body g.row.T.Denot = record { lines = a.lines; tags = with_item a.tags l 0; counts = a.counts } in
-    let emptied = evicts g.R.Rule.place g.R.Rule.may_hold g.met.R.Rule.rule value a d f f k k refl c.requires.ready.sound l lt None (undirty (tag_at a.tags.items l) (c.requires.clean l)) refl refl refl refl in
+    let emptied = evicts g.R.Rule.place g.R.Placing.may_hold g.met.R.Rule.rule value a d f f k k refl c.requires.ready.sound l lt None (undirty (tag_at a.tags.items l) (c.requires.clean l)) refl refl refl refl in
     emptied.0
 
 pub returns-clause-step : goal.returns-clause-step
@@ -67,7 +67,7 @@ returns-clause-step g c =
     let l = c.line_of-l.result in let lt = c.line_of-l.ensures.inside in let second = c.take_in.ensures.step in
     let tag = get_or_default a.tags.items l 0 c.index.result.now lt ∙ sym c.index.ensures in
     let d : Body g.row.T.Denot = record { lines = a.lines; tags = with_item a.tags l 0; counts = a.counts } in
-    let emptied = evicts g.R.Rule.place g.R.Rule.may_hold g.met.R.Rule.rule value a d f f k k refl c.requires.ready.sound l lt None (undirty (tag_at a.tags.items l) (c.requires.clean l)) refl refl refl refl in
+    let emptied = evicts g.R.Rule.place g.R.Placing.may_hold g.met.R.Rule.rule value a d f f k k refl c.requires.ready.sound l lt None (undirty (tag_at a.tags.items l) (c.requires.clean l)) refl refl refl refl in
     record {
       state = misses_block g.R.Rule.place value a f k b l (state_at g.R.Rule.place value (kept_of d) f k)
           (state_at g.R.Rule.place value (kept_of c.take_in.new.self) (g.B.Reading.format c.take_in.new.back) (g.B.Reading.codes c.take_in.new.back))

@@ -1,11 +1,11 @@
 use Rattle.std.proofs.Common.{refl, ap, ◌∙◌, length}
 use Rattle.zf_cached.specs.Touch.{touch}
+use Rattle.zf_cached.specs.Placing.{direct, IsDirect}
 use Rattle.zf_cache.specs.Bodies.{kept_of}
-use Rattle.zf_cache.specs.Standing.{state_of}
-use Rattle.zf_cache.specs.Rules.{one_line, IsOneLine, one_line_rule}
-use Rattle.zf_cache.proofs.Touches.{one_line_state}
+use Rattle.zf_cache.specs.Standing.{state_of, Fits}
+use Rattle.zf_cache.specs.Rules.{one_line, one_line_rule, one_line_told}
 use Rattle.zf_cache.proofs.Lent.{shows, whole}
-use Rattle.zf_cache.proofs.OwnLines.{touches, stands}
+use Rattle.zf_cache.proofs.Placed.{touches, stands}
 use Rattle.zf_cache.proofs.cache.Cache.block.Goals as goal
 
 pub returns : goal.returns
@@ -13,14 +13,14 @@ returns g c =
     let f = g.B.Reading.format c.args.back.now in let k = g.B.Reading.codes c.args.back.now in let b = c.args.b in let value = g.T.Lane.value in
     let o = kept_of c.self.inside.body in let t = c.touch-l.new.self in let l = c.touch-l.result in let e = c.touch-l.ensures in
     let h = g.B.Reading.format c.touch-l.new.back in let j = g.B.Reading.codes c.touch-l.new.back in
-    let state = (touches g.B.Reading g.T.Lane.value c.self.inside.body c.args.self.now c.self.view_is c.args.back.now c.touch-l.new.self c.touch-l.new.back b l e.line e.step).state in
+    let state = (touches one_line direct one_line_told g.T.Lane.value g.B.Reading c.self.inside.body c.args.self.now c.self.view_is c.args.back.now c.requires.backed.fits c.touch-l.new.self c.touch-l.new.back b l e.line e.step).state in
     let s = touch f (state_of value c.args.self.now f k) b in (
-      (refl, λ _. tt, stands value f h j o t b l e.step.format e.step.fits e.line s state),
+      (refl, λ _. tt, stands one_line direct one_line_told value IsDirect one_line_rule (Fits value) (λ d q i e. e) f h j o t b l e.step.format e.step.fits e.line s state),
       record {
         touched = tt;
         shows = record {
-          value_is = shows one_line IsOneLine one_line_rule value f h j o t b l e.step.format e.step.fits e.line s c.line.result.now (one_line_state value h (kept_of t) j ∙ state) c.line.ensures;
-          size = ap length c.line.ensures ∙ whole one_line IsOneLine one_line_rule value f h j o t b l e.step.format e.step.fits e.line ∙ ap (λ q. q.block_len) e.step.format ∙ c.requires.backed.blocks.0;
+          value_is = shows one_line IsDirect one_line_rule value f h j o t b l e.step.format e.step.fits e.line s c.line.result.now state c.line.ensures;
+          size = ap length c.line.ensures ∙ whole one_line IsDirect one_line_rule value f h j o t b l e.step.format e.step.fits e.line ∙ ap (λ q. q.block_len) e.step.format ∙ c.requires.backed.blocks.0;
           format = e.step.format;
           kept = e.step.kept;
         };

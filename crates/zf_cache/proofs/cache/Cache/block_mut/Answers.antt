@@ -1,28 +1,31 @@
-use Rattle.std.proofs.Common.{refl, ap, subst, ◌∙◌, length}
+use Rattle.std.proofs.Common.{refl, sym, ap, subst, ◌∙◌, length}
+use Rattle.zf_cached.specs.Placing.{direct, IsDirect}
 use Rattle.zf_cache.specs.Bodies.{kept_of}
 use Rattle.zf_cache.specs.Kept.{Kept}
 use Rattle.zf_cache.specs.Loans.{LendsBlock, lent_block}
-use Rattle.zf_cache.specs.Rules.{one_line, IsOneLine, one_line_rule}
+use Rattle.zf_cache.specs.Rules.{one_line, one_line_rule, one_line_told}
+use Rattle.zf_cache.specs.Standing.{Fits}
 use Rattle.zf_cache.proofs.Lent.{lends, whole}
-use Rattle.zf_cache.proofs.OwnLines.{lent_is, loans}
+use Rattle.zf_cache.proofs.Placed.{lent_is, loans}
 use Rattle.zf_cache.proofs.cache.Cache.block_mut.Goals as goal
 
 pub returns : goal.returns
 returns g c =
     let f = g.B.Reading.format c.args.back.now in let k = g.B.Reading.codes c.args.back.now in let b = c.args.b in let value = g.T.Lane.value in
     let o = kept_of c.self.inside.body in let is = c.self.view_is in
+    let fits = subst (λ (q : Kept g.row.T.Denot). Fits value q f k) (sym is) c.requires.backed.fits in
     let t = c.touch_for_writing-l.new.self in let l = c.touch_for_writing-l.result in let e = c.touch_for_writing-l.ensures in
     let h = g.B.Reading.format c.touch_for_writing-l.new.back in let j = g.B.Reading.codes c.touch_for_writing-l.new.back in
     let row = c.line_mut.result.now in let row_is = c.line_mut.ensures.value in (
       (
         refl,
-        λ w. lends one_line IsOneLine one_line_rule value f h j o t b l e.step.format e.step.fits e.line k e.dirty e.step.state row row_is w
-            ∙ lent_is value f h j o t b l e.step.format e.step.fits e.line k e.dirty e.step.state row row_is w ∙ ap (λ (q : Kept g.row.T.Denot). lent_block value f k q b row w) is,
+        λ w. lends one_line IsDirect one_line_rule value f h j o t b l e.step.format e.step.fits e.line k e.dirty e.step.state row row_is w
+            ∙ lent_is one_line direct one_line_told value IsDirect one_line_rule (Fits value) (λ d q i e. e) f h j o t b l e.step.format e.step.fits e.line k fits e.dirty e.step.state row row_is w ∙ ap (λ (q : Kept g.row.T.Denot). lent_block value f k q b row w) is,
       ),
       record {
         writes_back = tt;
-        loan = subst (λ (q : Kept g.row.T.Denot). LendsBlock value f k j q b row) is (loans value f h j o t b l e.step.format e.step.fits e.line k e.dirty e.step.state row row_is);
-        size = ap length row_is ∙ whole one_line IsOneLine one_line_rule value f h j o t b l e.step.format e.step.fits e.line ∙ ap (λ q. q.block_len) e.step.format ∙ c.requires.backed.blocks.0;
+        loan = subst (λ (q : Kept g.row.T.Denot). LendsBlock value f k j q b row) is (loans one_line direct one_line_told value IsDirect one_line_rule (Fits value) (λ d q i e. e) f h j o t b l e.step.format e.step.fits e.line k fits e.dirty e.step.state row row_is);
+        size = ap length row_is ∙ whole one_line IsDirect one_line_rule value f h j o t b l e.step.format e.step.fits e.line ∙ ap (λ q. q.block_len) e.step.format ∙ c.requires.backed.blocks.0;
         keeps = record { format = e.step.format; kept = e.step.kept };
       },
     )

@@ -1,7 +1,8 @@
 use Rattle.std.proofs.Common.{ap, ◌∙◌, ℕ, length}
 use Rattle.std.proofs.lemmas.List.{length-replicate}
+use Rattle.zf_cached.specs.Placing.{IsDirect}
 use Rattle.zf_cache.specs.Bodies.{kept_of}
-use Rattle.zf_cache.specs.Rules.{one_line, IsOneLine, one_line_rule}
+use Rattle.zf_cache.specs.Rules.{one_line, one_line_rule}
 use Rattle.zf_cache.proofs.Rooms.{room_for_blocks}
 use Rattle.zf_cache.proofs.Tags.{counts_lines}
 use Rattle.zf_cache.proofs.cache.Cache.for_blocks.Goals as goal
@@ -9,5 +10,5 @@ use Rattle.zf_cache.proofs.cache.Cache.for_blocks.Goals as goal
 pub returns-clause-room : goal.returns-clause-room
 returns-clause-room g c =
     let n = c.args.lines in let made = c.in_ok-body.ensures in let none : ℕ = 0 in
-    room_for_blocks one_line IsOneLine one_line_rule (kept_of c.in_ok-body.body) n (counts_lines n c.requires.count).0 (ap length made.empty ∙ length-replicate n none) c.args.blocks
+    room_for_blocks one_line IsDirect one_line_rule (kept_of c.in_ok-body.body) n (counts_lines n c.requires.count).0 (ap length made.empty ∙ length-replicate n none) c.args.blocks
     (made.rows_are ∙ c.rows_for.ensures)

@@ -1,16 +1,15 @@
 use Rattle.std.proofs.Common.{◌<◌, sym, ap, subst, ◌∙◌}
+use Rattle.zf_cached.specs.Placing.{direct, IsDirect}
 use Rattle.zf_cache.specs.Bodies.{kept_of}
-use Rattle.zf_cache.specs.Rules.{one_line, IsOneLine, one_line_rule}
-use Rattle.zf_cache.specs.Standing.{values_of}
+use Rattle.zf_cache.specs.Rules.{one_line, one_line_rule, one_line_told}
 use Rattle.zf_cache.proofs.Lent.{gets}
-use Rattle.zf_cache.proofs.OwnLines.{touches}
-use Rattle.zf_cache.proofs.Touches.{one_line_values}
+use Rattle.zf_cache.proofs.Placed.{touches}
 use Rattle.zf_cache.proofs.cache.Cache.get.Goals as goal
 
 pub returns-clause-step : goal.returns-clause-step
 returns-clause-step g c =
     let e = c.touch-l.ensures in
-    touches g.B.Reading g.T.Lane.value c.self.inside.body c.args.self.now c.self.view_is c.args.back.now c.touch-l.new.self c.touch-l.new.back c.args.b c.touch-l.result e.line e.step
+    touches one_line direct one_line_told g.T.Lane.value g.B.Reading c.self.inside.body c.args.self.now c.self.view_is c.args.back.now c.requires.backed.fits c.touch-l.new.self c.touch-l.new.back c.args.b c.touch-l.result e.line e.step
 
 pub returns-clause-value : goal.returns-clause-value
 returns-clause-value g c =
@@ -18,5 +17,4 @@ returns-clause-value g c =
     let t = c.touch-l.new.self in let e = c.touch-l.ensures in
     let h = g.B.Reading.format c.touch-l.new.back in let j = g.B.Reading.codes c.touch-l.new.back in
     let within = subst (λ n. c.args.p < n) (sym (ap (λ q. q.block_len) e.step.format ∙ c.requires.backed.blocks.0)) c.requires.place in
-    gets one_line IsOneLine one_line_rule value f h j (kept_of c.self.inside.body) t b c.touch-l.result e.step.format e.step.fits e.line (values_of value (kept_of t) h j b) (one_line_values value h (kept_of t) j b)
-    c.args.p c.line.result.now c.index-line-p.result within c.line.ensures c.index-line-p.is
+    gets one_line IsDirect one_line_rule value f h j (kept_of c.self.inside.body) t b c.touch-l.result e.step.format e.step.fits e.line c.args.p c.line.result.now c.index-line-p.result within c.line.ensures c.index-line-p.is

@@ -2,12 +2,12 @@ use Rattle.std.proofs.Common.{ap, ◌∙◌, ℕ, length, min, sym}
 use Rattle.std.proofs.lemmas.List.{length-replicate}
 use Rattle.zf_base.specs.Formats.{Format}
 use Rattle.zf_cached.specs.Changes.{relined}
+use Rattle.zf_cached.specs.Placing.{IsDirect}
 use Rattle.zf_cache.specs.Kept.{Kept}
 use Rattle.zf_cache.specs.Bodies.{kept_of, counts_of}
 use Rattle.zf_cache.specs.Standing.{state_at, state_of}
-use Rattle.zf_cache.specs.Rules.{one_line, IsOneLine, one_line_rule}
+use Rattle.zf_cache.specs.Rules.{one_line, one_line_rule}
 use Rattle.zf_cache.proofs.Lent.{reline}
-use Rattle.zf_cache.proofs.OwnLines.{relined_own}
 use Rattle.zf_cache.proofs.Rooms.{room_for_blocks}
 use Rattle.zf_cache.proofs.Steps.{empty_fits}
 use Rattle.zf_cache.proofs.Tags.{counts_lines}
@@ -22,7 +22,7 @@ returns-clause-fits g c =
     let n = c.args.lines in let made = c.in_ok-taken.ensures in let put = c.replace.ensures in let none : ℕ = 0 in
     let new = kept_of c.replace.new.self in
     empty_fits g.T.Lane.value h j new n (put.tags ∙ made.empty)
-    (room_for_blocks one_line IsOneLine one_line_rule new n (counts_lines n c.requires.count).0 (ap length (put.tags ∙ made.empty) ∙ length-replicate n none) h.blocks
+    (room_for_blocks one_line IsDirect one_line_rule new n (counts_lines n c.requires.count).0 (ap length (put.tags ∙ made.empty) ∙ length-replicate n none) h.blocks
     (ap length put.lines ∙ made.rows_are ∙ c.rows_for-rows.ensures ∙ ap (min n) (c.blocks-blocks.ensures ∙ ap (λ (q : Format g.B.Reading.Code). q.blocks) (sym c.flush.ensures.step.format))))
 
 pub returns-clause-ok : goal.returns-clause-ok
@@ -30,7 +30,6 @@ returns-clause-ok g c =
     let f = g.B.Reading.format c.args.back.now in let k = g.B.Reading.codes c.args.back.now in let value = g.T.Lane.value in
     let o = c.self.inside.body in let e = c.flush.ensures in
     let h = g.B.Reading.format c.flush.new.back in let j = g.B.Reading.codes c.flush.new.back in
-    relined_own value f h k j (kept_of o) (kept_of c.replace.new.self) c.args.lines
-    (reline one_line value f h j (kept_of c.flush.new.self) (kept_of c.replace.new.self)
-    (length o.tags.items) c.args.lines (state_at one_line value (kept_of o) f k) e.empty (c.replace.ensures.tags ∙ c.in_ok-taken.ensures.empty) (ap counts_of c.replace.ensures.counts) e.step.state)
+    reline one_line value f h j (kept_of c.flush.new.self) (kept_of c.replace.new.self)
+    (length o.tags.items) c.args.lines (state_at one_line value (kept_of o) f k) e.empty (c.replace.ensures.tags ∙ c.in_ok-taken.ensures.empty) (ap counts_of c.replace.ensures.counts) e.step.state
     ∙ ap (λ (q : Kept g.row.T.Denot). relined f (state_of value q f k) c.args.lines) c.self.view_is

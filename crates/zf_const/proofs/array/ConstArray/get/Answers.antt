@@ -7,7 +7,7 @@ use Rattle.zf_header.specs.declared.header.Header.{Header}
 use Rattle.zf_cached.specs.State.{State}
 use Rattle.zf_cached.specs.Touch.{touch}
 use Rattle.zf_cached.specs.Arrays.{array_format}
-use Rattle.zf_cache.specs.Standing.{state_of}
+use Rattle.zf_cache.specs.Standing.{state_of, state_at}
 use Rattle.zf_const.specs.Standing.{format, state, block_at}
 use Rattle.zf_const.specs.Parts.{Coded, format_of, held_by}
 use Rattle.zf_const.proofs.Standing.{state_held, has_blocks, header_now, joined_after, header_after, codes_after, step}
@@ -66,7 +66,7 @@ returns-clause-state g c =
     ∙ ap (touch (format now) (state now)) (c.place_in-b.ensures.block ∙ ap (λ (h : Header). block_number h.shape (used_axes (length h.shape) c.args.p)) header)
 
 pub returns-clause-value : goal.returns-clause-value
-unfolding state_of
+unfolding state_at
 returns-clause-value g c =
     let s = c.self.inside in
     let now = c.args.self.now in

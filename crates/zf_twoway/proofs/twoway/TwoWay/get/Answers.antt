@@ -2,8 +2,7 @@ use Rattle.std.proofs.Common.{◌<◌, sym, ap, subst, ◌∙◌}
 use Rattle.zf_cache.specs.Bodies.{kept_of}
 use Rattle.zf_cache.proofs.Lent.{gets}
 use Rattle.zf_twoway.specs.Placing.{skewed, IsOneOfTwo, skewed_rule}
-use Rattle.zf_twoway.specs.Standing.{values_of}
-use Rattle.zf_twoway.proofs.Standing.{ready_of, values_stand, touches}
+use Rattle.zf_twoway.proofs.Standing.{ready_of, touches}
 use Rattle.zf_twoway.proofs.twoway.TwoWay.get.Goals as goal
 
 pub touch-l-requires : goal.touch-l-requires
@@ -24,5 +23,4 @@ returns-clause-value g c =
     let t = c.touch-l.new.self in let e = c.touch-l.ensures in
     let h = g.B.Reading.format c.touch-l.new.back in let j = g.B.Reading.codes c.touch-l.new.back in
     let within = subst (λ n. c.args.p < n) (sym (ap (λ q. q.block_len) e.step.format ∙ c.requires.backed.blocks.0)) c.requires.place in
-    gets skewed IsOneOfTwo skewed_rule value f h j (kept_of c.self.inside.body) t b c.touch-l.result e.step.format e.step.fits e.line (values_of value (kept_of t) h j b) (values_stand value (kept_of t) h j b)
-    c.args.p c.line.result.now c.index-line-p.result within c.line.ensures c.index-line-p.is
+    gets skewed IsOneOfTwo skewed_rule value f h j (kept_of c.self.inside.body) t b c.touch-l.result e.step.format e.step.fits e.line c.args.p c.line.result.now c.index-line-p.result within c.line.ensures c.index-line-p.is

@@ -1,9 +1,9 @@
 use Rattle.std.proofs.Common.{refl}
-use Rattle.zf_cached.specs.Touch.{touch_for_writing, soiled}
+use Rattle.zf_cached.specs.Touch.{touch_for_writing, soiled, touch_for_writing_at}
 use Rattle.zf_view.proofs.view.ElemMut.value_mut.Goals as goal
 
 pub returns : goal.returns
-unfolding touch_for_writing soiled
+unfolding touch_for_writing_at soiled
 returns g c = (
   (refl, λ w. refl),
   record {

@@ -31,7 +31,7 @@ part_mut-requires g c =
     let ek = c.place_in-b.ensures.place ∙ (λ i. place_of (used_axes (length (shape_is i)) (first i))) in
     let en = c.run_length-len.ensures in
     let dims = ap length (sym shape_is) ∙ c.shape.ensures.dims in
-    (lit< tt, (c.touch_mut.ensures.dirty, subst (λ d. c.place_in-b.result.1 + c.run_length-len.result ≤ 4 ^ d) dims (omega (arith, ek, en, run_within a w p lies at c.requires.step))))
+    (lit< tt, (c.touch_mut.ensures.dirty, subst (λ d. c.place_in-b.result.1 + c.run_length-len.result ≤ 4 ^ d) dims (omega (arith, ek, en, run_within (shape a) w p lies at c.requires.step))))
 
 pub returns : goal.returns
 returns g c =
@@ -54,7 +54,7 @@ returns g c =
         writes_back = tt;
         shows = record {
           size = c.part_mut.ensures.size ∙ en;
-          beside = beside a w p lies at c.requires.step;
+          beside = beside (shape a) w p lies at c.requires.step;
           value_is = run_is a w p lies at c.requires.step c.touch_mut.new.self c.place_in-b.result.0 c.place_in-b.result.1 c.run_length-len.result eb ek en c.touch_mut.ensures.header c.touch_mut.ensures.state (map value r) long c.part_mut.ensures.value;
         };
         state = λ vs size. run_state a w p lies at c.requires.step c.touch_mut.new.self c.place_in-b.result.0 c.place_in-b.result.1 c.run_length-len.result eb ek en c.touch_mut.ensures.header c.touch_mut.ensures.state (map value r) long c.part_mut.ensures.value vs (size ∙ sym en) (c.part_mut.ensures.state vs);

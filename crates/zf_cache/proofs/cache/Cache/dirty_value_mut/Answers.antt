@@ -1,6 +1,6 @@
 use Rattle.std.proofs.Common.{◌≡◌, ◌+◌, ◌/◌, sym, ap, subst, ◌∙◌, arith}
 use Rattle.zf_cache.specs.Kept.{Kept, IsDirty, dirty_tag}
-use Rattle.zf_cache.proofs.cache.Cache.value_mut.Goals as goal
+use Rattle.zf_cache.proofs.cache.Cache.dirty_value_mut.Goals as goal
 
 pub line_holding-l-requires-clause-here : goal.line_holding-l-requires-clause-here
 line_holding-l-requires-clause-here g c =
