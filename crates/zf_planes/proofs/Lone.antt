@@ -10,7 +10,7 @@ use lib.Bits.{bit_and}
 use Rattle.zf_spec.specs.Numbers.{field, is_odd, digit_value}
 use Rattle.zf_spec.specs.Grid.{count_from, upto}
 use Rattle.zf_spec.specs.Planes.{code_from, reach_of_all}
-use Rattle.zf_planes.specs.Spread.{top_digit, top_planes, pairs, lone_planes, lone_code}
+use Rattle.zf_planes.specs.Spread.{top_digit, top_planes, spread, lone_planes, lone_code}
 use Rattle.zf_planes.specs.declared.spread_table.TheConstants.{SPREAD}
 use Rattle.zf_spec.proofs.Fields.{field-add, is_odd-digit_value}
 use Rattle.zf_bits.proofs.Fields.{digit_value_le}
@@ -34,13 +34,13 @@ lone_from_none (true ∷ ds) first = let rest = lone_from_one ds in (ap (λ (bs 
 -- ---- as numbers
 
 -- the code of m of k planes, as the number of their digits two apart
-pub lone_field : (m k : ℕ) (f : ℕ → Bool) → m ≤ k → field (2 * m) (pairs k f) ≡ lone_code (map f (upto m))
-unfolding pairs
+pub lone_field : (m k : ℕ) (f : ℕ → Bool) → m ≤ k → field (2 * m) (spread 4 k f) ≡ lone_code (map f (upto m))
+unfolding spread
 lone_field zero k f within = refl
 lone_field (suc m) zero f within = absurd (omega arith)
 lone_field (suc m) (suc k) f within =
     let next : ℕ → Bool = λ i. f (suc i) in
-    let r = pairs k next in
+    let r = spread 4 k next in
     let v = digit_value (f 0) + 4 * r in
     let low = digit_value_le (f 0) in
     let two : 2 * suc m ≡ 2 + 2 * m = omega arith in
@@ -58,11 +58,11 @@ lone_field (suc m) (suc k) f within =
     ∙ ap (λ (ds : List Bool). f 0 ∷ false ∷ lone_code ds) (map-from f next 1 m false (λ i here. let place : 1 + i ≡ suc i = omega arith in ap f place))
 
 -- and behind the group bit of the first one
-pub lone_bits : (m k : ℕ) (f : ℕ → Bool) → m ≤ k → field (1 + 2 * m) (1 + 2 * pairs k f) ≡ true ∷ lone_code (map f (upto m))
+pub lone_bits : (m k : ℕ) (f : ℕ → Bool) → m ≤ k → field (1 + 2 * m) (1 + 2 * spread 4 k f) ≡ true ∷ lone_code (map f (upto m))
 lone_bits m k f within =
-    let v = 1 + 2 * pairs k f in
-    let half : v / 2 ≡ pairs k f = omega arith in
-    let odd : is_odd v ≡ true = is_odd-digit_value true (pairs k f) in
+    let v = 1 + 2 * spread 4 k f in
+    let half : v / 2 ≡ spread 4 k f = omega arith in
+    let odd : is_odd v ≡ true = is_odd-digit_value true (spread 4 k f) in
     field-add 1 (2 * m) v
     ∙ ap (λ b. b ∷ field (2 * m) (v / 2)) odd
     ∙ ap (λ n. true ∷ field (2 * m) n) half
@@ -76,54 +76,17 @@ pushed e =
     let halves = bit_and (bit_or bytes (bytes / 16)) 0x0055_0055 in
     bit_and (bit_or halves (halves / 256)) 0x5555
 
-test_pushed : each_below (λ b. eqb (pushed (get_or SPREAD b 0)) (pairs 8 (λ i. is_odd (b / 2 ^ (7 - i))))) 256 ≡ true
-unfolding pairs
+test_pushed : each_below (λ b. eqb (pushed (get_or SPREAD b 0)) (spread 4 8 (λ i. is_odd (b / 2 ^ (7 - i))))) 256 ≡ true
+unfolding spread
 test_pushed = refl
 
-pub pushed_entry : (b e : ℕ) → b < 256 → e ≡ get_or SPREAD b 0 → pushed e ≡ pairs 8 (λ i. is_odd (b / 2 ^ (7 - i)))
-pushed_entry b e eight is = ap pushed is ∙ eqb-true _ _ (each_below-true (λ b. eqb (pushed (get_or SPREAD b 0)) (pairs 8 (λ i. is_odd (b / 2 ^ (7 - i))))) 256 b test_pushed eight)
+pub pushed_entry : (b e : ℕ) → b < 256 → e ≡ get_or SPREAD b 0 → pushed e ≡ spread 4 8 (λ i. is_odd (b / 2 ^ (7 - i)))
+pushed_entry b e eight is = ap pushed is ∙ eqb-true _ _ (each_below-true (λ b. eqb (pushed (get_or SPREAD b 0)) (spread 4 8 (λ i. is_odd (b / 2 ^ (7 - i))))) 256 b test_pushed eight)
 
-pub pairs-lt : (k : ℕ) (f : ℕ → Bool) → 3 * pairs k f < 4 ^ k
-unfolding pairs
+pub pairs-lt : (k : ℕ) (f : ℕ → Bool) → 3 * spread 4 k f < 4 ^ k
+unfolding spread
 pairs-lt zero f = omega arith
 pairs-lt (suc k) f = omega (arith, digit_value_le (f 0), pairs-lt k (λ i. f (suc i)), pow-suc 4 k)
-
-pairs_same : (k : ℕ) (f g : ℕ → Bool) → ((i : ℕ) → i < k → f i ≡ g i) → pairs k f ≡ pairs k g
-unfolding pairs
-pairs_same zero f g same = refl
-pairs_same (suc k) f g same =
-    ap (λ d. digit_value d + 4 * pairs k (λ i. f (suc i))) (same 0 (omega arith))
-    ∙ ap (λ n. digit_value (g 0) + 4 * n) (pairs_same k (λ i. f (suc i)) (λ i. g (suc i)) (λ i here. same (suc i) (omega arith)))
-
-pairs-add : (m k : ℕ) (f g : ℕ → Bool) → ((i : ℕ) → i < k → f (m + i) ≡ g i) → pairs (m + k) f ≡ pairs m f + 4 ^ m * pairs k g
-unfolding pairs
-pairs-add zero k f g same =
-    let none : zero + k ≡ k = omega arith in
-    ap (λ n. pairs n f) none
-    ∙ pairs_same k f g (λ i here. let first : i ≡ zero + i = omega arith in ap f first ∙ same i here)
-    ∙ omega arith
-pairs-add (suc m) k f g same =
-    let more : suc m + k ≡ suc (m + k) = omega arith in
-    let rest : pairs (m + k) (λ i. f (suc i)) ≡ pairs m (λ i. f (suc i)) + 4 ^ m * pairs k g =
-    pairs-add m k (λ i. f (suc i)) g (λ i here. let place : suc (m + i) ≡ suc m + i = omega arith in ap f place ∙ same i here) in
-    ap (λ n. pairs n f) more
-    ∙ ap (λ n. digit_value (f 0) + 4 * n) rest
-    ∙ omega (arith, ap (λ p. p * pairs k g) (pow-suc 4 m))
-
--- of the top two bytes of a word
-pub pairs_of_bytes : (word prefix back : ℕ) → word < 2 ^ 64 → prefix ≡ pairs 8 (λ i. is_odd (word / 2 ^ 56 / 2 ^ (7 - i))) → back ≡ pairs 8 (λ i. is_odd (word / 2 ^ 48 % 2 ^ 8 / 2 ^ (7 - i)))
-    → prefix + 2 ^ 16 * back ≡ pairs 16 (top_digit word)
-pairs_of_bytes word prefix back small is_prefix is_back =
-    let high : prefix ≡ pairs 8 (top_digit word) =
-    is_prefix
-    ∙ pairs_same 8 (λ i. is_odd (word / 2 ^ 56 / 2 ^ (7 - i))) (top_digit word)
-    (λ i here. let place : 56 + (7 - i) ≡ 63 - i = omega arith in ap is_odd (shr-shr word 56 (7 - i)) ∙ ap (λ n. is_odd (word / 2 ^ n)) place) in
-    let both : pairs 16 (top_digit word) ≡ pairs 8 (top_digit word) + 4 ^ 8 * pairs 8 (λ i. is_odd (word / 2 ^ 48 % 2 ^ 8 / 2 ^ (7 - i))) =
-    pairs-add 8 8 (top_digit word) (λ i. is_odd (word / 2 ^ 48 % 2 ^ 8 / 2 ^ (7 - i)))
-    (λ i here.
-    let place : 63 - (8 + i) ≡ 48 + (7 - i) = omega arith in
-    ap (λ n. is_odd (word / 2 ^ n)) place ∙ ap is_odd (sym (shr-shr word 48 (7 - i))) ∙ sym (odd_low (word / 2 ^ 48) 8 (7 - i) (omega arith))) in
-    omega (arith, high, is_back, both)
 
 -- ---- how many there are
 

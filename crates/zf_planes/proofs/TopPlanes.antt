@@ -1,5 +1,6 @@
 -- The top planes of words: some and those below them, planes of fewer digits, and sixteen planes of four words as a string.
 use Rattle.std.proofs.Common.{◌≡◌, ℕ, zero, suc, ◌+◌, ◌-◌, ◌*◌, ◌/◌, ◌%◌, ◌^◌, ◌<◌, ◌≤◌, min, Bool, true, false, eqb, List, [], ◌∷◌, ◌++◌, length, map, take, drop, get_or, get_or-take, replicate, ⊎_elim, take-take, refl, sym, ap, ◌∙◌, arith, pow-suc, length-drop}
+use Rattle.std.proofs.Math.Nat.{pow-zero}
 use Rattle.std.proofs.lemmas.Bool.{eqb-true, cases_lt}
 use Rattle.std.proofs.lemmas.Nat.{shl-shr, shr-shr}
 use Rattle.std.proofs.lemmas.List.{length-map, get_or-map, map-append, get_or-drop, length-take, take_at, take-append-drop, append-nil, length-replicate}
@@ -112,64 +113,71 @@ planes-from w p z words small within few =
     ∙ map_each (λ word. get_or (field w word) j false) (λ word. top_digit word (m + i)) words (λ word. get_or-field w word j false (omega arith) ∙ ap (λ n. is_odd (word / 2 ^ n)) place)
     ∙ plane-below words m i (omega arith)))
 
--- ---- digits four bits apart
+-- ---- digits apart
 
-spread_same : (k : ℕ) (f g : ℕ → Bool) → ((i : ℕ) → i < k → f i ≡ g i) → spread k f ≡ spread k g
+spread_same : (b k : ℕ) (f g : ℕ → Bool) → ((i : ℕ) → i < k → f i ≡ g i) → spread b k f ≡ spread b k g
 unfolding spread
-spread_same zero f g same = refl
-spread_same (suc k) f g same =
-    ap (λ d. digit_value d + 16 * spread k (λ i. f (suc i))) (same 0 (omega arith))
-    ∙ ap (λ n. digit_value (g 0) + 16 * n) (spread_same k (λ i. f (suc i)) (λ i. g (suc i)) (λ i here. same (suc i) (omega arith)))
+spread_same b zero f g same = refl
+spread_same b (suc k) f g same =
+    ap (λ d. digit_value d + b * spread b k (λ i. f (suc i))) (same 0 (omega arith))
+    ∙ ap (λ n. digit_value (g 0) + b * n) (spread_same b k (λ i. f (suc i)) (λ i. g (suc i)) (λ i here. same (suc i) (omega arith)))
 
 -- some digits and those behind them
-spread-add : (m k : ℕ) (f g : ℕ → Bool) → ((i : ℕ) → i < k → f (m + i) ≡ g i) → spread (m + k) f ≡ spread m f + 16 ^ m * spread k g
+spread-add : (b m k : ℕ) (f g : ℕ → Bool) → ((i : ℕ) → i < k → f (m + i) ≡ g i) → spread b (m + k) f ≡ spread b m f + b ^ m * spread b k g
 unfolding spread
-spread-add zero k f g same =
+spread-add b zero k f g same =
     let none : zero + k ≡ k = omega arith in
-    ap (λ n. spread n f) none
-    ∙ spread_same k f g (λ i here. let first : i ≡ zero + i = omega arith in ap f first ∙ same i here)
-    ∙ omega arith
-spread-add (suc m) k f g same =
+    ap (λ n. spread b n f) none
+    ∙ spread_same b k f g (λ i here. let first : i ≡ zero + i = omega arith in ap f first ∙ same i here)
+    ∙ omega (arith, ap (λ p. p * spread b k g) (pow-zero b))
+spread-add b (suc m) k f g same =
     let more : suc m + k ≡ suc (m + k) = omega arith in
-    let rest : spread (m + k) (λ i. f (suc i)) ≡ spread m (λ i. f (suc i)) + 16 ^ m * spread k g =
-    spread-add m k (λ i. f (suc i)) g (λ i here. let place : suc (m + i) ≡ suc m + i = omega arith in ap f place ∙ same i here) in
-    ap (λ n. spread n f) more
-    ∙ ap (λ n. digit_value (f 0) + 16 * n) rest
-    ∙ omega (arith, ap (λ p. p * spread k g) (pow-suc 16 m))
+    let rest : spread b (m + k) (λ i. f (suc i)) ≡ spread b m (λ i. f (suc i)) + b ^ m * spread b k g =
+    spread-add b m k (λ i. f (suc i)) g (λ i here. let place : suc (m + i) ≡ suc m + i = omega arith in ap f place ∙ same i here) in
+    ap (λ n. spread b n f) more
+    ∙ ap (λ n. digit_value (f 0) + b * n) rest
+    ∙ omega (arith, ap (λ p. p * spread b k g) (pow-suc b m))
 
-pub spread-lt : (k : ℕ) (f : ℕ → Bool) → 15 * spread k f < 16 ^ k
+pub spread-lt : (k : ℕ) (f : ℕ → Bool) → 15 * spread 16 k f < 16 ^ k
 unfolding spread
 spread-lt zero f = omega arith
 spread-lt (suc k) f = omega (arith, digit_value_le (f 0), spread-lt k (λ i. f (suc i)), pow-suc 16 k)
 
--- ---- the table, by computation
-
-test_spread : each_below (λ b. eqb (get_or SPREAD b 0) (spread 8 (λ i. is_odd (b / 2 ^ (7 - i))))) 256 ≡ true
-unfolding spread
-test_spread = refl
-
-spread_of_entry : (b e : ℕ) → b < 256 → e ≡ get_or SPREAD b 0 → e ≡ spread 8 (λ i. is_odd (b / 2 ^ (7 - i)))
-spread_of_entry b e eight is = is ∙ eqb-true _ _ (each_below-true (λ b. eqb (get_or SPREAD b 0) (spread 8 (λ i. is_odd (b / 2 ^ (7 - i))))) 256 b test_spread eight)
-
--- the entries of the top two bytes of a word
-pub spread_of_entries : (word prefix back : ℕ) → word < 2 ^ 64 → prefix ≡ get_or SPREAD (word / 2 ^ 56) 0 → back ≡ get_or SPREAD (word / 2 ^ 48 % 2 ^ 8) 0
-    → prefix + 2 ^ 32 * back ≡ spread 16 (top_digit word)
-spread_of_entries word prefix back small is_prefix is_back =
-    let high : prefix ≡ spread 8 (top_digit word) =
-    spread_of_entry (word / 2 ^ 56) prefix (omega arith) is_prefix
-    ∙ spread_same 8 (λ i. is_odd (word / 2 ^ 56 / 2 ^ (7 - i))) (top_digit word)
+-- of the top two bytes of a word
+pub spread_of_bytes : (b word prefix back : ℕ) → word < 2 ^ 64 → prefix ≡ spread b 8 (λ i. is_odd (word / 2 ^ 56 / 2 ^ (7 - i))) → back ≡ spread b 8 (λ i. is_odd (word / 2 ^ 48 % 2 ^ 8 / 2 ^ (7 - i)))
+    → prefix + b ^ 8 * back ≡ spread b 16 (top_digit word)
+spread_of_bytes b word prefix back small is_prefix is_back =
+    let high : prefix ≡ spread b 8 (top_digit word) =
+    is_prefix
+    ∙ spread_same b 8 (λ i. is_odd (word / 2 ^ 56 / 2 ^ (7 - i))) (top_digit word)
     (λ i here. let place : 56 + (7 - i) ≡ 63 - i = omega arith in ap is_odd (shr-shr word 56 (7 - i)) ∙ ap (λ n. is_odd (word / 2 ^ n)) place) in
-    let low = spread_of_entry (word / 2 ^ 48 % 2 ^ 8) back (omega arith) is_back in
-    let both : spread 16 (top_digit word) ≡ spread 8 (top_digit word) + 16 ^ 8 * spread 8 (λ i. is_odd (word / 2 ^ 48 % 2 ^ 8 / 2 ^ (7 - i))) =
-    spread-add 8 8 (top_digit word) (λ i. is_odd (word / 2 ^ 48 % 2 ^ 8 / 2 ^ (7 - i)))
+    let both : spread b 16 (top_digit word) ≡ spread b 8 (top_digit word) + b ^ 8 * spread b 8 (λ i. is_odd (word / 2 ^ 48 % 2 ^ 8 / 2 ^ (7 - i))) =
+    spread-add b 8 8 (top_digit word) (λ i. is_odd (word / 2 ^ 48 % 2 ^ 8 / 2 ^ (7 - i)))
     (λ i here.
     let place : 63 - (8 + i) ≡ 48 + (7 - i) = omega arith in
     ap (λ n. is_odd (word / 2 ^ n)) place ∙ ap is_odd (sym (shr-shr word 48 (7 - i))) ∙ sym (odd_low (word / 2 ^ 48) 8 (7 - i) (omega arith))) in
-    omega (arith, high, low, both)
+    ap (λ n. n + b ^ 8 * back) high ∙ ap (λ n. spread b 8 (top_digit word) + b ^ 8 * n) is_back ∙ sym both
+
+-- ---- the table, by computation
+
+test_spread : each_below (λ b. eqb (get_or SPREAD b 0) (spread 16 8 (λ i. is_odd (b / 2 ^ (7 - i))))) 256 ≡ true
+unfolding spread
+test_spread = refl
+
+spread_of_entry : (b e : ℕ) → b < 256 → e ≡ get_or SPREAD b 0 → e ≡ spread 16 8 (λ i. is_odd (b / 2 ^ (7 - i)))
+spread_of_entry b e eight is = is ∙ eqb-true _ _ (each_below-true (λ b. eqb (get_or SPREAD b 0) (spread 16 8 (λ i. is_odd (b / 2 ^ (7 - i))))) 256 b test_spread eight)
+
+-- the entries of the top two bytes of a word
+pub spread_of_entries : (word prefix back : ℕ) → word < 2 ^ 64 → prefix ≡ get_or SPREAD (word / 2 ^ 56) 0 → back ≡ get_or SPREAD (word / 2 ^ 48 % 2 ^ 8) 0
+    → prefix + 2 ^ 32 * back ≡ spread 16 16 (top_digit word)
+spread_of_entries word prefix back small is_prefix is_back =
+    let first = spread_of_entry (word / 2 ^ 56) prefix (omega arith) is_prefix in
+    let second = spread_of_entry (word / 2 ^ 48 % 2 ^ 8) back (omega arith) is_back in
+    spread_of_bytes 16 word prefix back small first second
 
 -- ---- four words as a string
 
-spread-next : (k : ℕ) (f : ℕ → Bool) → spread (suc k) f ≡ digit_value (f 0) + 16 * spread k (λ i. f (suc i))
+spread-next : (k : ℕ) (f : ℕ → Bool) → spread 16 (suc k) f ≡ digit_value (f 0) + 16 * spread 16 k (λ i. f (suc i))
 unfolding spread
 spread-next k f = refl
 
@@ -181,23 +189,23 @@ fours-next k v ds r four is small =
     ap (λ (bs : List Bool). bs ∷ string_planes k (v / 16)) (sym (field-mod 4 v) ∙ ap (field 4) low ∙ field-number 4 ds four)
     ∙ ap (λ n. ds ∷ string_planes k n) high
 
-string-is : (k : ℕ) (f g h e : ℕ → Bool) → string_planes k (spread k f + 2 * spread k g + 4 * spread k h + 8 * spread k e) ≡ map (λ i. f i ∷ g i ∷ h i ∷ e i ∷ []) (upto k)
+string-is : (k : ℕ) (f g h e : ℕ → Bool) → string_planes k (spread 16 k f + 2 * spread 16 k g + 4 * spread 16 k h + 8 * spread 16 k e) ≡ map (λ i. f i ∷ g i ∷ h i ∷ e i ∷ []) (upto k)
 unfolding string_planes
 string-is zero f g h e = refl
 string-is (suc k) f g h e =
     let next = λ (d : ℕ → Bool) (i : ℕ). d (suc i) in
     let row : ℕ → List Bool = λ i. f i ∷ g i ∷ h i ∷ e i ∷ [] in
     let row' : ℕ → List Bool = λ i. f (suc i) ∷ g (suc i) ∷ h (suc i) ∷ e (suc i) ∷ [] in
-    let r = spread k (next f) + 2 * spread k (next g) + 4 * spread k (next h) + 8 * spread k (next e) in
+    let r = spread 16 k (next f) + 2 * spread 16 k (next g) + 4 * spread 16 k (next h) + 8 * spread 16 k (next e) in
     let small : number (row 0) < 16 = omega (arith, digit_value_le (f 0), digit_value_le (g 0), digit_value_le (h 0), digit_value_le (e 0)) in
-    let sum : spread (suc k) f + 2 * spread (suc k) g + 4 * spread (suc k) h + 8 * spread (suc k) e ≡ number (row 0) + 16 * r =
+    let sum : spread 16 (suc k) f + 2 * spread 16 (suc k) g + 4 * spread 16 (suc k) h + 8 * spread 16 (suc k) e ≡ number (row 0) + 16 * r =
     omega (arith, spread-next k f, spread-next k g, spread-next k h, spread-next k e) in
     fours-next k _ (row 0) r refl sum small
     ∙ ap (λ (ps : List (List Bool)). row 0 ∷ ps) (string-is k (next f) (next g) (next h) (next e))
     ∙ ap (λ (ps : List (List Bool)). row 0 ∷ ps) (map-from row row' 1 k [] (λ i here. let place : 1 + i ≡ suc i = omega arith in ap row place))
 
 pub string_of_words : (k : ℕ) (words : List ℕ) → length words ≡ 4
-    → string_planes k (spread k (top_digit (get_or words 0 0)) + 2 * spread k (top_digit (get_or words 1 0)) + 4 * spread k (top_digit (get_or words 2 0)) + 8 * spread k (top_digit (get_or words 3 0))) ≡ top_planes k words
+    → string_planes k (spread 16 k (top_digit (get_or words 0 0)) + 2 * spread 16 k (top_digit (get_or words 1 0)) + 4 * spread 16 k (top_digit (get_or words 2 0)) + 8 * spread 16 k (top_digit (get_or words 3 0))) ≡ top_planes k words
 unfolding top_planes
 string_of_words k words four =
     string-is k (top_digit (get_or words 0 0)) (top_digit (get_or words 1 0)) (top_digit (get_or words 2 0)) (top_digit (get_or words 3 0))

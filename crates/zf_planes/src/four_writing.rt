@@ -6,7 +6,7 @@ ghost use Rattle.zf_spec.specs.Grid.{upto};
 ghost use Rattle.zf_spec.specs.Planes.{planes_of, plane_code, code, code_from, reach, reach_of_all};
 ghost use Rattle.zf_bits.specs.Writer.{Appends};
 ghost use Rattle.zf_planes.specs.Fours.{string_planes, IsAsGood};
-ghost use Rattle.zf_planes.specs.Spread.{top_digit, top_planes, spread, pairs, lone_planes, lone_code};
+ghost use Rattle.zf_planes.specs.Spread.{top_digit, top_planes, spread, lone_planes, lone_code};
 
 use crate::doubling::{Part, join, write_part};
 use crate::four::{PlanesCode, code_of_4};
@@ -17,7 +17,7 @@ use zf_bits::BitWriter;
 /// The top sixteen digits of a word four bits apart, the greatest one lowest.
 #[inline(always)]
 fn spread_top(word: u64) -> u64
-    ensures digits { result ≡ spread 16 (top_digit word) }
+    ensures digits { result ≡ spread 16 16 (top_digit word) }
     ensures small { result ≤ 1229782938247303441 }
 {
     let prefix = spread_entry(word >> 56);
@@ -40,7 +40,7 @@ fn string_of(words: &[u64; 4]) -> u64
 #[inline(always)]
 fn pairs_of_byte(byte: u64) -> u64
     requires byte { byte < 256 }
-    ensures digits { result ≡ pairs 8 (λ i. is_odd (byte / 2 ^ (7 - i))) }
+    ensures digits { result ≡ spread 4 8 (λ i. is_odd (byte / 2 ^ (7 - i))) }
     ensures small { result ≤ 21845 }
 {
     let four_apart = u64::from(spread_entry(byte));
@@ -52,7 +52,7 @@ fn pairs_of_byte(byte: u64) -> u64
 /// The top sixteen digits of a word two bits apart, the greatest one lowest.
 #[inline(always)]
 fn pairs_of_top(word: u64) -> u64
-    ensures digits { result ≡ pairs 16 (top_digit word) }
+    ensures digits { result ≡ spread 4 16 (top_digit word) }
     ensures small { result < 4294967296 }
 {
     pairs_of_byte(word >> 56) + (pairs_of_byte((word >> 48) % 256) << 16)
