@@ -119,6 +119,18 @@ first_there ns w k q b p sizes lies is at =
     let numbers : used_axes (length ns) q ≡ ms = ap (used_axes (length ns)) is ∙ ap (λ n. used_axes n (with_unused 0 ms)) (sym long) ∙ used_axes-with_unused 0 ms (omega (arith, long, sizes.four_at_most)) in
     subst (λ ps. IsAt ns ps b p) numbers at
 
+-- a block has 256 places at most
+pub place_small : (ns : List ℕ) (b p : ℕ) (ps : List ℕ) → IsShape ns → IsAt ns ps b p → p < 256
+place_small ns b p ps sizes at = by (length ns) sizes.four_at_most at.place_in_block
+  where
+    by : (d : ℕ) → d ≤ 4 → p < 4 ^ d → p < 256
+    by zero four lt = omega arith
+    by (suc zero) four lt = omega arith
+    by (suc (suc zero)) four lt = omega arith
+    by (suc (suc (suc zero))) four lt = omega arith
+    by (suc (suc (suc (suc zero)))) four lt = omega arith
+    by (suc (suc (suc (suc (suc d))))) four lt = absurd (omega arith)
+
 -- the positions that follow the one of a walk
 module _ (ns : List ℕ) (w : Window) (here : Pos) (k n : ℕ) (sizes : IsShape ns) (lies : LiesIn ns w) (here_is : here ≡ numbered w k) (below : k < product w.size) (count : n ≡ side_count w here) where
   pub sided : IsSide ns w k n
@@ -134,4 +146,3 @@ module _ (ns : List ℕ) (w : Window) (here : Pos) (k n : ℕ) (sizes : IsShape 
 
     pub along_inside : IsPosition w.size (record { x = here.x + i; y = here.y; z = here.z; w = here.w })
     along_inside = subst (IsPosition w.size) (sym along_is) (sided.inside i lt)
-

@@ -33,7 +33,7 @@ overflow_sub-last c =
     let ns = c.args.shape.now in
     let lies = subst (λ (x : Walking). LiesIn ns x.window) (sym c.self.view_is) c.requires.lies in
     let below = subst (λ (x : Walking). x.next < product x.window.size) (sym c.self.view_is) c.requires.inside in
-    let side = sided ns s.window s.here s.next c.beside-count.result c.dims-_dims.ensures.shape lies c.self.invariant.here_is below c.beside-count.ensures.value in
+    let side = sided ns s.window s.here s.next c.beside-count.result c.dims-dims.ensures.shape lies c.self.invariant.here_is below c.beside-count.ensures.value in
     omega (arith, side.some)
 
 pub after-self-inside-requires : goal.after-self-inside-requires
@@ -43,8 +43,8 @@ after-self-inside-requires c =
     let lies = subst (λ (x : Walking). LiesIn ns x.window) (sym c.self.view_is) c.requires.lies in
     let below = subst (λ (x : Walking). x.next < product x.window.size) (sym c.self.view_is) c.requires.inside in
     let n = c.beside-count.result in
-    let side = sided ns s.window s.here s.next n c.dims-_dims.ensures.shape lies c.self.invariant.here_is below c.beside-count.ensures.value in
-    along_inside ns s.window s.here s.next n c.dims-_dims.ensures.shape lies c.self.invariant.here_is below c.beside-count.ensures.value (n - 1) (omega (arith, side.some))
+    let side = sided ns s.window s.here s.next n c.dims-dims.ensures.shape lies c.self.invariant.here_is below c.beside-count.ensures.value in
+    along_inside ns s.window s.here s.next n c.dims-dims.ensures.shape lies c.self.invariant.here_is below c.beside-count.ensures.value (n - 1) (omega (arith, side.some))
 
 pub invariant_of-self : goal.invariant_of-self
 invariant_of-self c =
@@ -53,8 +53,8 @@ invariant_of-self c =
     let lies = subst (λ (x : Walking). LiesIn ns x.window) (sym c.self.view_is) c.requires.lies in
     let below = subst (λ (x : Walking). x.next < product x.window.size) (sym c.self.view_is) c.requires.inside in
     let n = c.beside-count.result in
-    let side = sided ns s.window s.here s.next n c.dims-_dims.ensures.shape lies c.self.invariant.here_is below c.beside-count.ensures.value in
-    let last = along_is ns s.window s.here s.next n c.dims-_dims.ensures.shape lies c.self.invariant.here_is below c.beside-count.ensures.value (n - 1) (omega (arith, side.some)) in
+    let side = sided ns s.window s.here s.next n c.dims-dims.ensures.shape lies c.self.invariant.here_is below c.beside-count.ensures.value in
+    let last = along_is ns s.window s.here s.next n c.dims-dims.ensures.shape lies c.self.invariant.here_is below c.beside-count.ensures.value (n - 1) (omega (arith, side.some)) in
     let same : s.next + (n - 1) + 1 ≡ s.next + n = omega (arith, side.some) in
     record {
       four_axes_at_most = c.self.invariant.four_axes_at_most;
@@ -70,6 +70,15 @@ returns-clause-run c =
     let n = c.beside-count.result in
     let b = c.place-block.result.0 in
     let p = c.place-block.result.1 in
-    let side = sided ns s.window s.here s.next n c.dims-_dims.ensures.shape lies c.self.invariant.here_is below c.beside-count.ensures.value in
-    let first = first_there ns s.window s.next c.map.result b p c.dims-_dims.ensures.shape lies (c.map.ensures ∙ walk_position s.window s.here s.next c.self.invariant below) c.place-block.ensures.at in
+    let side = sided ns s.window s.here s.next n c.dims-dims.ensures.shape lies c.self.invariant.here_is below c.beside-count.ensures.value in
+    let first = first_there ns s.window s.next c.map.result b p c.dims-dims.ensures.shape lies (c.map.ensures ∙ walk_position s.window s.here s.next c.self.invariant below) c.place-block.ensures.at in
     subst (λ (x : Walking). IsRun ns x.window x.next (record { block = b; place = p; count = n })) c.self.view_is (record { some = side.some; beside = side.there b p first })
+
+pub overflow_add-self : goal.overflow_add-self
+overflow_add-self c =
+    let s = c.self.inside in
+    let ns = c.args.shape.now in
+    let lies = subst (λ (x : Walking). LiesIn ns x.window) (sym c.self.view_is) c.requires.lies in
+    let below = subst (λ (x : Walking). x.next < product x.window.size) (sym c.self.view_is) c.requires.inside in
+    let most = few ns s.window s.here s.next c.beside-count.result c.dims-dims.ensures.shape lies c.self.invariant.here_is below c.beside-count.ensures.value in
+    omega (arith, most.0, below, c.beside-count.ensures.bound)
