@@ -8,13 +8,13 @@ use Rattle.zf_run.proofs.pairs.PairTarget.value_at.Goals as goal
 
 pub get-requires : goal.get-requires
 get-requires g c =
-    let s = c.args.self.now.store.now in let w = g.T.Lane.width in let st = c.header.ensures.whole in let at = c.requires.at in
+    let s = c.args.self.now.store.now in let w = g.T.Lane.width in let st = c.header-header.ensures.whole in let at = c.requires.at in
     (lit< tt, (record { fits = c.requires.sound; blocks = two_blocks w g.row.D s st; below = two_below w g.row.D s st c.args.b at.block_in_array }, subst (λ n. c.args.place < 4 ^ n) st.dims at.place_in_block))
 
 pub returns-clause-touched : goal.returns-clause-touched
 returns-clause-touched g c =
     let s = c.args.self.now.store.now in let t = c.get.new.back in let head = ap (λ (q : Frame). q.header) c.get.ensures.step.kept in record {
-      does = touched_two g.T.Lane.width s c.header.ensures.whole.same_type g.T.Lane.value c.args.self.now.cache.now c.args.self.now.window t c.get.new.self head c.args.b c.get.ensures.step.state;
+      does = touched_two g.T.Lane.width s c.header-header.ensures.whole.same_type g.T.Lane.value c.args.self.now.cache.now c.args.self.now.window t c.get.new.self head c.args.b c.get.ensures.step.state;
       sound = c.get.ensures.step.fits;
       kept = same_pair _ _ s t head;
     }
