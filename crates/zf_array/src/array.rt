@@ -1,12 +1,13 @@
 //! The array.
 
-ghost use Rattle.std.specs.Prelude.{◌≡◌, ℤ, List, ◌+◌, ◌<◌, ◌≤◌, ◌^◌, length, map, pos, slice_index_or, slice_set, replicate, true, false, IfOk, IfErr, OnOk, OnErr, ◌+ℤ◌};
+ghost use Rattle.std.specs.Prelude.{◌≡◌, ℕ, ℤ, List, ◌+◌, ◌<◌, ◌≤◌, ◌^◌, length, map, pos, slice_index_or, slice_set, replicate, true, false, IfOk, IfErr, OnOk, OnErr, ◌+ℤ◌};
 ghost use Rattle.std.specs.List.{flat_map};
 ghost use Rattle.zf_spec.specs.Grid.{blocks};
 ghost use Rattle.zf_spec.specs.Numbers.{wrap, word_bits};
 ghost use Rattle.zf_spec.specs.Stream.{with_fill};
 ghost use Rattle.std.specs.Borrow.{sem};
 ghost use Rattle.zf_base.specs.Formats.{existing_of, meant, encoded, with_at};
+ghost use Rattle.zf_base.specs.Places.{IsAt};
 ghost use Rattle.zf_base.specs.Positions.{IsPosition};
 ghost use Rattle.zf_base.specs.Widths.{width_of};
 ghost use Rattle.zf_header.specs.HeaderBits.{IsRate, block_bits};
@@ -130,6 +131,17 @@ impl<T: Lane, const D: usize> Array<T, D> {
         ensures header { self.new.header ≡ self.old.header }
     {
         let (b, place) = self.store.header().shape.place_in::<D>(p);
+        self.cache.get(&mut self.store, b, place)
+    }
+
+    /// The value at place `place` of block `b`, by one touch. It is the place of a position of the array.
+    #[inline]
+    pub fn value_at(&mut self, b: u64, place: usize) -> T
+        requires { (ps : List ℕ) × IsAt (shape self.old) ps b place }
+        ensures state { state self.new ≡ touch (format self.old) (state self.old) b }
+        ensures value { T.value result ≡ slice_index_or ((state self.new).values b) place (pos 0) }
+        ensures header { self.new.header ≡ self.old.header }
+    {
         self.cache.get(&mut self.store, b, place)
     }
 

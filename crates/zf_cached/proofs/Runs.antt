@@ -10,14 +10,14 @@ use Rattle.zf_cached.specs.Arrays.{array_format}
 use Rattle.zf_cached.specs.Commands.{Command}
 use Rattle.zf_cached.specs.Replies.{Refusal, Reply}
 use Rattle.zf_cached.specs.Grammar.{read_line}
-use Rattle.zf_cached.specs.Steps.{Setting, Session, joined, format_of, refuses_split, refuses_size, refuses_range, refuses_value, takes_memory, refusal, step}
+use Rattle.zf_cached.specs.Steps.{Setting, Session, joined, format_of, refuses_split, tests, first_refusal, refusal, step}
 use Rattle.zf_cached.specs.Consistency.{every, IsConsistent, IsCached, IsEmpty, IsSound}
 use Rattle.zf_cached.specs.Runs.{lines_of, read_step, line_step, run_lines, run_script, ended, run, array_setting}
 use Rattle.zf_cached.proofs.Placed.{flush-consistent, flush-empty}
 use Rattle.zf_cached.proofs.Windows.{LiesIn-whole}
 use Rattle.zf_cached.proofs.Arrays.{meant-zeros}
 use Rattle.zf_cached.proofs.ReadLines.{read_line-Some}
-use Rattle.zf_cached.proofs.Sessions.{first_refusal, step_by, step-sound, joined-sound}
+use Rattle.zf_cached.proofs.Sessions.{step_by, step-sound, joined-sound}
 use Rattle.zf_cached.specs.Placing.{Line, IsPlacing, direct}
 
 -- lines, and then more lines
@@ -48,9 +48,9 @@ refusal_memory false false true v t m e = absurd (cc)
 refusal_memory false true b v t m e = absurd (cc)
 refusal_memory true a b v t m e = absurd (cc)
 
-pub refusal-memory : {Code : Type 0} (setting : Setting Code) (s : Session Code) (c : Command) (starving : Bool) → refusal setting s c starving ≡ Some Refusal.memory → (takes_memory c ≡ true) × (starving ≡ true) × (refusal setting s c false ≡ None)
+pub refusal-memory : {Code : Type 0} (setting : Setting Code) (s : Session Code) (c : Command) (starving : Bool) → refusal setting s c starving ≡ Some Refusal.memory → ((tests setting s c).memory ≡ true) × (starving ≡ true) × (refusal setting s c false ≡ None)
 unfolding refusal
-refusal-memory setting s c starving e = refusal_memory (refuses_split s c) (refuses_size setting s c) (refuses_range s c) (refuses_value setting.width c) (takes_memory c) starving e
+refusal-memory setting s c starving e = refusal_memory (refuses_split s c) (tests setting s c).size (tests setting s c).range (tests setting s c).value (tests setting s c).memory starving e
 
 refusal_word : (p a b v m : Bool) → first_refusal p a b v m ≡ Some Refusal.word → ⊥
 refusal_word false false false false true e = cc
@@ -62,7 +62,7 @@ refusal_word true a b v m e = cc
 
 pub refusal-word : {Code : Type 0} (setting : Setting Code) (s : Session Code) (c : Command) (starving : Bool) → refusal setting s c starving ≡ Some Refusal.word → ⊥
 unfolding refusal
-refusal-word setting s c starving e = refusal_word (refuses_split s c) (refuses_size setting s c) (refuses_range s c) (refuses_value setting.width c) (takes_memory c && starving) e
+refusal-word setting s c starving e = refusal_word (refuses_split s c) (tests setting s c).size (tests setting s c).range (tests setting s c).value ((tests setting s c).memory && starving) e
 
 pub array_setting-cached : (w : Width) (budget : ℕ) → IsCached direct (array_setting w budget)
 unfolding array_setting

@@ -20,7 +20,7 @@ use Rattle.zf_cached.specs.Windows.{mapped, whole, has_place, is_window}
 use Rattle.zf_cached.specs.Commands.{Command}
 use Rattle.zf_cached.specs.Replies.{Refusal, Reply}
 use Rattle.zf_cached.specs.Grammar.{is_writable, has_axes, is_number, is_value}
-use Rattle.zf_cached.specs.Steps.{Setting, Session, format_of, touched, changed, changed_at, filled_below, summed, is_split, views_in, views_of, state_of_view, with_view, by_view, at_position, split_into, flushed_views, joined, refuses_split, refuses_size, refuses_range, refuses_value, takes_memory, is_new_shape, has_view, view_has, refusal, done, step}
+use Rattle.zf_cached.specs.Steps.{Setting, Session, format_of, touched, changed, changed_at, filled_below, summed, is_split, views_in, views_of, state_of_view, with_view, by_view, at_position, split_into, flushed_views, joined, refuses_split, is_new_shape, has_view, view_has, tests, first_refusal, refusal, done, step}
 use Rattle.zf_cached.specs.Acts.{Act}
 use Rattle.zf_cached.specs.Views.{View, with_codes, without_codes, acted}
 use Rattle.zf_cached.specs.Splits.{is_owner, opened_view, opened_views, no_view, view_at, coded}
@@ -57,13 +57,8 @@ as_many d ns h = eqb-true (length ns) d (and_parts (eqb (length ns) d) (list_all
 pub record IsTaken {Code : Type 0} (setting : Setting Code) (s : Session Code) (c : Command) : Type 0 where
   pub writable : is_writable (length s.shape) c ≡ true
   pub split : refuses_split s c ≡ false
-  pub size : refuses_size setting s c ≡ false
-  pub range : refuses_range s c ≡ false
-
--- the first test that is not passed
-abbrev pub first_refusal : Bool → Bool → Bool → Bool → Bool → Option Refusal
-first_refusal p a b v m =
-    elim p [ true ↦ Some Refusal.split | false ↦ elim a [ true ↦ Some Refusal.size | false ↦ elim b [ true ↦ Some Refusal.range | false ↦ elim v [ true ↦ Some Refusal.value | false ↦ elim m [ true ↦ Some Refusal.memory | false ↦ None ] ] ] ] ]
+  pub size : (tests setting s c).size ≡ false
+  pub range : (tests setting s c).range ≡ false
 
 refusal_none : (p a b v m : Bool) → first_refusal p a b v m ≡ None → (p ≡ false) × (a ≡ false) × (b ≡ false)
 refusal_none false false false v m e = (refl, refl, refl)
@@ -356,5 +351,5 @@ module _ (line : Line) (may_hold : ℕ → ℕ → ℕ → Type 0) (placing : Is
   pub step-sound : {Code : Type 0} (setting : Setting Code) (s : Session Code) (c : Command) (starving : Bool) → is_writable (length s.shape) c ≡ true → IsCached line setting → IsSound line setting s → IsSound line setting (step setting s c starving).0
   unfolding refusal
   step-sound setting s c starving writable cached h = step_by setting s c starving (λ r. IsSound line setting r.0) (λ why e. h)
-      (λ e. let tests = refusal_none (refuses_split s c) (refuses_size setting s c) (refuses_range s c) (refuses_value setting.width c) (takes_memory c && starving) e in
+      (λ e. let tests = refusal_none (refuses_split s c) (tests setting s c).size (tests setting s c).range (tests setting s c).value ((tests setting s c).memory && starving) e in
       done-sound setting s c (record { writable = writable; split = tests.0; size = tests.1; range = tests.2 }) cached h)

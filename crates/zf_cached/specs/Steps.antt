@@ -14,7 +14,7 @@ use Rattle.zf_cached.specs.Changes.{flush, discard, raised, relined, resized}
 use Rattle.zf_cached.specs.Arrays.{Coding, array_format}
 use Rattle.zf_cached.specs.Windows.{Window, mapped, whole, sliced, has_place, is_window, positions}
 use Rattle.zf_cached.specs.Commands.{Command}
-use Rattle.zf_cached.specs.Kinds.{kind_of, is_of_split}
+use Rattle.zf_cached.specs.Kinds.{Kind, ReadCommand, WindowCommand, WriteCommand, ArrayCommand, ViewCommand, kind_of, is_of_split}
 use Rattle.zf_cached.specs.Replies.{Refusal, Reply}
 use Rattle.zf_cached.specs.Acts.{Act}
 use Rattle.zf_cached.specs.Views.{View, with_codes, without_codes, acted, answered}
@@ -157,15 +157,6 @@ is_new_shape setting s ns = (length ns == length s.shape) && (is_none (shape_fau
 abbrev pub is_line_count : ℕ → Bool
 is_line_count l = nat_lt 0 l && nat_lt l 65537
 
-abbrev pub refuses_size : {Code : Type 0} → Setting Code → Session Code → Command → Bool
-refuses_size setting s (Command.view origin size step) =
-    not (is_window s.shape (record { origin = origin; size = size; step = step }))
-refuses_size setting s (Command.lines l) = not (is_line_count l)
-refuses_size setting s (Command.resize ns) = not (is_new_shape setting s ns)
-refuses_size setting s (Command.split n l) = not (is_view_count (format_of setting s).blocks n &&
-    is_line_count l)
-refuses_size setting s _ = false
-
 -- there is such a view
 abbrev pub has_view : {Code : Type 0} → Session Code → ℕ → Bool
 has_view s i = nat_lt i (length (views_of s))
@@ -175,95 +166,144 @@ abbrev pub view_has : {Code : Type 0} → Session Code → ℕ → List ℕ → 
 view_has s i ps = has_view s i && (is_inside s.shape ps && is_owner (blocks s.shape) (length (views_of s)) i
     (block_number s.shape ps))
 
-abbrev pub refuses_range : {Code : Type 0} → Session Code → Command → Bool
-refuses_range s (Command.get ps) = not (is_inside s.shape ps)
-refuses_range s (Command.set ps v) = not (is_inside s.shape ps)
-refuses_range s (Command.add ps v) = not (is_inside s.shape ps)
-refuses_range s (Command.vget ps) = not (is_inside s.window.size ps)
-refuses_range s (Command.vset ps v) = not (is_inside s.window.size ps)
-refuses_range s (Command.slice axis at) = not (has_place s.window axis at)
-refuses_range s (Command.pget i ps) = not (view_has s i ps)
-refuses_range s (Command.pset i ps v) = not (view_has s i ps)
-refuses_range s (Command.padd i ps v) = not (view_has s i ps)
-refuses_range s (Command.pflush i) = not (has_view s i)
-refuses_range s (Command.pdiscard i) = not (has_view s i)
-refuses_range s (Command.pstats i) = not (has_view s i)
-refuses_range s _ = false
+-- the tests of a command: whether its sizes are refused, its place is out of range, its value is none of the
+-- type; and whether it takes memory
+pub record Tests : Type 0 where
+  pub size : Bool
+  pub range : Bool
+  pub value : Bool
+  pub memory : Bool
 
-abbrev pub refuses_value : Width → Command → Bool
-refuses_value w (Command.set ps v) = not (is_of_type w v)
-refuses_value w (Command.add ps v) = not (is_of_type w v)
-refuses_value w (Command.fill v) = not (is_of_type w v)
-refuses_value w (Command.vset ps v) = not (is_of_type w v)
-refuses_value w (Command.pset i ps v) = not (is_of_type w v)
-refuses_value w (Command.padd i ps v) = not (is_of_type w v)
-refuses_value w _ = false
+-- no test refuses it, and it takes no memory
+abbrev pub passed : Tests
+passed = record { size = false; range = false; value = false; memory = false }
 
--- the commands that take memory
-abbrev pub takes_memory : Command → Bool
-takes_memory (Command.lines l) = true
-takes_memory (Command.resize ns) = true
-takes_memory (Command.split n l) = true
-takes_memory _ = false
+abbrev pub read_tests : {Code : Type 0} → Session Code → ReadCommand → Tests
+read_tests s (ReadCommand.get ps) = record passed { range = not (is_inside s.shape ps) }
+read_tests s ReadCommand.sum = passed
+read_tests s (ReadCommand.lines l) = record passed { size = not (is_line_count l); memory = true }
+read_tests s ReadCommand.stats = passed
 
--- the first of these tests that a command does not pass; whether it is out of memory is given
-unfoldable pub refusal : {Code : Type 0} → Setting Code → Session Code → Command → Bool → Option Refusal
-refusal setting s c starving =
-    elim (refuses_split s c) [
+abbrev pub window_tests : {Code : Type 0} → Session Code → WindowCommand → Tests
+window_tests s (WindowCommand.view origin size step) = record passed
+    { size = not (is_window s.shape (record { origin = origin; size = size; step = step })) }
+window_tests s (WindowCommand.slice axis at) = record passed { range = not (has_place s.window axis at) }
+window_tests s (WindowCommand.get ps) = record passed { range = not (is_inside s.window.size ps) }
+window_tests s WindowCommand.sum = passed
+
+abbrev pub write_tests : {Code : Type 0} → Setting Code → Session Code → WriteCommand → Tests
+write_tests setting s (WriteCommand.set ps v) = record passed
+    { range = not (is_inside s.shape ps); value = not (is_of_type setting.width v) }
+write_tests setting s (WriteCommand.add ps v) = record passed
+    { range = not (is_inside s.shape ps); value = not (is_of_type setting.width v) }
+write_tests setting s (WriteCommand.fill v) = record passed { value = not (is_of_type setting.width v) }
+write_tests setting s WriteCommand.flush = passed
+write_tests setting s WriteCommand.discard = passed
+
+abbrev pub array_tests : {Code : Type 0} → Setting Code → Session Code → ArrayCommand → Tests
+array_tests setting s (ArrayCommand.set ps v) = record passed
+    { range = not (is_inside s.window.size ps); value = not (is_of_type setting.width v) }
+array_tests setting s (ArrayCommand.resize ns) = record passed
+    { size = not (is_new_shape setting s ns); memory = true }
+
+abbrev pub view_tests : {Code : Type 0} → Setting Code → Session Code → ℕ → ViewCommand → Tests
+view_tests setting s i (ViewCommand.get ps) = record passed { range = not (view_has s i ps) }
+view_tests setting s i (ViewCommand.set ps v) = record passed
+    { range = not (view_has s i ps); value = not (is_of_type setting.width v) }
+view_tests setting s i (ViewCommand.add ps v) = record passed
+    { range = not (view_has s i ps); value = not (is_of_type setting.width v) }
+view_tests setting s i ViewCommand.flush = record passed { range = not (has_view s i) }
+view_tests setting s i ViewCommand.discard = record passed { range = not (has_view s i) }
+view_tests setting s i ViewCommand.stats = record passed { range = not (has_view s i) }
+
+abbrev pub tests_of : {Code : Type 0} → Setting Code → Session Code → Kind → Tests
+tests_of setting s (Kind.read c) = read_tests s c
+tests_of setting s (Kind.window c) = window_tests s c
+tests_of setting s (Kind.write c) = write_tests setting s c
+tests_of setting s (Kind.array c) = array_tests setting s c
+tests_of setting s (Kind.split n l) = record passed
+    { size = not (is_view_count (format_of setting s).blocks n && is_line_count l); memory = true }
+tests_of setting s Kind.join = passed
+tests_of setting s (Kind.view i c) = view_tests setting s i c
+
+abbrev pub tests : {Code : Type 0} → Setting Code → Session Code → Command → Tests
+tests setting s c = tests_of setting s (kind_of c)
+
+-- the first test that refuses: of a split, of sizes, of a range, of a value, and whether there is no memory
+abbrev pub first_refusal : Bool → Bool → Bool → Bool → Bool → Option Refusal
+first_refusal split size range value memory =
+    elim split [
       | true ↦ Some Refusal.split
       | false ↦
-          elim (refuses_size setting s c) [
+          elim size [
             | true ↦ Some Refusal.size
             | false ↦
-                elim (refuses_range s c) [
+                elim range [
                   | true ↦ Some Refusal.range
                   | false ↦
-                      elim (refuses_value setting.width c) [
+                      elim value [
                         | true ↦ Some Refusal.value
-                        | false ↦
-                            elim (takes_memory c && starving) [ true ↦ Some Refusal.memory | false ↦ None ]
+                        | false ↦ elim memory [ true ↦ Some Refusal.memory | false ↦ None ]
                       ]
                 ]
           ]
     ]
+
+-- why a command is refused, if it is; whether it is out of memory is given
+unfoldable pub refusal : {Code : Type 0} → Setting Code → Session Code → Command → Bool → Option Refusal
+refusal setting s c starving =
+    let t = tests setting s c in
+    first_refusal (refuses_split s c) t.size t.range t.value (t.memory && starving)
 
 -- ---- commands
 
 abbrev pub counts_reply : Counts → Reply
 counts_reply counts = Reply.counts counts.hits counts.misses counts.writes
 
--- what a command that is not refused does, and its reply, if any
-unfoldable pub done : {Code : Type 0} → Setting Code → Session Code → Command → Session Code × Option Reply
-done setting s (Command.get ps) =
+-- what a command that is not refused does, and its reply, if any, by its kind
+abbrev pub read_done : {Code : Type 0} → Setting Code → Session Code → ReadCommand → Session Code
+    × Option Reply
+read_done setting s (ReadCommand.get ps) =
     let t = touched setting s (block_number s.shape ps) in
     (t, Some (Reply.number (value_there ps (t.state.values (block_number s.shape ps)))))
-done setting s (Command.set ps v) = (changed_at setting s ps (λ old. v), None)
-done setting s (Command.add ps v) = (changed_at setting s ps (λ old. wrap setting.width (old +ℤ v)), None)
-done setting s (Command.fill v) = (filled_below setting s v (upto (format_of setting s).blocks), None)
-done setting s Command.sum =
+read_done setting s ReadCommand.sum =
     let r = summed setting (λ b. b) (λ b values. total values) (upto (format_of setting s).blocks) s in
     (r.0, Some (Reply.number r.1))
-done setting s (Command.view origin size step) = (
-  record s
-      { window = record { origin = origin; size = size; step = step } },
-  None,
-)
-done setting s (Command.slice axis at) = (record s { window = sliced s.window axis at }, None)
-done setting s (Command.vget ps) =
-    let at = mapped s.window ps in
-    let t = touched setting s (block_number s.shape at) in
-    (t, Some (Reply.number (value_there at (t.state.values (block_number s.shape at)))))
-done setting s (Command.vset ps v) = (changed_at setting s (mapped s.window ps) (λ old. v), None)
-done setting s Command.vsum =
-    let r = summed setting (block_number s.shape) value_there (positions s.window) s in
-    (r.0, Some (Reply.number r.1))
-done setting s Command.flush = (record s { state = flush (format_of setting s) s.state }, None)
-done setting s Command.discard = (record s { state = discard (format_of setting s) s.state }, None)
-done setting s (Command.lines l) = (
+read_done setting s (ReadCommand.lines l) = (
   record s { state = relined (format_of setting s) s.state (raised l) },
   None,
 )
-done setting s (Command.resize ns) = (
+read_done setting s ReadCommand.stats = (s, Some (counts_reply s.state.counts))
+
+abbrev pub window_done : {Code : Type 0} → Setting Code → Session Code → WindowCommand → Session Code
+    × Option Reply
+window_done setting s (WindowCommand.view origin size step) = (
+  record s { window = record { origin = origin; size = size; step = step } },
+  None,
+)
+window_done setting s (WindowCommand.slice axis at) = (record s { window = sliced s.window axis at }, None)
+window_done setting s (WindowCommand.get ps) =
+    let at = mapped s.window ps in
+    let t = touched setting s (block_number s.shape at) in
+    (t, Some (Reply.number (value_there at (t.state.values (block_number s.shape at)))))
+window_done setting s WindowCommand.sum =
+    let r = summed setting (block_number s.shape) value_there (positions s.window) s in
+    (r.0, Some (Reply.number r.1))
+
+abbrev pub write_done : {Code : Type 0} → Setting Code → Session Code → WriteCommand → Session Code
+    × Option Reply
+write_done setting s (WriteCommand.set ps v) = (changed_at setting s ps (λ old. v), None)
+write_done setting s (WriteCommand.add ps v) =
+    (changed_at setting s ps (λ old. wrap setting.width (old +ℤ v)), None)
+write_done setting s (WriteCommand.fill v) =
+    (filled_below setting s v (upto (format_of setting s).blocks), None)
+write_done setting s WriteCommand.flush = (record s { state = flush (format_of setting s) s.state }, None)
+write_done setting s WriteCommand.discard = (record s { state = discard (format_of setting s) s.state }, None)
+
+abbrev pub array_done : {Code : Type 0} → Setting Code → Session Code → ArrayCommand → Session Code
+    × Option Reply
+array_done setting s (ArrayCommand.set ps v) = (changed_at setting s (mapped s.window ps) (λ old. v), None)
+array_done setting s (ArrayCommand.resize ns) = (
   record s {
     shape = ns;
     state = resized (array_format setting.coding ns) setting.coding.zero s.state;
@@ -271,15 +311,29 @@ done setting s (Command.resize ns) = (
   },
   None,
 )
-done setting s Command.stats = (s, Some (counts_reply s.state.counts))
-done setting s (Command.split n l) = (split_into setting s n (raised l), None)
-done setting s Command.join = (joined setting s, None)
-done setting s (Command.pget i ps) = by_view setting s i (at_position s Act.get ps)
-done setting s (Command.pset i ps v) = by_view setting s i (at_position s (λ b p. Act.set b p v) ps)
-done setting s (Command.padd i ps v) = by_view setting s i (at_position s (λ b p. Act.add b p v) ps)
-done setting s (Command.pflush i) = by_view setting s i Act.flush
-done setting s (Command.pdiscard i) = by_view setting s i Act.discard
-done setting s (Command.pstats i) = (s, Some (counts_reply (view_at (views_of s) i).counts))
+
+abbrev pub view_done : {Code : Type 0} → Setting Code → Session Code → ℕ → ViewCommand → Session Code
+    × Option Reply
+view_done setting s i (ViewCommand.get ps) = by_view setting s i (at_position s Act.get ps)
+view_done setting s i (ViewCommand.set ps v) =
+    by_view setting s i (at_position s (λ b p. Act.set b p v) ps)
+view_done setting s i (ViewCommand.add ps v) =
+    by_view setting s i (at_position s (λ b p. Act.add b p v) ps)
+view_done setting s i ViewCommand.flush = by_view setting s i Act.flush
+view_done setting s i ViewCommand.discard = by_view setting s i Act.discard
+view_done setting s i ViewCommand.stats = (s, Some (counts_reply (view_at (views_of s) i).counts))
+
+abbrev pub done_of : {Code : Type 0} → Setting Code → Session Code → Kind → Session Code × Option Reply
+done_of setting s (Kind.read c) = read_done setting s c
+done_of setting s (Kind.window c) = window_done setting s c
+done_of setting s (Kind.write c) = write_done setting s c
+done_of setting s (Kind.array c) = array_done setting s c
+done_of setting s (Kind.split n l) = (split_into setting s n (raised l), None)
+done_of setting s Kind.join = (joined setting s, None)
+done_of setting s (Kind.view i c) = view_done setting s i c
+
+unfoldable pub done : {Code : Type 0} → Setting Code → Session Code → Command → Session Code × Option Reply
+done setting s c = done_of setting s (kind_of c)
 
 -- the step of a command: a refusal changes nothing
 unfoldable pub step : {Code : Type 0} → Setting Code → Session Code → Command → Bool → Session Code

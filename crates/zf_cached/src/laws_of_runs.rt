@@ -8,7 +8,7 @@ ghost use Rattle.zf_cached.specs.Arrays.{array_format, saved_file};
 ghost use Rattle.zf_cached.specs.Commands.{Command};
 ghost use Rattle.zf_cached.specs.Replies.{Refusal, Reply};
 ghost use Rattle.zf_cached.specs.Grammar.{is_writable};
-ghost use Rattle.zf_cached.specs.Steps.{Setting, Session, takes_memory, refusal, step};
+ghost use Rattle.zf_cached.specs.Steps.{Setting, Session, tests, refusal, step};
 ghost use Rattle.zf_cached.specs.Placing.{direct};
 ghost use Rattle.zf_cached.specs.Consistency.{every, IsConsistent, IsEmpty, IsCached, IsSound};
 ghost use Rattle.zf_cached.specs.Runs.{lines_of, only_reads, run_lines, run, look, array_setting};
@@ -26,7 +26,7 @@ pub fn refused_commands<C: Coded>()
         ≡ (s, Some (Reply.refused why)) }
     ensures memory { (setting : Setting C.Code) (s : Session C.Code) (c : Command) (starving : Bool)
         → refusal setting s c starving ≡ Some Refusal.memory
-        → (takes_memory c ≡ true) × (starving ≡ true) × (refusal setting s c false ≡ None) }
+        → ((tests setting s c).memory ≡ true) × (starving ≡ true) × (refusal setting s c false ≡ None) }
     ensures word { (setting : Setting C.Code) (s : Session C.Code) (c : Command) (starving : Bool)
         → refusal setting s c starving ≡ Some Refusal.word → ⊥ }
 {}

@@ -80,9 +80,9 @@ pub fn refusals()
         (codes "view 0 0 1\nview 0 1 0\nview 0 8 1\nview 0 9 1\nview 1 4 2\nview 7 1 9\nlines 65536\nlines 65537\nslice 1 0\n")
         ≡ codes "! size\n! size\n! size\n! size\n! range\n" }
     ensures memory { run_text w32 64 (8 ∷ []) (replicate 64 false ∷ replicate 64 false ∷ []) 2
-        (0 ∷ 1 ∷ 2 ∷ 3 ∷ [])
-        (codes "get 0\n\nlines 0\nresize 4\nget 4\n")
-        ≡ codes "0\n! size\n! memory\n0\n" }
+        (0 ∷ 1 ∷ 2 ∷ 3 ∷ 4 ∷ [])
+        (codes "get 0\n\nlines 0\nresize 4\nlines 4\nget 4\nstats\n")
+        ≡ codes "0\n! size\n! memory\n! memory\n0\nhits 0 misses 2 writes 0\n" }
 {}
 
 /// Private views: each has a cache and counts of its own over its own blocks, and while there is a split

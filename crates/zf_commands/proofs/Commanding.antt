@@ -15,7 +15,7 @@ use Rattle.zf_cached.specs.Arrays.{array_format}
 use Rattle.zf_cached.specs.Runs.{read_step}
 use Rattle.zf_cached.specs.State.{Counts}
 use Rattle.zf_cached.specs.Windows.{Window, LiesIn, mapped, sliced, has_place, positions, is_window, none_zero, lies_in}
-use Rattle.zf_cached.specs.Steps.{Setting, Session, touched, changed, changed_at, filled_below, summed, total, value_there, is_of_type, is_line_count, needs_split, refuses_size, refuses_range, refuses_value, takes_memory, step, done}
+use Rattle.zf_cached.specs.Steps.{Setting, Session, touched, changed, changed_at, filled_below, summed, total, value_there, is_of_type, is_line_count, needs_split, tests, step, done}
 use Rattle.zf_cached.proofs.Windows.{length-mapped, LiesIn-sliced}
 use Rattle.zf_window.specs.declared.window.ViewFault.{ViewFault}
 use Rattle.zf_window.specs.WindowFields.{view_fault}
@@ -105,18 +105,18 @@ module _ {A : Type 0} (S : Subject A) (a : A) (ready : IsReady S a) (whole : (S.
   refused c reply does = record { does = does; sound = ready.sound; kept = refl }
 
   module _ (c : Command) (none : needs_split c ≡ false) where
-    pub no_size : refuses_size setting s c ≡ true → Obeys S c (Some (Reply.refused Refusal.size)) a a
+    pub no_size : (tests setting s c).size ≡ true → Obeys S c (Some (Reply.refused Refusal.size)) a a
     no_size size = refused c _ (refused_size setting c s ready.window (no_split s c whole none) size)
 
-    module _ (size : refuses_size setting s c ≡ false) where
-      pub no_range : refuses_range s c ≡ true → Obeys S c (Some (Reply.refused Refusal.range)) a a
+    module _ (size : (tests setting s c).size ≡ false) where
+      pub no_range : (tests setting s c).range ≡ true → Obeys S c (Some (Reply.refused Refusal.range)) a a
       no_range range = refused c _ (refused_range setting c s ready.window (no_split s c whole none) size range)
 
-      module _ (range : refuses_range s c ≡ false) where
-        pub no_value : refuses_value setting.width c ≡ true → Obeys S c (Some (Reply.refused Refusal.value)) a a
+      module _ (range : (tests setting s c).range ≡ false) where
+        pub no_value : (tests setting s c).value ≡ true → Obeys S c (Some (Reply.refused Refusal.value)) a a
         no_value value = refused c _ (refused_value setting c s ready.window (no_split s c whole none) size range value)
 
-        pub no_memory : refuses_value setting.width c ≡ false → takes_memory c ≡ true → Obeys S c (Some (Reply.refused Refusal.memory)) a a
+        pub no_memory : (tests setting s c).value ≡ false → (tests setting s c).memory ≡ true → Obeys S c (Some (Reply.refused Refusal.memory)) a a
         no_memory value takes = refused c _ (refused_memory setting c s ready.window (no_split s c whole none) size range value takes)
 
   pub counted : (h m n : ℕ) → record { hits = h; misses = m; writes = n } ≡ s.state.counts → Obeys S Command.stats (Some (Reply.counts h m n)) a a
@@ -130,14 +130,14 @@ module _ {A : Type 0} (S : Subject A) (a : A) (ready : IsReady S a) (whole : (S.
     t = S.session b
 
     -- a command that passes all tests, and leads to this session
-    done_with : {P : Setting S.Code → Session S.Code → Session S.Code → Type 0} (c : Command) (reply : Option Reply) → needs_split c ≡ false → refuses_size setting s c ≡ false → refuses_range s c ≡ false
-        → refuses_value setting.width c ≡ false → starves reply ≡ false → Leads S P a b → done setting s c ≡ (t, reply) → HasWindow t → Obeys S c reply a b
+    done_with : {P : Setting S.Code → Session S.Code → Session S.Code → Type 0} (c : Command) (reply : Option Reply) → needs_split c ≡ false → (tests setting s c).size ≡ false → (tests setting s c).range ≡ false
+        → (tests setting s c).value ≡ false → starves reply ≡ false → Leads S P a b → done setting s c ≡ (t, reply) → HasWindow t → Obeys S c reply a b
     done_with c reply none size range value fed told is inside =
         record { does = accepted setting c s ready.window (no_split s c whole none) size range value t reply fed is inside; sound = told.sound; kept = told.kept }
 
     module _ (u : Window) (told : Leads S (λ k x y. record x { window = u } ≡ y) a b) where
       -- another window
-      windowed : (c : Command) → needs_split c ≡ false → refuses_size setting s c ≡ false → refuses_range s c ≡ false → refuses_value setting.width c ≡ false
+      windowed : (c : Command) → needs_split c ≡ false → (tests setting s c).size ≡ false → (tests setting s c).range ≡ false → (tests setting s c).value ≡ false
           → done setting s c ≡ (record s { window = u }, None) → LiesIn s.shape u → Obeys S c None a b
       windowed c none size range value is inside = done_with c None none size range value refl told (is ∙ ap (λ (x : Session S.Code). (x, None)) told.does) (subst HasWindow told.does inside)
 
@@ -224,7 +224,7 @@ module _ {A : Type 0} (S : Subject A) (a : A) (ready : IsReady S a) (whole : (S.
     -- ---- commands on the cache
 
     -- a command that passes all tests, and keeps the window
-    module _ (c : Command) (none : needs_split c ≡ false) (size : refuses_size setting s c ≡ false) (range : refuses_range s c ≡ false) (value : refuses_value setting.width c ≡ false)
+    module _ (c : Command) (none : needs_split c ≡ false) (size : (tests setting s c).size ≡ false) (range : (tests setting s c).range ≡ false) (value : (tests setting s c).value ≡ false)
         (keeps : HasWindow (done setting s c).0) (told : Leads S (λ k x y. Performs k c x y) a b) where
       pub performed : Obeys S c None a b
       performed = done_with c None none size range value refl told told.does (subst HasWindow (ap (λ (r : Session S.Code × Option Reply). r.0) told.does) keeps)

@@ -5,7 +5,6 @@
 --     Folding    lines one after the other, with the replies that are written
 --     Wide       values as numbers of 128 bits
 --     Stepping   the steps of commands that are refused and of those that are not
---     Rastering  the touch of a position of a window
 --     Passing    passes over all blocks, and sums of the values of one
 --     Commanding each kind of command
 pub mod Cutting
@@ -16,4 +15,3 @@ pub mod Wide
 pub mod Stepping
 pub mod Commanding
 pub mod Passing
-pub mod Rastering

@@ -2,9 +2,9 @@
 use Rattle.std.proofs.Common.{◌≡◌, refl, sym, ap, ◌∙◌, Bool, true, false, not, ◌&&◌, Option, Some, None, is_some}
 use Rattle.zf_cached.specs.Commands.{Command}
 use Rattle.zf_cached.specs.Replies.{Refusal, Reply}
-use Rattle.zf_cached.specs.Steps.{Setting, Session, needs_split, refuses_split, refuses_size, refuses_range, refuses_value, takes_memory, refusal, done}
+use Rattle.zf_cached.specs.Steps.{Setting, Session, needs_split, refuses_split, tests, first_refusal, refusal, done}
 use Rattle.zf_cached.proofs.Runs.{step-refused}
-use Rattle.zf_cached.proofs.Sessions.{first_refusal, step_by}
+use Rattle.zf_cached.proofs.Sessions.{step_by}
 use Rattle.zf_commands.specs.Steps.{Does, HasWindow, starves}
 
 -- no test of a split fails where there is none, and none is needed
@@ -15,7 +15,7 @@ no_split s c whole none = ap (λ o. elim (is_some o) [ true ↦ not (needs_split
 pub refused_split : {Code : Type 0} (setting : Setting Code) (c : Command) (s : Session Code) → HasWindow s → refuses_split s c ≡ true → Does setting c s s (Some (Reply.refused Refusal.split))
 unfolding refusal
 refused_split setting c s lies split = record {
-  step_is = step-refused setting s c false Refusal.split (ap (λ x. first_refusal x (refuses_size setting s c) (refuses_range s c) (refuses_value setting.width c) (takes_memory c && false)) split);
+  step_is = step-refused setting s c false Refusal.split (ap (λ x. first_refusal x (tests setting s c).size (tests setting s c).range (tests setting s c).value ((tests setting s c).memory && false)) split);
   inside = lies;
 }
 
@@ -26,30 +26,30 @@ module _ {Code : Type 0} (setting : Setting Code) (c : Command) (s : Session Cod
     inside = lies;
   }
 
-  pub refused_size : refuses_size setting s c ≡ true → Does setting c s s (Some (Reply.refused Refusal.size))
+  pub refused_size : (tests setting s c).size ≡ true → Does setting c s s (Some (Reply.refused Refusal.size))
   unfolding refusal
-  refused_size size = refused Refusal.size (λ i. first_refusal (there i) (size i) (refuses_range s c) (refuses_value setting.width c) (takes_memory c && false))
+  refused_size size = refused Refusal.size (λ i. first_refusal (there i) (size i) (tests setting s c).range (tests setting s c).value ((tests setting s c).memory && false))
 
-  pub refused_range : refuses_size setting s c ≡ false → refuses_range s c ≡ true → Does setting c s s (Some (Reply.refused Refusal.range))
+  pub refused_range : (tests setting s c).size ≡ false → (tests setting s c).range ≡ true → Does setting c s s (Some (Reply.refused Refusal.range))
   unfolding refusal
-  refused_range size range = refused Refusal.range (λ i. first_refusal (there i) (size i) (range i) (refuses_value setting.width c) (takes_memory c && false))
+  refused_range size range = refused Refusal.range (λ i. first_refusal (there i) (size i) (range i) (tests setting s c).value ((tests setting s c).memory && false))
 
-  pub refused_value : refuses_size setting s c ≡ false → refuses_range s c ≡ false → refuses_value setting.width c ≡ true → Does setting c s s (Some (Reply.refused Refusal.value))
+  pub refused_value : (tests setting s c).size ≡ false → (tests setting s c).range ≡ false → (tests setting s c).value ≡ true → Does setting c s s (Some (Reply.refused Refusal.value))
   unfolding refusal
-  refused_value size range value = refused Refusal.value (λ i. first_refusal (there i) (size i) (range i) (value i) (takes_memory c && false))
+  refused_value size range value = refused Refusal.value (λ i. first_refusal (there i) (size i) (range i) (value i) ((tests setting s c).memory && false))
 
   -- out of memory, after all other tests
-  pub refused_memory : refuses_size setting s c ≡ false → refuses_range s c ≡ false → refuses_value setting.width c ≡ false → takes_memory c ≡ true
+  pub refused_memory : (tests setting s c).size ≡ false → (tests setting s c).range ≡ false → (tests setting s c).value ≡ false → (tests setting s c).memory ≡ true
       → Does setting c s s (Some (Reply.refused Refusal.memory))
   unfolding refusal
   refused_memory size range value takes = refused Refusal.memory (λ i. first_refusal (there i) (size i) (range i) (value i) (takes i && true))
 
   -- a command that passes all tests
-  module _ (size : refuses_size setting s c ≡ false) (range : refuses_range s c ≡ false) (value : refuses_value setting.width c ≡ false)
+  module _ (size : (tests setting s c).size ≡ false) (range : (tests setting s c).range ≡ false) (value : (tests setting s c).value ≡ false)
       (t : Session Code) (reply : Option Reply) (none : starves reply ≡ false) (done_is : done setting s c ≡ (t, reply)) where
     passes : refusal setting s c (starves reply) ≡ None
     unfolding refusal
-    passes = (λ i. first_refusal (there i) (size i) (range i) (value i) (takes_memory c && none i)) ∙ not_starved (takes_memory c)
+    passes = (λ i. first_refusal (there i) (size i) (range i) (value i) ((tests setting s c).memory && none i)) ∙ not_starved (tests setting s c).memory
       where
         not_starved : (t : Bool) → first_refusal false false false false (t && false) ≡ None
         not_starved true = refl

@@ -1,6 +1,7 @@
 -- What a call finds and leaves of an array and a window that a script works on.
-use Rattle.std.specs.Prelude.{◌≡◌, Option}
+use Rattle.std.specs.Prelude.{ℕ, ◌≡◌, List, Option}
 use Rattle.zf_base.specs.declared.position.Pos.{Pos}
+use Rattle.zf_base.specs.Places.{IsAt}
 use Rattle.zf_base.specs.Positions.{IsPosition}
 use Rattle.zf_cached.specs.Replies.{Reply}
 use Rattle.zf_cached.specs.Commands.{Command}
@@ -18,6 +19,12 @@ module _ {A : Type 0} (S : Subject A) where
   pub record HasPosition (p : Pos) (a : A) : Type 0 where
     pub sound : S.sound a
     pub position : IsPosition (S.session a).shape p
+
+  -- it is sound, and this is the place of a position of its array
+  pub record HasPlace (b p : ℕ) (a : A) : Type 0 where
+    pub sound : S.sound a
+    pub position : List ℕ
+    pub at : IsAt (S.session a).shape position b p
 
   -- a call leads from one session to another in this way; all stays sound, and what no line changes is the
   -- same

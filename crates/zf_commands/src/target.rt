@@ -1,15 +1,15 @@
 //! What a script runs on, and what its lines work on.
 
-ghost use Rattle.std.specs.Prelude.{◌≡◌, ◌<◌, ◌≤◌, ◌^◌, ◌+ℤ◌, None, OnOk, OnErr};
+ghost use Rattle.std.specs.Prelude.{◌≡◌, ◌<◌, ◌≤◌, ◌^◌, ◌+ℤ◌, pos, slice_index_or, None, OnOk, OnErr};
 ghost use Rattle.zf_spec.specs.Numbers.{wrap};
 ghost use Rattle.zf_spec.specs.Grid.{blocks};
 ghost use Rattle.zf_cached.specs.Commands.{Command};
 ghost use Rattle.zf_cached.specs.Windows.{LiesIn};
-ghost use Rattle.zf_cached.specs.Steps.{total, value_there};
+ghost use Rattle.zf_cached.specs.Steps.{total};
 ghost use Rattle.zf_commands.specs.Kinds.{asked, IsPlain};
-ghost use Rattle.zf_commands.specs.Sittings.{place_in, block_in};
+ghost use Rattle.zf_commands.specs.Sittings.{place_in};
 ghost use Rattle.zf_window.specs.Bounds.{IsUpTo};
-ghost use Rattle.zf_commands.specs.Calls.{IsReady, HasPosition, Leads, StaysReady};
+ghost use Rattle.zf_commands.specs.Calls.{IsReady, HasPosition, HasPlace, Leads, StaysReady};
 ghost use Rattle.zf_commands.specs.Steps.{said, Takes, Touches, Changes, Fills, Performs};
 
 use crate::subject::Subject;
@@ -31,12 +31,11 @@ pub trait Target: Subject {
         requires inside { LiesIn (Self.session self.old).shape window }
         ensures { Leads Self.Subject (λ k s t. record s { window = window } ≡ t) self.old self.new };
 
-    /// The value at a position, by one touch.
-    fn number(&mut self, p: Pos) -> i128
-        requires { HasPosition Self.Subject p self.old }
-        ensures touched { Leads Self.Subject (λ k s t. Touches k (block_in s p) s t) self.old self.new }
-        ensures value { result ≡ value_there (place_in (Self.session self.old) p)
-            ((Self.session self.new).state.values (block_in (Self.session self.old) p)) }
+    /// The value at place `place` of block `b`, by one touch. It is the place of a position.
+    fn value_at(&mut self, b: u64, place: usize) -> i128
+        requires { HasPlace Self.Subject b place self.old }
+        ensures touched { Leads Self.Subject (λ k s t. Touches k b s t) self.old self.new }
+        ensures value { result ≡ slice_index_or ((Self.session self.new).state.values b) place (pos 0) }
         ensures bound { IsUpTo (2 ^ 63) result };
 
     /// The sum of the values of block `b`, by one touch.

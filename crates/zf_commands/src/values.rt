@@ -1,12 +1,13 @@
 //! Commands on one value, at a position of the array or of the window. The parts of the target fit.
 
-ghost use Rattle.std.specs.Prelude.{◌≡◌, true, false, IfSome, IfNone};
+ghost use Rattle.std.specs.Prelude.{◌≡◌, ◌^◌, true, false, IfSome, IfNone};
 ghost use Rattle.zf_base.specs.Positions.{with_unused};
 ghost use Rattle.zf_cached.specs.Commands.{Command};
-ghost use Rattle.zf_cached.specs.Steps.{is_of_type};
-ghost use Rattle.zf_commands.specs.Sittings.{place_in};
-ghost use Rattle.zf_commands.specs.Calls.{IsReady, Obeys};
-ghost use Rattle.zf_commands.specs.Steps.{said};
+ghost use Rattle.zf_cached.specs.Steps.{is_of_type, value_there};
+ghost use Rattle.zf_window.specs.Bounds.{IsUpTo};
+ghost use Rattle.zf_commands.specs.Sittings.{place_in, block_in};
+ghost use Rattle.zf_commands.specs.Calls.{IsReady, HasPosition, Leads, Obeys};
+ghost use Rattle.zf_commands.specs.Steps.{Touches, said};
 
 use crate::target::{Changing, Target};
 use zf_base::{Lane, Pos};
@@ -21,7 +22,7 @@ pub(crate) fn get<A: Target>(a: &mut A, p: Pos) -> Option<Reply>
     if !a.sizes().contains(p) {
         return Some(Reply::Refused(Refusal::Range));
     }
-    Some(Reply::Number(a.number(p)))
+    Some(Reply::Number(number(a, p)))
 }
 
 /// `set P v`: makes the value at a position be `v`.
@@ -68,7 +69,20 @@ pub(crate) fn vget<A: Target>(a: &mut A, p: Pos) -> Option<Reply>
     }
     // Known by this call: the sizes are those of a shape.
     let _dims = a.sizes().dims();
-    Some(Reply::Number(a.number(window.map(p))))
+    Some(Reply::Number(number(a, window.map(p))))
+}
+
+/// The value at a position, by one touch.
+#[inline]
+pub(crate) fn number<A: Target>(a: &mut A, p: Pos) -> i128
+    requires { HasPosition A.Subject p a.old }
+    ensures touched { Leads A.Subject (λ k s t. Touches k (block_in s p) s t) a.old a.new }
+    ensures value { result ≡ value_there (place_in (A.session a.old) p)
+        ((A.session a.new).state.values (block_in (A.session a.old) p)) }
+    ensures bound { IsUpTo (2 ^ 63) result }
+{
+    let (b, place) = a.sizes().place(p);
+    a.value_at(b, place)
 }
 
 /// The value of the type that a number is.

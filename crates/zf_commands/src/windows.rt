@@ -13,7 +13,7 @@ ghost use Rattle.zf_commands.specs.Steps.{Sums, said};
 use crate::target::Target;
 use zf_base::Pos;
 use zf_script::{Refusal, Reply};
-use zf_window::{Walk, Window};
+use zf_window::{PlaceWalk, Window};
 
 /// `view P S T`: another window, with these origins, sizes and steps.
 pub(crate) fn view<A: Target>(a: &mut A, origin: Pos, size: Pos, step: Pos) -> Option<Reply>
@@ -50,14 +50,13 @@ pub(crate) fn sum_of_window<A: Target>(a: &mut A) -> i128
 {
     let window = a.window();
     let mut sum = 0;
-    // Known by these calls: the sizes are those of a shape, and a window has no more positions than its array
-    // has values.
+    // Known by this call: a window has no more positions than its array has values.
     let shape = a.sizes();
-    let _dims = shape.dims();
     let _values = shape.values();
-    let mut walk = Walk::new(&window);
+    let mut walk = PlaceWalk::new(&shape, &window);
     for number in 0..window.count() {
-        sum += a.number(walk.step());
+        let (b, place) = walk.step();
+        sum += a.value_at(b, place);
     }
     sum
 }

@@ -1,9 +1,10 @@
 //! The array.
 
-ghost use Rattle.std.specs.Prelude.{◌≡◌, ◌<◌, ◌≤◌, ◌^◌, length, map, pos, slice_index_or, IfOk, IfErr, OnOk, OnErr};
+ghost use Rattle.std.specs.Prelude.{◌≡◌, ℕ, List, ◌<◌, ◌≤◌, ◌^◌, length, map, pos, slice_index_or, IfOk, IfErr, OnOk, OnErr};
 ghost use Rattle.std.specs.Borrow.{sem};
 ghost use Rattle.zf_spec.specs.Grid.{blocks};
 ghost use Rattle.zf_base.specs.Formats.{existing_of};
+ghost use Rattle.zf_base.specs.Places.{IsAt};
 ghost use Rattle.zf_base.specs.Positions.{IsPosition};
 ghost use Rattle.zf_base.specs.Widths.{width_of};
 ghost use Rattle.zf_header.specs.HeaderBits.{IsHeader};
@@ -92,6 +93,18 @@ impl<T: Lane, const D: usize> ConstArray<T, D> {
         ensures codes { self.new.codes ≡ self.old.codes }
     {
         let (b, place) = self.codes.header().shape.place_in::<D>(p);
+        self.cache.get_read(&mut self.codes, b, place)
+    }
+
+    /// The value at place `place` of block `b`, by one touch. It is the place of a position of the array.
+    #[inline]
+    pub fn value_at(&mut self, b: u64, place: usize) -> T
+        requires { (ps : List ℕ) × IsAt (shape self.old) ps b place }
+        ensures state { state self.new ≡ touch (format self.old) (state self.old) b }
+        ensures value { T.value result ≡ slice_index_or ((state self.new).values b) place (pos 0) }
+        ensures header { self.new.header ≡ self.old.header }
+        ensures codes { self.new.codes ≡ self.old.codes }
+    {
         self.cache.get_read(&mut self.codes, b, place)
     }
 

@@ -19,9 +19,9 @@ use Rattle.zf_cached.proofs.ReadLines.{read_line-None}
 use Rattle.zf_cached.specs.Acts.{Act}
 use Rattle.zf_cached.specs.Views.{View, with_codes, without_codes, acted, answered, IsWithin, HasOwn, AreAlike}
 use Rattle.zf_cached.specs.Splits.{is_view_count, is_owner, no_view, view_at, coded, opened_view, opened_views}
-use Rattle.zf_cached.specs.Steps.{Setting, Session, format_of, is_split, views_of, state_of_view, with_view, by_view, at_position, split_into, needs_split, refuses_split, refuses_size, refuses_range, refuses_value, takes_memory, is_line_count, counts_reply, refusal, done, step}
+use Rattle.zf_cached.specs.Steps.{Setting, Session, format_of, is_split, views_of, state_of_view, with_view, by_view, at_position, split_into, needs_split, refuses_split, is_of_type, is_line_count, counts_reply, tests, first_refusal, refusal, done, step}
 use Rattle.zf_cached.specs.Runs.{read_step, line_step, run_lines}
-use Rattle.zf_cached.proofs.Sessions.{first_refusal, step_by}
+use Rattle.zf_cached.proofs.Sessions.{step_by}
 use Rattle.zf_private.specs.Scripts.{Answered, answered_lines, view_named, named, is_accepted, is_on, is_elsewhere, without_others}
 use Rattle.zf_private.proofs.Alike.{own-acted, stay-acted, alike-acted, alike-answered, alike-refl}
 use Rattle.zf_cached.proofs.Parts.{one_owner}
@@ -105,17 +105,14 @@ module _ {Code : Type 0} (setting : Setting Code) (ns : List ℕ) (n : ℕ) (som
   abbrev has : ℕ → List ℕ → Bool
   has j ps = ltb j n && (is_inside ns ps && is_owner (blocks ns) n j (block_number ns ps))
 
-  range_of : Command → Bool
-  range_of (Command.pget j ps) = not (has j ps)
-  range_of (Command.pset j ps v) = not (has j ps)
-  range_of (Command.padd j ps v) = not (has j ps)
-  range_of (Command.pflush j) = not (ltb j n)
-  range_of (Command.pdiscard j) = not (ltb j n)
-  range_of (Command.pstats j) = not (ltb j n)
-  range_of c = true
-
   refusal_of : Command → Option Refusal
-  refusal_of c = first_refusal false false (range_of c) (refuses_value w c) false
+  refusal_of (Command.pget j ps) = first_refusal false false (not (has j ps)) false false
+  refusal_of (Command.pset j ps v) = first_refusal false false (not (has j ps)) (not (is_of_type w v)) false
+  refusal_of (Command.padd j ps v) = first_refusal false false (not (has j ps)) (not (is_of_type w v)) false
+  refusal_of (Command.pflush j) = first_refusal false false (not (ltb j n)) false false
+  refusal_of (Command.pdiscard j) = first_refusal false false (not (ltb j n)) false false
+  refusal_of (Command.pstats j) = first_refusal false false (not (ltb j n)) false false
+  refusal_of c = Some Refusal.range
 
   -- is there a split, the sizes and how many views: the range that is refused then
   abbrev first_at : Bool → Bool → Bool → Option Refusal
@@ -125,10 +122,10 @@ module _ {Code : Type 0} (setting : Setting Code) (ns : List ℕ) (n : ℕ) (som
   out_of ms m j ps = not (ltb j m && (is_inside ms ps && is_owner (blocks ms) m j (block_number ms ps)))
 
   refusal_is : (s : Session Code) → IsParted s → (c : Command) → is_some (view_named c) ≡ true → (starving : Bool) → refusal setting s c starving ≡ refusal_of c
-  unfolding refusal refusal_of range_of
-  refusal_is s p (Command.pget j ps) e starving = λ k. first_at (p.split k) (out_of (p.shape k) (p.many k) j ps) (refuses_value w (Command.pget j ps))
-  refusal_is s p (Command.pset j ps v) e starving = λ k. first_at (p.split k) (out_of (p.shape k) (p.many k) j ps) (refuses_value w (Command.pset j ps v))
-  refusal_is s p (Command.padd j ps v) e starving = λ k. first_at (p.split k) (out_of (p.shape k) (p.many k) j ps) (refuses_value w (Command.padd j ps v))
+  unfolding refusal refusal_of
+  refusal_is s p (Command.pget j ps) e starving = λ k. first_at (p.split k) (out_of (p.shape k) (p.many k) j ps) false
+  refusal_is s p (Command.pset j ps v) e starving = λ k. first_at (p.split k) (out_of (p.shape k) (p.many k) j ps) (not (is_of_type w v))
+  refusal_is s p (Command.padd j ps v) e starving = λ k. first_at (p.split k) (out_of (p.shape k) (p.many k) j ps) (not (is_of_type w v))
   refusal_is s p (Command.pflush j) e starving = λ k. first_at (p.split k) (not (ltb j (p.many k))) false
   refusal_is s p (Command.pdiscard j) e starving = λ k. first_at (p.split k) (not (ltb j (p.many k))) false
   refusal_is s p (Command.pstats j) e starving = λ k. first_at (p.split k) (not (ltb j (p.many k))) false
@@ -137,7 +134,7 @@ module _ {Code : Type 0} (setting : Setting Code) (ns : List ℕ) (n : ℕ) (som
   -- a command that needs no split is refused for it
   whole_refused : (s : Session Code) → IsParted s → (c : Command) → needs_split c ≡ false → (starving : Bool) → refusal setting s c starving ≡ Some Refusal.split
   unfolding refusal
-  whole_refused s p c none starving = λ k. first_refusal (elim (p.split k) as (λ x. Bool) [ true ↦ not (none k) | false ↦ none k ]) (refuses_size setting s c) (refuses_range s c) (refuses_value w c) (takes_memory c && starving)
+  whole_refused s p c none starving = λ k. first_refusal (elim (p.split k) as (λ x. Bool) [ true ↦ not (none k) | false ↦ none k ]) (tests setting s c).size (tests setting s c).range (tests setting s c).value ((tests setting s c).memory && starving)
 
   -- what is not refused is on a view that there is, and on a block of its own
   within_flush : (j : ℕ) → first_refusal false false (not (ltb j n)) false false ≡ None → j < n
@@ -276,16 +273,16 @@ module _ {Code : Type 0} (setting : Setting Code) (ns : List ℕ) (n : ℕ) (som
           (λ none. step_by setting s' c y (λ r. Outcome (done setting s c) r s' (view_named c)) (λ v is'. absurd (cc)) (λ none'. does refl))
 
     stepped : (s s' : Session Code) → Together s s' → (c : Command) (x y : Bool) → c ≢ Command.join → Outcome (step setting s c x) (step setting s' c y) s' (view_named c)
-    unfolding done refusal_of range_of
+    unfolding done refusal_of
     stepped s s' h (Command.pget j ps) x y other =
         by_refusal s s' h (Command.pget j ps) x y (refusal_of (Command.pget j ps)) (refusal_is s h.one (Command.pget j ps) refl x) (refusal_is s' h.two (Command.pget j ps) refl y)
         (λ none. let ok = within_at j ps false none in at_positions s s' h j (λ b p. Act.get b p) ps ok.0 (λ e. e) ok.1)
     stepped s s' h (Command.pset j ps v) x y other =
         by_refusal s s' h (Command.pset j ps v) x y (refusal_of (Command.pset j ps v)) (refusal_is s h.one (Command.pset j ps v) refl x) (refusal_is s' h.two (Command.pset j ps v) refl y)
-        (λ none. let ok = within_at j ps (refuses_value w (Command.pset j ps v)) none in at_positions s s' h j (λ b p. Act.set b p v) ps ok.0 (λ e. e) ok.1)
+        (λ none. let ok = within_at j ps (not (is_of_type w v)) none in at_positions s s' h j (λ b p. Act.set b p v) ps ok.0 (λ e. e) ok.1)
     stepped s s' h (Command.padd j ps v) x y other =
         by_refusal s s' h (Command.padd j ps v) x y (refusal_of (Command.padd j ps v)) (refusal_is s h.one (Command.padd j ps v) refl x) (refusal_is s' h.two (Command.padd j ps v) refl y)
-        (λ none. let ok = within_at j ps (refuses_value w (Command.padd j ps v)) none in at_positions s s' h j (λ b p. Act.add b p v) ps ok.0 (λ e. e) ok.1)
+        (λ none. let ok = within_at j ps (not (is_of_type w v)) none in at_positions s s' h j (λ b p. Act.add b p v) ps ok.0 (λ e. e) ok.1)
     stepped s s' h (Command.pflush j) x y other =
         by_refusal s s' h (Command.pflush j) x y (refusal_of (Command.pflush j)) (refusal_is s h.one (Command.pflush j) refl x) (refusal_is s' h.two (Command.pflush j) refl y)
         (λ none. acts_either s s' h j (within_flush j none) Act.flush tt)

@@ -13,7 +13,7 @@ use Rattle.zf_cached.specs.Commands.{Command}
 use Rattle.zf_cached.specs.Replies.{Reply}
 use Rattle.zf_cached.specs.Acts.{Act}
 use Rattle.zf_cached.specs.Views.{acted, answered, IsWithin}
-use Rattle.zf_cached.specs.Steps.{by_view, view_has, refuses_split, refuses_size, refuses_range, refuses_value, done}
+use Rattle.zf_cached.specs.Steps.{by_view, view_has, refuses_split, tests, done}
 use Rattle.zf_cache.specs.Standing.{Fits}
 use Rattle.zf_private.specs.Standing as private
 use Rattle.zf_private.specs.Standing.{Own, IsSameView, IsWhole}
@@ -50,7 +50,7 @@ pub record HasTaken {X : Type 0} (value : X → ℤ) (w : Width) (d : ℕ) (a b 
   pub acts : (u : Window) → (by_view (setting_of w a) (split_session value a views u) i act).0 ≡ split_session value b (set views i n) u
   -- a command that asks for the act, and passes all tests
   pub takes : (u : Window) (c : Command) (reply : Option Reply) → HasWindow (split_session value a views u) → refuses_split (split_session value a views u) c ≡ false
-      → refuses_size (setting_of w a) (split_session value a views u) c ≡ false → refuses_range (split_session value a views u) c ≡ false → refuses_value (setting_of w a).width c ≡ false
+      → (tests (setting_of w a) (split_session value a views u) c).size ≡ false → (tests (setting_of w a) (split_session value a views u) c).range ≡ false → (tests (setting_of w a) (split_session value a views u) c).value ≡ false
       → answer ≡ reply → starves reply ≡ false
       → done (setting_of w a) (split_session value a views u) c ≡ by_view (setting_of w a) (split_session value a views u) i act
       → Does (setting_of w a) c (split_session value a views u) (split_session value b (set views i n) u) reply

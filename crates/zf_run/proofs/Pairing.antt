@@ -40,6 +40,11 @@ use Rattle.zf_commands.proofs.Passing.{map-replicate}
 use Rattle.zf_run.specs.Pairs.{pair_state, two_setting_of}
 use Rattle.zf_run.proofs.Sessions.{with_names}
 
+-- a place of a position exists
+pub exists_two : (s : Stored) (ps : List ℕ) (b k : ℕ) → IsAt s.header.shape ps b k → (format_of s).exists b k ≡ true
+unfolding array_format
+exists_two s ps b k at = at.exists
+
 module _ (w : Width) (d : ℕ) (s : Stored) (st : IsStore w d s) where
   -- its blocks are such as a cache takes
   pub two_blocks : HasBlocks (format_of s) d
@@ -60,8 +65,7 @@ module _ (w : Width) (d : ℕ) (s : Stored) (st : IsStore w d s) where
     place_below = subst (λ n. k < 4 ^ n) (ap (λ (g : Header). length g.shape) is ∙ st.dims) at.place_in_block
 
     pub place_exists : (format_of s).exists b k ≡ true
-    unfolding array_format
-    place_exists = subst (λ (g : Header). is_inside (extent_of g.shape b) (indices (length g.shape) k) ≡ true) is at.exists
+    place_exists = exists_two s (used_axes (length h.shape) p) b k (subst (λ (g : Header). IsAt g.shape (used_axes (length h.shape) p) b k) is at)
 
 pub block_there : (s : Stored) (h : Header) → h ≡ s.header → (p : Pos) (b : ℕ) → b ≡ block_number h.shape (used_axes (length h.shape) p) → b ≡ block_number s.header.shape (used_axes (length s.header.shape) p)
 block_there s h is p b e = e ∙ ap (λ (g : Header). block_number g.shape (used_axes (length g.shape) p)) is

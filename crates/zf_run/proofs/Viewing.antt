@@ -23,7 +23,7 @@ use Rattle.zf_cached.specs.Acts.{Act}
 use Rattle.zf_cached.specs.Views.{View, with_codes, without_codes, acted, answered, IsWithin, HasOwn, AreAlike}
 use Rattle.zf_cached.specs.Ownership.{Owns, first_of, count_of}
 use Rattle.zf_cached.specs.Splits.{is_view_count, is_owner, no_view, view_at, coded}
-use Rattle.zf_cached.specs.Steps.{Setting, Session, format_of, state_of_view, with_view, by_view, has_view, view_has, refuses_split, refuses_size, refuses_range, refuses_value, done}
+use Rattle.zf_cached.specs.Steps.{Setting, Session, format_of, state_of_view, with_view, by_view, has_view, view_has, refuses_split, tests, done}
 use Rattle.zf_cached.specs.Runs.{array_setting}
 use Rattle.zf_cache.specs.Standing.{state_of, Fits, state_at}
 use Rattle.zf_private.specs.Standing as private
@@ -235,7 +235,7 @@ module _ {X : Type 0} (value : X → ℤ) (w : Width) (d : ℕ) (a b : Held) (vi
     answers = ap (λ t. option_map Reply.number (answered t act)) acts_alike ∙ ap (option_map Reply.number) (alike-answered f (Own v) after (view_state value b n) act within after_alike)
 
     -- a command that asks for the act, and passes all tests
-    pub takes : (c : Command) (reply : Option Reply) → HasWindow before → refuses_split before c ≡ false → refuses_size S before c ≡ false → refuses_range before c ≡ false → refuses_value S.width c ≡ false
+    pub takes : (c : Command) (reply : Option Reply) → HasWindow before → refuses_split before c ≡ false → (tests S before c).size ≡ false → (tests S before c).range ≡ false → (tests S before c).value ≡ false
         → option_map Reply.number (answered (view_state value b n) act) ≡ reply → starves reply ≡ false → done S before c ≡ by_view S before i act → Does S c before (split_session value b (set views i n) u) reply
     takes c reply lies split size range value_is replies none asks =
         accepted S c before lies split size range value_is (split_session value b (set views i n) u) reply none

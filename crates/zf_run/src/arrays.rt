@@ -54,11 +54,11 @@ impl<'a, T: Lane, const D: usize> Target for Whole<'a, T, D> {
     }
 
     #[inline]
-    fn number(&mut self, p: Pos) -> i128 {
+    fn value_at(&mut self, b: u64, place: usize) -> i128 {
         let array = &mut *self.array;
         // Known by this call: the type is that of the header.
         let _shape = array.shape();
-        array.get(p).to_wide()
+        array.value_at(b, place).to_wide()
     }
 
     fn sum_of_block(&mut self, b: u64) -> i128 {

@@ -5,7 +5,7 @@ ghost use Rattle.zf_header.specs.declared.header.Header.{Header};
 ghost use Rattle.zf_run.specs.Sessions.{look_setting_of, look_session_of, stream_of};
 
 use std::alloc::AllocError;
-use zf_base::{Lane, Pos, Shape};
+use zf_base::{Lane, Shape};
 use zf_commands::{Kind, Scripted, Subject, Target, kind_of, look_through, read, sum_within};
 use zf_const::ConstArray;
 use zf_script::{Cmd, Refusal, Reply, Stats};
@@ -50,9 +50,9 @@ impl<'a, T: Lane, const D: usize> Target for Looked<'a, T, D> {
     }
 
     #[inline]
-    fn number(&mut self, p: Pos) -> i128 {
+    fn value_at(&mut self, b: u64, place: usize) -> i128 {
         let array = &mut *self.array;
-        array.get(p).to_wide()
+        array.value_at(b, place).to_wide()
     }
 
     fn sum_of_block(&mut self, b: u64) -> i128 {

@@ -55,10 +55,11 @@ impl<'a, T: Lane, const D: usize> Target for Pair<'a, T, D> {
     }
 
     #[inline]
-    fn number(&mut self, p: Pos) -> i128 {
+    fn value_at(&mut self, b: u64, place: usize) -> i128 {
         let store = &mut *self.store;
         let cache = &mut *self.cache;
-        let (b, place) = store.header().shape.place(p);
+        // Known by this call: what holds of a store.
+        let _header = store.header();
         cache.get(store, b, place).to_wide()
     }
 

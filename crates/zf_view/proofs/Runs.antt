@@ -21,26 +21,12 @@ use Rattle.zf_array.proofs.Lent.{found_there, ends_there, state_there, part_is, 
 use Rattle.zf_window.specs.Positions.{position_at, x_step, run_length}
 use Rattle.zf_view.specs.Sums.{block_of, place_in}
 use Rattle.zf_view.specs.Runs.{along_x, AreBeside, run_in, ShowsRunOf, block_found, run_found, run_changed, with_run}
+use Rattle.zf_window.proofs.Beside.{block_further, place_further}
 use Rattle.zf_window.proofs.Positions.{four_axes, position_at-inside}
 
 -- the coordinates of a position that is made of them
 flat : (ns ms : List ℕ) → length ms ≡ length ns → length ns ≤ 4 → used_axes (length ns) (with_unused 0 ms) ≡ ms
 flat ns ms long four = ap (λ d. used_axes d (with_unused 0 ms)) (sym long) ∙ used_axes-with_unused 0 ms (omega arith)
-
--- ---- k further along x, within a block
-
-block_further : (ns : List ℕ) (x y k : ℕ) (rest : List ℕ) → y ≡ x + k → x % 4 + k < 4 → block_number ns (y ∷ rest) ≡ block_number ns (x ∷ rest)
-block_further [] x y k rest is within = refl
-block_further (n ∷ ns) x y k rest is within =
-    let same : y / 4 ≡ x / 4 = omega (arith, is, within) in
-    ap (λ c. c + (n + 3) / 4 * raster (grid ns) (map (λ p. p / 4) rest)) same
-
-place_further : (x y k : ℕ) (rest : List ℕ) → y ≡ x + k → x % 4 + k < 4 → place_of (y ∷ rest) ≡ place_of (x ∷ rest) + k
-place_further x y k rest is within =
-    let on : y % 4 ≡ x % 4 + k = omega (arith, is, within) in
-    let R = 4 * raster (fours (length rest)) (map (λ p. p % 4) rest) in
-    let sum : x % 4 + k + R ≡ x % 4 + R + k = omega arith in
-    ap (λ c. c + R) on ∙ sum
 
 -- ---- a run of a window
 

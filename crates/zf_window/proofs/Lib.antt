@@ -5,6 +5,7 @@
 --     Positions    the position of the array that a position of a window is
 --     Raster       the positions of a window in raster order
 --     Walks        the same by steps
+--     Beside       positions that stand side by side in one block
 --     Bounds       numbers between two bounds, and the widths that they fit
 pub mod Axes
 pub mod Parts
@@ -12,4 +13,5 @@ pub mod Places
 pub mod Positions
 pub mod Raster
 pub mod Walks
+pub mod Beside
 pub mod Bounds

@@ -13,12 +13,12 @@ use Rattle.zf_cached.specs.Windows.{Window, mapped}
 use Rattle.zf_window.specs.Positions.{position_at, numbered, raster_at, following, IsWalk}
 use Rattle.zf_window.proofs.Axes.{sizes_four, inside-IsPosition}
 
--- ---- one more, along an axis of n places
+-- ---- some more, along an axis of n places
 
-stays : (n k : ℕ) → k % n + 1 < n → ((k + 1) % n ≡ k % n + 1) × ((k + 1) / n ≡ k / n)
-stays n k below =
-    let more : k + 1 ≡ k / n * n + (k % n + 1) = omega (arith, div-add-mod' k n) in
-    (ap (λ m. m % n) more ∙ mod-mul-add (k / n) n (k % n + 1) below, ap (λ m. m / n) more ∙ div-mul-add (k / n) n (k % n + 1) below)
+pub stays : (n k i : ℕ) → k % n + i < n → ((k + i) % n ≡ k % n + i) × ((k + i) / n ≡ k / n)
+stays n k i below =
+    let more : k + i ≡ k / n * n + (k % n + i) = omega (arith, div-add-mod' k n) in
+    (ap (λ m. m % n) more ∙ mod-mul-add (k / n) n (k % n + i) below, ap (λ m. m / n) more ∙ div-mul-add (k / n) n (k % n + i) below)
 
 turns : (n k : ℕ) → 0 < n → k % n + 1 ≡ n → ((k + 1) % n ≡ 0) × ((k + 1) / n ≡ k / n + 1)
 turns n k some last =
@@ -29,7 +29,7 @@ turns n k some last =
 following_first : (n : ℕ) (ns : List ℕ) (k : ℕ) (b : Bool) → ltb (k % n + 1) n ≡ b → k % n < n → following ns (coordinates ns (k / n)) ≡ coordinates ns (k / n + 1)
     → following (n ∷ ns) (coordinates (n ∷ ns) k) ≡ coordinates (n ∷ ns) (k + 1)
 following_first n ns k true is below rest =
-    let step = stays n k (ltb-true (k % n + 1) n is) in
+    let step = stays n k 1 (ltb-true (k % n + 1) n is) in
     rw is (ap (λ p. p ∷ coordinates ns (k / n)) (sym step.0) ∙ ap (λ m. (k + 1) % n ∷ coordinates ns m) (sym step.1))
 following_first n ns k false is below rest =
     let last : k % n + 1 ≡ n = omega (arith, ltb-false (k % n + 1) n is, below) in

@@ -1,8 +1,10 @@
 //! Windows: parts of an array that are seen as arrays of their own.
 #![tactic(auto)]
 
+mod place_walk;
 mod walk;
 mod window;
 
-pub use walk::Walk;
+pub use place_walk::PlaceWalk;
+pub use walk::{Run, Walk};
 pub use window::{ViewFault, Window};

@@ -2,11 +2,22 @@
 
 ghost use Rattle.std.specs.Prelude.{◌≡◌, ◌+◌, ◌<◌, ◌^◌};
 ghost use Rattle.zf_spec.specs.Grid.{product};
+ghost use Rattle.zf_cached.specs.Windows.{LiesIn};
 ghost use Rattle.zf_window.specs.Positions.{raster_at};
+ghost use Rattle.zf_window.specs.Places.{IsRun};
 
 use crate::window::Window;
 use std::marker::Model;
-use zf_base::Pos;
+use zf_base::{Pos, Shape};
+
+/// Positions of a window that stand side by side in one block: the block, the place of the first of them, and
+/// how many they are.
+#[derive(Clone, Copy, Debug, PartialEq, Eq)]
+pub struct Run {
+    pub block: u64,
+    pub place: usize,
+    pub count: u64,
+}
 
 /// A walk over the positions of a window in raster order, x fastest: the window, and the number of the next
 /// position.
@@ -62,5 +73,30 @@ impl Walk {
         self.here = self.window.after(self.here);
         self.next += 1;
         position
+    }
+
+    /// The next position and those that follow along x, as far as they stand side by side in one block of an
+    /// array of this shape, and a step behind them.
+    pub fn run(&mut self, shape: &Shape) -> Run
+        requires lies { LiesIn shape.now self.old.window }
+        requires inside { self.old.next < product self.old.window.size }
+        ensures run { IsRun shape.now self.old.window self.old.next result }
+        ensures next { self.new ≡ record self.old { next = self.old.next + result.count } }
+    {
+        // Known by this call: the sizes are those of a shape.
+        let _dims = shape.dims();
+        let count = self.window.beside(self.here);
+        let (block, place) = shape.place(self.window.map(self.here));
+        let last = Pos {
+            x: self.here.x + (count - 1),
+            ..self.here
+        };
+        self.here = self.window.after(last);
+        self.next += count;
+        Run {
+            block,
+            place,
+            count,
+        }
     }
 }

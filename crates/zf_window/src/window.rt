@@ -82,6 +82,7 @@ const NEXT: Pos = Pos {
 
 impl Window {
     ghost use Rattle.zf_window.specs.Positions.{run_length};
+    ghost use Rattle.zf_window.specs.Places.{side_count};
 
     /// The whole array.
     pub fn whole(shape: &Shape) -> Window
@@ -194,6 +195,19 @@ impl Window {
         let in_block = 4 - self.map(p).x % 4;
         let in_window = self.size.x - p.x;
         in_block.min(in_window) as usize
+    }
+
+    /// How many positions stand side by side in one block of the array from `p` on along x: as `run_length`
+    /// where the step along x is 1, and else 1.
+    pub fn beside(&self, p: Pos) -> u64
+        requires { IsPosition self.now.size p }
+        ensures value { result ≡ side_count self.now p }
+        ensures bound { result ≤ 4 }
+    {
+        if self.step.x != 1 {
+            return 1;
+        }
+        self.run_length(p) as u64
     }
 
     /// The number of positions.

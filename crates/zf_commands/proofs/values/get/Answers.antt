@@ -18,6 +18,6 @@ number-requires g c = record { sound = c.requires.ready.sound; position = subst 
 
 pub returns : goal.returns
 returns g c =
-    got g.A.Subject c.args.a.now c.requires.ready (g.met.A.Target.whole c.args.a.now) c.number.new.self c.args.p _ c.number.ensures.touched
+    got g.A.Subject c.args.a.now c.requires.ready (g.met.A.Target.whole c.args.a.now) c.number.new.a c.args.p _ c.number.ensures.touched
     (small_is c.number.result (up_to_less (2 ^ 63) (2 ^ 100) c.number.result (omega arith) c.number.ensures.bound) ∙ c.number.ensures.value)
     (subst (λ ms. IsPosition ms c.args.p) c.sizes.ensures (c.contains.ensures.0 c.if-not-contains.false))

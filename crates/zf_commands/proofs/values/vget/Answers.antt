@@ -28,7 +28,7 @@ number-requires g c =
 
 pub returns : goal.returns
 returns g c =
-    got_there g.A.Subject c.args.a.now c.requires.ready (g.met.A.Target.whole c.args.a.now) c.number.new.self c.map.result _ c.number.ensures.touched
+    got_there g.A.Subject c.args.a.now c.requires.ready (g.met.A.Target.whole c.args.a.now) c.number.new.a c.map.result _ c.number.ensures.touched
     (small_is c.number.result (up_to_less (2 ^ 63) (2 ^ 100) c.number.result (omega arith) c.number.ensures.bound) ∙ c.number.ensures.value)
     (subst IsShape c.sizes.ensures c.dims-dims.ensures.shape) c.args.p
     (subst (λ (u : Part). IsPosition u.size c.args.p) c.window-window.ensures (c.contains.ensures.0 c.if-not-contains.false))

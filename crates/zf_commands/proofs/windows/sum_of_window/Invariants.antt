@@ -21,5 +21,5 @@ invariant-loop-number g l =
       small : IsUpTo (2 ^ 63 * l.number) l.sum;
       sum : summed S B value_there (positions w) s ≡ sum_from S B value_there (map (λ k. mapped w (coordinates w.size k)) (count_from l.number (product w.size - l.number))) t l.sum;
       sound : g.A.Subject.sound l.a;
-      walk : l.walk ≡ record { window = w; next = l.number };
+      walk : l.walk ≡ record { shape = s.shape; window = w; next = l.number };
     }

@@ -1,4 +1,4 @@
-use Rattle.std.proofs.Common.{refl, true, false}
+use Rattle.std.proofs.Common.{refl, true, false, length}
 use Rattle.zf_cached.specs.Kinds.{is_reading}
 use Rattle.zf_cached.specs.Runs.{look_setting}
 use Rattle.zf_commands.specs.declared.kinds.Kind.TheVariants as kinds
@@ -37,7 +37,7 @@ returns-in_default-clause-step g c =
     let a = c.args.self.now.array.now in
     let s = look_session_of a c.args.self.now.window in
     let k = c.kind_of.result in
-    not_taken (look_setting_of g.T.Lane.width a.header) c.args.cmd (cmd_of_kind k) c.kind_of.ensures s (by_kind s k is_reading false (not_reading k c.in_default.not-Read c.in_default.not-Window))
+    not_taken (look_setting_of g.T.Lane.width a.header) c.args.cmd (cmd_of_kind k) c.kind_of.ensures s (by_kind s k is_reading false (not_reading (length s.shape) k c.in_default.not-Read c.in_default.not-Window))
 
 pub returns-in-Read-clause-stays : goal.returns-in-Read-clause-stays
 returns-in-Read-clause-stays g c = obeyed c.read.ensures

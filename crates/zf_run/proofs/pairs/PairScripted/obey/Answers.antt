@@ -1,4 +1,4 @@
-use Rattle.std.proofs.Common.{refl, true, false}
+use Rattle.std.proofs.Common.{refl, true, false, length}
 use Rattle.zf_cached.specs.Kinds.{is_windowless}
 use Rattle.zf_twoway.specs.Runs.{twoway_setting}
 use Rattle.zf_commands.specs.declared.kinds.Kind.TheVariants as kinds
@@ -39,7 +39,7 @@ returns-in_default-clause-step g c =
     let p = c.args.self.now in
     let s = pair_session g.T.Lane.value p.store.now p.cache.now p.window in
     let k = c.kind_of.result in
-    not_taken (two_setting_of g.T.Lane.width p.store.now.header) c.args.cmd (cmd_of_kind k) c.kind_of.ensures s (by_kind s k is_windowless false (not_windowless k c.in_default.not-Read c.in_default.not-Write))
+    not_taken (two_setting_of g.T.Lane.width p.store.now.header) c.args.cmd (cmd_of_kind k) c.kind_of.ensures s (by_kind s k is_windowless false (not_windowless (length s.shape) k c.in_default.not-Read c.in_default.not-Write))
 
 pub returns-in-Read-clause-stays : goal.returns-in-Read-clause-stays
 returns-in-Read-clause-stays g c = obeyed c.read.ensures

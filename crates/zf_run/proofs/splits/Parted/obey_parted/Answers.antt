@@ -1,4 +1,4 @@
-use Rattle.std.proofs.Common.{sym, ap, subst, ◌∙◌, false, None}
+use Rattle.std.proofs.Common.{sym, ap, subst, ◌∙◌, false, None, length}
 use Rattle.zf_cached.specs.Kinds.{is_of_split}
 use Rattle.zf_commands.specs.Kinds.{cmd_of_kind, asked}
 use Rattle.zf_commands.specs.Steps.{Does}
@@ -27,4 +27,4 @@ returns-in_default-clause-does g c =
     let s = parted_session g.T.Lane.value p.array.now p.views.now p.window in
     let cmd = asked s (cmd_of_kind c.args.cmd) in
     refused_split (setting_of g.T.Lane.width p.array.now) cmd s c.requires.window
-    (refuses_whole s cmd (some_parted g.T.Lane.value p.array.now p.views.now c.requires.parted) (by_kind s c.args.cmd is_of_split false (not_of_split c.args.cmd c.in_default.not-Join c.in_default.not-View)))
+    (refuses_whole s cmd (some_parted g.T.Lane.value p.array.now p.views.now c.requires.parted) (by_kind s c.args.cmd is_of_split false (not_of_split (length s.shape) c.args.cmd c.in_default.not-Join c.in_default.not-View)))

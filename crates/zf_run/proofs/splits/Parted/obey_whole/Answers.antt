@@ -1,4 +1,4 @@
-use Rattle.std.proofs.Common.{sym, ap, subst, true, Some}
+use Rattle.std.proofs.Common.{sym, ap, subst, true, Some, length}
 use Rattle.zf_cached.specs.Kinds.{is_of_split}
 use Rattle.zf_cached.specs.Replies.{Refusal, Reply}
 use Rattle.zf_commands.specs.Kinds.{cmd_of_kind, asked}
@@ -16,7 +16,7 @@ returns-in-Join-clause-does g c =
     let s = session_of p.array.now p.window in
     let cmd = asked s (cmd_of_kind c.args.cmd) in
     subst (λ o. Does S cmd s (parted_session g.T.Lane.value p.array.now o p.window) (Some (Reply.refused Refusal.split))) (sym c.requires.whole)
-    (refused_split S cmd s c.requires.window (by_kind s c.args.cmd is_of_split true (ap (λ k. is_of_split (sort_of k)) c.in-Join.is)))
+    (refused_split S cmd s c.requires.window (by_kind s c.args.cmd is_of_split true (ap (λ k. is_of_split (sort_of (length s.shape) k)) c.in-Join.is)))
 
 pub returns-in-View-clause-does : goal.returns-in-View-clause-does
 returns-in-View-clause-does g c =
@@ -25,4 +25,4 @@ returns-in-View-clause-does g c =
     let s = session_of p.array.now p.window in
     let cmd = asked s (cmd_of_kind c.args.cmd) in
     subst (λ o. Does S cmd s (parted_session g.T.Lane.value p.array.now o p.window) (Some (Reply.refused Refusal.split))) (sym c.requires.whole)
-    (refused_split S cmd s c.requires.window (by_kind s c.args.cmd is_of_split true (ap (λ k. is_of_split (sort_of k)) c.in-View.is)))
+    (refused_split S cmd s c.requires.window (by_kind s c.args.cmd is_of_split true (ap (λ k. is_of_split (sort_of (length s.shape) k)) c.in-View.is)))
