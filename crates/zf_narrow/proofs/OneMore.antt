@@ -15,9 +15,7 @@ use Rattle.zf_narrow.specs.RawNarrow.{of_signed, value_of, narrow_bytes, values_
 
 pub size_is : (n : Narrow) → byte_len (width_of n) ≡ size_of n
 size_is I8 = refl
-size_is U8 = refl
-size_is I16 = refl
-size_is U16 = refl
+size_is n = refl
 
 pub length-narrow_bytes : (n : Narrow) (v : ℤ) → length (narrow_bytes n v) ≡ size_of n
 length-narrow_bytes n v = length-to_le_bytes (width_of n) (cast_unsigned (width_of n) v) ∙ size_is n
