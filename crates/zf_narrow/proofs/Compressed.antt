@@ -135,27 +135,15 @@ CanCome faults.Trailing = ⊥
 CanCome e = Unit {0}
 
 can_come : (h : Header) (e : StreamFault) → CanRefuse (compress_answer h) e → CanCome e
-can_come h (faults.Header f) (inl is) = absurd (length_says (raw_len h) is.0 (Err (faults.Header f)) is.1)
-can_come h (faults.Header f) (inr (inl e)) = cc
-can_come h (faults.Header f) (inr (inr (inl e))) = cc
-can_come h (faults.Header f) (inr (inr (inr e))) = cc
-can_come h (faults.Truncated b) (inl is) = absurd (length_says (raw_len h) is.0 (Err (faults.Truncated b)) is.1)
-can_come h (faults.Truncated b) (inr (inl e)) = cc
-can_come h (faults.Truncated b) (inr (inr (inl e))) = cc
-can_come h (faults.Truncated b) (inr (inr (inr e))) = cc
-can_come h faults.Pad (inl is) = absurd (length_says (raw_len h) is.0 (Err faults.Pad) is.1)
-can_come h faults.Pad (inr (inl e)) = cc
-can_come h faults.Pad (inr (inr (inl e))) = cc
-can_come h faults.Pad (inr (inr (inr e))) = cc
-can_come h faults.Trailing (inl is) = absurd (length_says (raw_len h) is.0 (Err faults.Trailing) is.1)
-can_come h faults.Trailing (inr (inl e)) = cc
-can_come h faults.Trailing (inr (inr (inl e))) = cc
-can_come h faults.Trailing (inr (inr (inr e))) = cc
 can_come h (faults.RawShort k) can = tt
 can_come h faults.RawLong can = tt
 can_come h faults.Read can = tt
 can_come h faults.Write can = tt
 can_come h faults.Memory can = tt
+can_come h e (inl is) = absurd (length_says (raw_len h) is.0 (Err e) is.1)
+can_come h e (inr (inl is)) = cc
+can_come h e (inr (inr (inl is))) = cc
+can_come h e (inr (inr (inr is))) = cc
 
 fault_possible : (n : Narrow) (h : Header) (e : StreamFault) → h.ty ≡ I32 → CanRefuse (compress_answer h) e → CanRefuse (compress_narrow_answer n h) (narrow_fault n e)
 fault_possible n h (faults.RawShort k) int32 (inl is) =
@@ -166,10 +154,7 @@ fault_possible n h faults.RawLong int32 can = CanRefuse-long (narrow_len n h)
 fault_possible n h faults.Read int32 can = inr (inl refl)
 fault_possible n h faults.Write int32 can = inr (inr (inl refl))
 fault_possible n h faults.Memory int32 can = inr (inr (inr refl))
-fault_possible n h (faults.Header f) int32 can = absurd (can_come h (faults.Header f) can)
-fault_possible n h (faults.Truncated b) int32 can = absurd (can_come h (faults.Truncated b) can)
-fault_possible n h faults.Pad int32 can = absurd (can_come h faults.Pad can)
-fault_possible n h faults.Trailing int32 can = absurd (can_come h faults.Trailing can)
+fault_possible n h e int32 can = absurd (can_come h e can)
 
 -- ---- what was read and written
 

@@ -82,36 +82,11 @@ IsComplete-quiet c status before now old new Sure Still behaves causes src out s
 -- the statuses from outside that a command may end with are among those that it can end with
 possible_fault : (status : Status) (c : Command) (w : World) (starved : List ℕ) → MayFail status c w → IsPossible c status
 possible_fault ReadFault (Compress h) w starved may = tt
-possible_fault ReadFault (CompressNarrow n h) w starved may = tt
-possible_fault ReadFault Restore w starved may = tt
-possible_fault ReadFault (RestoreNarrow n) w starved may = tt
-possible_fault ReadFault Info w starved may = tt
 possible_fault WriteFault (Compress h) w starved may = tt
-possible_fault WriteFault (CompressNarrow n h) w starved may = tt
-possible_fault WriteFault Restore w starved may = tt
-possible_fault WriteFault (RestoreNarrow n) w starved may = tt
-possible_fault WriteFault (Bound name most) w starved may = tt
 possible_fault LoadFault (Bound name most) w starved may = tt
-possible_fault Memory (Bound name most) w starved may = tt
-possible_fault WriteFault Info w starved may = tt
-possible_fault WriteFault (Sample h seed) w starved may = tt
-possible_fault ReadFault (Run name caching) w starved may = tt
-possible_fault WriteFault (Run name caching) w starved may = tt
-possible_fault LoadFault (Run name caching) w starved may = tt
-possible_fault ReadFault (Look name l) w starved may = tt
-possible_fault WriteFault (Look name l) w starved may = tt
-possible_fault LoadFault (Look name l) w starved may = tt
-possible_fault Memory (Look name l) w starved may = tt
 possible_fault SaveFault (New name ty ns b) w starved may = tt
-possible_fault SaveFault (Run name caching) w starved may = tt
-possible_fault Memory (Run name caching) w starved may = tt
 possible_fault Memory (Compress h) w starved may = tt
-possible_fault Memory (CompressNarrow n h) w starved may = tt
-possible_fault Memory Restore w starved may = tt
-possible_fault Memory (RestoreNarrow n) w starved may = tt
-possible_fault Memory (New name ty ns b) w starved may = tt
-possible_fault Memory (Sample h seed) w starved may = tt
-possible_fault status c w starved may = absurd (first_of (assumption may, cc))
+possible_fault status c w starved may = first_of (assumption may, absurd (first_of (assumption may, cc)))
 
 -- and so are those that it states for an input
 compress_ends : (starved_are n : ℕ) (short long : Bool) → (short ≡ true → n < starved_are) → CompressEnds starved_are (status_of (cond short (Err (faults.RawShort n)) (cond long (Err faults.RawLong) (Ok tt))))
