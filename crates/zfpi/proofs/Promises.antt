@@ -81,12 +81,20 @@ IsComplete-quiet c status before now old new Sure Still behaves causes src out s
 
 -- the statuses from outside that a command may end with are among those that it can end with
 possible_fault : (status : Status) (c : Command) (w : World) (starved : List ℕ) → MayFail status c w → IsPossible c status
-possible_fault ReadFault (Compress h) w starved may = tt
-possible_fault WriteFault (Compress h) w starved may = tt
+possible_fault ReadFault (New name ty ns b) w starved may = absurd may
+possible_fault ReadFault (Bound name most) w starved may = absurd may
+possible_fault ReadFault (Sample h seed) w starved may = absurd may
+possible_fault ReadFault c w starved may = tt
+possible_fault WriteFault (New name ty ns b) w starved may = absurd may
+possible_fault WriteFault c w starved may = tt
+possible_fault LoadFault (Run name caching) w starved may = tt
+possible_fault LoadFault (Look name l) w starved may = tt
 possible_fault LoadFault (Bound name most) w starved may = tt
 possible_fault SaveFault (New name ty ns b) w starved may = tt
-possible_fault Memory (Compress h) w starved may = tt
-possible_fault status c w starved may = first_of (assumption may, absurd (first_of (assumption may, cc)))
+possible_fault SaveFault (Run name caching) w starved may = tt
+possible_fault Memory Info w starved may = absurd may
+possible_fault Memory c w starved may = tt
+possible_fault status c w starved may = absurd (first_of (assumption may, cc))
 
 -- and so are those that it states for an input
 compress_ends : (starved_are n : ℕ) (short long : Bool) → (short ≡ true → n < starved_are) → CompressEnds starved_are (status_of (cond short (Err (faults.RawShort n)) (cond long (Err faults.RawLong) (Ok tt))))
