@@ -19,7 +19,7 @@ use Rattle.zf_stream.specs.Outcomes.{Compressed, CompressedGiven, Answers, CanRe
 use Rattle.zf_stream.proofs.RawRows.{short_answer, long_answer, good_answer}
 use Rattle.zf_stream.proofs.Refusals.{CanRefuse-short, CanRefuse-long}
 use Rattle.zf_narrow.specs.declared.narrow.Narrow.{Narrow}
-use Rattle.zf_narrow.specs.declared.narrow.Narrow.TheVariants.{I8, U8, I16, U16}
+use Rattle.zf_narrow.specs.declared.narrow.Narrow.TheVariants.{I8}
 use Rattle.zf_narrow.specs.Values.{size_of}
 use Rattle.zf_narrow.specs.RawNarrow.{promoted_bytes, promoted_all}
 use Rattle.zf_narrow.specs.declared.promotion.Promotion.{Promotion}

@@ -3,7 +3,7 @@ use Rattle.std.proofs.Common.{◌≡◌, sym, ap, ◌∙◌, ℕ, ◌+◌, ◌*�
 use Rattle.std.proofs.lemmas.List.{length-take, length-take-le, take-append-le, take_at, take_more}
 use Rattle.std.proofs.Math.Nat.{mul-le-mul_right}
 use Rattle.zf_narrow.specs.declared.narrow.Narrow.{Narrow}
-use Rattle.zf_narrow.specs.declared.narrow.Narrow.TheVariants.{I8, U8, I16, U16}
+use Rattle.zf_narrow.specs.declared.narrow.Narrow.TheVariants.{I8}
 use Rattle.zf_narrow.specs.Values.{size_of}
 use Rattle.zf_narrow.specs.RawNarrow.{demoted_bytes}
 use Rattle.zf_narrow.specs.Promoting.{listed}

@@ -11,7 +11,7 @@ use Rattle.zf_base.specs.declared.lane.Ty.TheVariants.{I32}
 use Rattle.zf_parse.specs.Parsing.{Said, parse}
 use Rattle.zf_parse.proofs.Parts.{said_fit, text_of_said}
 use Rattle.zf_narrow.specs.declared.narrow.Narrow.{Narrow}
-use Rattle.zf_narrow.specs.declared.narrow.Narrow.TheVariants.{I8, U8, I16, U16}
+use Rattle.zf_narrow.specs.declared.narrow.Narrow.TheVariants.{I8}
 use Rattle.zf_narrow.specs.Values.{IsNarrow, nearest}
 use Rattle.zf_narrow.specs.RawNarrow.{raw_narrow, demoted_bytes}
 use Rattle.zf_narrow.specs.Texts.{narrow_restored}

@@ -9,7 +9,7 @@ use Rattle.zf_spec.proofs.Bytes.{length-to_le_bytes}
 use Rattle.zf_stream.proofs.LittleEndian.{values_from-more}
 use Rattle.zf_stream.proofs.RawValues.{raw-append}
 use Rattle.zf_narrow.specs.declared.narrow.Narrow.{Narrow}
-use Rattle.zf_narrow.specs.declared.narrow.Narrow.TheVariants.{I8, U8, I16, U16}
+use Rattle.zf_narrow.specs.declared.narrow.Narrow.TheVariants.{I8}
 use Rattle.zf_narrow.specs.Values.{width_of, size_of, promoted, demoted}
 use Rattle.zf_narrow.specs.RawNarrow.{of_signed, value_of, narrow_bytes, values_in, raw_narrow}
 

@@ -1,5 +1,5 @@
 -- One read of a promotion, as the source sees it.
-use Rattle.std.proofs.Common.{◌≡◌, refl, sym, ap, subst, ◌∙◌, ℕ, ◌<◌, Bool, true, false, IsTrue, List, [], ◌++◌, length, drop, replicate, Option, append-nil, arith}
+use Rattle.std.proofs.Common.{◌≡◌, refl, sym, ap, subst, ◌∙◌, ℕ, ◌<◌, Bool, true, false, IsTrue, List, [], ◌++◌, length, drop, Option, append-nil, arith}
 use Rattle.std.specs.Prelude.{◌↔◌}
 use Rattle.std.proofs.lemmas.List.{drop_all}
 use Rattle.zf_dev.specs.Source.{Takes, IsAtEnd}

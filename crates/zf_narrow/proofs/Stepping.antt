@@ -4,7 +4,7 @@ use Rattle.std.specs.Prelude.{IfOk, OnErr, ◌↔◌}
 use Rattle.std.proofs.lemmas.List.{length-take-le}
 use Rattle.zf_dev.specs.Source.{Takes, IsAtEnd, EndsAt}
 use Rattle.zf_narrow.specs.declared.narrow.Narrow.{Narrow}
-use Rattle.zf_narrow.specs.declared.narrow.Narrow.TheVariants.{I8, U8, I16, U16}
+use Rattle.zf_narrow.specs.declared.narrow.Narrow.TheVariants.{I8}
 use Rattle.zf_narrow.specs.Values.{size_of}
 use Rattle.zf_narrow.specs.RawNarrow.{promoted_bytes, promoted_all}
 use Rattle.zf_narrow.specs.Promoting.{coming, exposed_by, TakesValues}

@@ -7,7 +7,7 @@ use Rattle.zf_spec.proofs.RawValues.{length-raw, length-values_from}
 use Rattle.zf_stream.proofs.RawValues.{raw-append}
 use Rattle.zf_stream.proofs.Rows.{values_from-append}
 use Rattle.zf_narrow.specs.declared.narrow.Narrow.{Narrow}
-use Rattle.zf_narrow.specs.declared.narrow.Narrow.TheVariants.{I8, U8, I16, U16}
+use Rattle.zf_narrow.specs.declared.narrow.Narrow.TheVariants.{I8}
 use Rattle.zf_narrow.specs.Values.{width_of, size_of, promoted, demoted}
 use Rattle.zf_narrow.specs.RawNarrow.{of_signed, values_in, promoted_bytes, promoted_all, raw_narrow, demoted_bytes}
 use Rattle.zf_narrow.proofs.OneMore.{size_is}
