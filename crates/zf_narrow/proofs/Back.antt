@@ -27,16 +27,12 @@ floor_div-times U16 (negsuc m) =
 
 pub nearest_narrow : (n : Narrow) (v : ℤ) → IsNarrow n (nearest n v)
 nearest_narrow I8 v = record { at_least = omega (arith, ints, clamps); at_most = omega (arith, ints, clamps) }
-nearest_narrow U8 v = record { at_least = omega (arith, ints, clamps); at_most = omega (arith, ints, clamps) }
-nearest_narrow I16 v = record { at_least = omega (arith, ints, clamps); at_most = omega (arith, ints, clamps) }
-nearest_narrow U16 v = record { at_least = omega (arith, ints, clamps); at_most = omega (arith, ints, clamps) }
+nearest_narrow n v = record { at_least = omega (arith, ints, clamps); at_most = omega (arith, ints, clamps) }
 
 -- a number of the type is the nearest to itself
 nearest_itself : (n : Narrow) (v : ℤ) → IsNarrow n v → nearest n v ≡ v
 nearest_itself I8 v is = let low = is.at_least in let high = is.at_most in omega (arith, ints, clamps)
-nearest_itself U8 v is = let low = is.at_least in let high = is.at_most in omega (arith, ints, clamps)
-nearest_itself I16 v is = let low = is.at_least in let high = is.at_most in omega (arith, ints, clamps)
-nearest_itself U16 v is = let low = is.at_least in let high = is.at_most in omega (arith, ints, clamps)
+nearest_itself n v is = let low = is.at_least in let high = is.at_most in omega (arith, ints, clamps)
 
 there_and_back : (a b : ℤ) → (a -ℤ b) +ℤ b ≡ a
 there_and_back a b = omega (arith, ints)
@@ -49,6 +45,4 @@ demoted-promoted n v is =
 
 pub promoted_fits : (n : Narrow) (v : ℤ) → IsNarrow n v → FitsSigned w32 (promoted n v)
 promoted_fits I8 v is = let low = is.at_least in let high = is.at_most in search (rules, ints)
-promoted_fits U8 v is = let low = is.at_least in let high = is.at_most in search (rules, ints)
-promoted_fits I16 v is = let low = is.at_least in let high = is.at_most in search (rules, ints)
-promoted_fits U16 v is = let low = is.at_least in let high = is.at_most in search (rules, ints)
+promoted_fits n v is = let low = is.at_least in let high = is.at_most in search (rules, ints)

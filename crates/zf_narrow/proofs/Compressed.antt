@@ -19,7 +19,7 @@ use Rattle.zf_stream.specs.Outcomes.{Compressed, CompressedGiven, Answers, CanRe
 use Rattle.zf_stream.proofs.RawRows.{short_answer, long_answer, good_answer}
 use Rattle.zf_stream.proofs.Refusals.{CanRefuse-short, CanRefuse-long}
 use Rattle.zf_narrow.specs.declared.narrow.Narrow.{Narrow}
-use Rattle.zf_narrow.specs.declared.narrow.Narrow.TheVariants.{I8, U8, I16, U16}
+use Rattle.zf_narrow.specs.declared.narrow.Narrow.TheVariants.{I8}
 use Rattle.zf_narrow.specs.Values.{size_of}
 use Rattle.zf_narrow.specs.RawNarrow.{promoted_bytes, promoted_all}
 use Rattle.zf_narrow.specs.declared.promotion.Promotion.{Promotion}
@@ -39,40 +39,28 @@ raw_len-int32 h int32 = ap (λ (ty : Ty). byte_len (width_of ty) * product h.sha
 -- fewer, as many or more: the same of the narrow bytes as of their int32 bytes
 same_few : (n : Narrow) (l p : ℕ) → l / size_of n * 4 + l % size_of n < 4 * p → l < size_of n * p
 same_few I8 l p few = omega (arith, few)
-same_few U8 l p few = omega (arith, few)
-same_few I16 l p few = omega (arith, few)
-same_few U16 l p few = omega (arith, few)
+same_few n l p few = omega (arith, few)
 
 same_all : (n : Narrow) (l p : ℕ) → l / size_of n * 4 + l % size_of n ≡ 4 * p → (l ≡ size_of n * p) × (l % size_of n ≡ 0)
 same_all I8 l p all = (omega (arith, all), omega (arith, all))
-same_all U8 l p all = (omega (arith, all), omega (arith, all))
-same_all I16 l p all = (omega (arith, all), omega (arith, all))
-same_all U16 l p all = (omega (arith, all), omega (arith, all))
+same_all n l p all = (omega (arith, all), omega (arith, all))
 
 same_many : (n : Narrow) (l p z : ℕ) → z ≤ l % size_of n → 4 * p < l / size_of n * 4 + z → size_of n * p < l
 same_many I8 l p z half many = omega (arith, half, many)
-same_many U8 l p z half many = omega (arith, half, many)
-same_many I16 l p z half many = omega (arith, half, many)
-same_many U16 l p z half many = omega (arith, half, many)
+same_many n l p z half many = omega (arith, half, many)
 
 count_back : (n : Narrow) (l : ℕ) → narrow_count n (l / size_of n * 4 + l % size_of n) ≡ l
 count_back I8 l = omega arith
-count_back U8 l = omega arith
-count_back I16 l = omega arith
-count_back U16 l = omega arith
+count_back n l = omega arith
 
 count_few : (n : Narrow) (k p : ℕ) → k < 4 * p → narrow_count n k < size_of n * p
 count_few I8 k p few = omega (arith, few)
-count_few U8 k p few = omega (arith, few)
-count_few I16 k p few = omega (arith, few)
-count_few U16 k p few = omega (arith, few)
+count_few n k p few = omega (arith, few)
 
 -- as many bytes as values have, though some be pending or a zero byte was given
 count_given : (n : Narrow) (t k half z p : ℕ) → t % size_of n ≡ 0 → 4 * p + k ≡ t / size_of n * 4 + z → k ≤ 3 → half < size_of n → (z ≡ 0) ⊎ ((z ≡ half) × (k ≡ 0)) → t ≡ size_of n * p
 count_given I8 t k half z p whole is few less one = ⊎_elim (λ none. omega (arith, whole, is, few, none)) (λ both. omega (arith, whole, is, less, both.0, both.1)) one
-count_given U8 t k half z p whole is few less one = ⊎_elim (λ none. omega (arith, whole, is, few, none)) (λ both. omega (arith, whole, is, less, both.0, both.1)) one
-count_given I16 t k half z p whole is few less one = ⊎_elim (λ none. omega (arith, whole, is, few, none)) (λ both. omega (arith, whole, is, less, both.0, both.1)) one
-count_given U16 t k half z p whole is few less one = ⊎_elim (λ none. omega (arith, whole, is, few, none)) (λ both. omega (arith, whole, is, less, both.0, both.1)) one
+count_given n t k half z p whole is few less one = ⊎_elim (λ none. omega (arith, whole, is, few, none)) (λ both. omega (arith, whole, is, less, both.0, both.1)) one
 
 -- ---- answers
 
@@ -128,14 +116,7 @@ short_not_outside k (inr (inr e)) = cc
 outside_still : (n : Narrow) (r : Result (Unit {0}) StreamFault) → IsErrAnd r IsFromOutside → IsErrAnd (narrow_result n r) IsFromOutside
 outside_still n (Ok done) is = absurd is
 outside_still n (Err (faults.RawShort k)) is = absurd (short_not_outside k is)
-outside_still n (Err faults.RawLong) is = is
-outside_still n (Err (faults.Header f)) is = is
-outside_still n (Err (faults.Truncated b)) is = is
-outside_still n (Err faults.Pad) is = is
-outside_still n (Err faults.Trailing) is = is
-outside_still n (Err faults.Read) is = is
-outside_still n (Err faults.Write) is = is
-outside_still n (Err faults.Memory) is = is
+outside_still n r is = is
 
 narrow_answers : (n : Narrow) (h : Header) (known : Option (List ℕ)) (r : Result (Unit {0}) StreamFault) → h.ty ≡ I32 → Answers r (exposed_by n false [] [] known) (compress_answer h)
     → Answers (narrow_result n r) known (compress_narrow_answer n h)
@@ -154,27 +135,15 @@ CanCome faults.Trailing = ⊥
 CanCome e = Unit {0}
 
 can_come : (h : Header) (e : StreamFault) → CanRefuse (compress_answer h) e → CanCome e
-can_come h (faults.Header f) (inl is) = absurd (length_says (raw_len h) is.0 (Err (faults.Header f)) is.1)
-can_come h (faults.Header f) (inr (inl e)) = cc
-can_come h (faults.Header f) (inr (inr (inl e))) = cc
-can_come h (faults.Header f) (inr (inr (inr e))) = cc
-can_come h (faults.Truncated b) (inl is) = absurd (length_says (raw_len h) is.0 (Err (faults.Truncated b)) is.1)
-can_come h (faults.Truncated b) (inr (inl e)) = cc
-can_come h (faults.Truncated b) (inr (inr (inl e))) = cc
-can_come h (faults.Truncated b) (inr (inr (inr e))) = cc
-can_come h faults.Pad (inl is) = absurd (length_says (raw_len h) is.0 (Err faults.Pad) is.1)
-can_come h faults.Pad (inr (inl e)) = cc
-can_come h faults.Pad (inr (inr (inl e))) = cc
-can_come h faults.Pad (inr (inr (inr e))) = cc
-can_come h faults.Trailing (inl is) = absurd (length_says (raw_len h) is.0 (Err faults.Trailing) is.1)
-can_come h faults.Trailing (inr (inl e)) = cc
-can_come h faults.Trailing (inr (inr (inl e))) = cc
-can_come h faults.Trailing (inr (inr (inr e))) = cc
 can_come h (faults.RawShort k) can = tt
 can_come h faults.RawLong can = tt
 can_come h faults.Read can = tt
 can_come h faults.Write can = tt
 can_come h faults.Memory can = tt
+can_come h e (inl is) = absurd (length_says (raw_len h) is.0 (Err e) is.1)
+can_come h e (inr (inl is)) = cc
+can_come h e (inr (inr (inl is))) = cc
+can_come h e (inr (inr (inr is))) = cc
 
 fault_possible : (n : Narrow) (h : Header) (e : StreamFault) → h.ty ≡ I32 → CanRefuse (compress_answer h) e → CanRefuse (compress_narrow_answer n h) (narrow_fault n e)
 fault_possible n h (faults.RawShort k) int32 (inl is) =
@@ -185,10 +154,7 @@ fault_possible n h faults.RawLong int32 can = CanRefuse-long (narrow_len n h)
 fault_possible n h faults.Read int32 can = inr (inl refl)
 fault_possible n h faults.Write int32 can = inr (inr (inl refl))
 fault_possible n h faults.Memory int32 can = inr (inr (inr refl))
-fault_possible n h (faults.Header f) int32 can = absurd (can_come h (faults.Header f) can)
-fault_possible n h (faults.Truncated b) int32 can = absurd (can_come h (faults.Truncated b) can)
-fault_possible n h faults.Pad int32 can = absurd (can_come h faults.Pad can)
-fault_possible n h faults.Trailing int32 can = absurd (can_come h faults.Trailing can)
+fault_possible n h e int32 can = absurd (can_come h e can)
 
 -- ---- what was read and written
 
@@ -272,12 +238,7 @@ module _ (n : Narrow) (h : Header) (int32 : h.ty ≡ I32) (spent : Bool) (pendin
       ∙ ap (λ k. k + length (replicate {A = ℕ} g.zeros 0)) (length-promoted_bytes n bytes) ∙ ap (λ k. length bytes / size_of n * 4 + k) (length-replicate g.zeros 0) in
       (bytes, same_many n (length bytes) (product h.shape) g.zeros g.half (omega (arith, shown.1, long, raw_len-int32 h int32)), p.read)
   shows known now (faults.Header f) p shown = tt
-  shows known now (faults.Truncated b) p shown = tt
-  shows known now faults.Pad p shown = tt
-  shows known now faults.Trailing p shown = tt
-  shows known now faults.Read p shown = tt
-  shows known now faults.Write p shown = tt
-  shows known now faults.Memory p shown = tt
+  shows known now e p shown = tt
 
   -- a part was read, and a prefix of the stream of its values written
   pub leaves : (known now out0 out1 : Option (List ℕ)) → Promotes n known now spent pending half taken → WritesPrefix (stream_text h) WasGiven out0 out1 → LeavesPrefix (narrow_text n h) known now out0 out1
@@ -294,14 +255,7 @@ module _ (n : Narrow) (h : Header) (int32 : h.ty ≡ I32) (spent : Bool) (pendin
 -- memory is wanting where it was for the int32 bytes
 memory_is : (n : Narrow) (e : StreamFault) → narrow_fault n e ≡ faults.Memory → e ≡ faults.Memory
 memory_is n (faults.RawShort k) same = absurd cc
-memory_is n faults.RawLong same = same
-memory_is n (faults.Header f) same = same
-memory_is n (faults.Truncated k) same = same
-memory_is n faults.Pad same = same
-memory_is n faults.Trailing same = same
-memory_is n faults.Read same = same
-memory_is n faults.Write same = same
-memory_is n faults.Memory same = same
+memory_is n e same = same
 
 pub record Runs (n : Narrow) (known now : Option (List ℕ)) (old new : Promotion) : Type 0 where
   pub same_old : old.narrow ≡ n
@@ -348,9 +302,7 @@ module _ (n : Narrow) {known now : Option (List ℕ)} (old new : Promotion) (r :
 
       nothing : (n : Narrow) → promoted_bytes n [] ≡ []
       nothing I8 = refl
-      nothing U8 = refl
-      nothing I16 = refl
-      nothing U16 = refl
+      nothing n = refl
 
   -- what was given since then
   given_by : (h : Header) (raw : List ℕ) → Gives (HasGiven old) (HasGiven new) raw → IsGiven n h (drop new.at new.value) new.taken.bytes (zeros_given new.spent (listed new.half)) raw

@@ -3,7 +3,7 @@ use Rattle.std.proofs.Common.{◌≡◌, sym, ap, ◌∙◌, ℕ, ◌+◌, ◌*�
 use Rattle.std.proofs.lemmas.List.{length-take, length-take-le, take-append-le, take_at, take_more}
 use Rattle.std.proofs.Math.Nat.{mul-le-mul_right}
 use Rattle.zf_narrow.specs.declared.narrow.Narrow.{Narrow}
-use Rattle.zf_narrow.specs.declared.narrow.Narrow.TheVariants.{I8, U8, I16, U16}
+use Rattle.zf_narrow.specs.declared.narrow.Narrow.TheVariants.{I8}
 use Rattle.zf_narrow.specs.Values.{size_of}
 use Rattle.zf_narrow.specs.RawNarrow.{demoted_bytes}
 use Rattle.zf_narrow.specs.Promoting.{listed}
@@ -16,9 +16,7 @@ begun_values n k = k / size_of n + min 1 (k % size_of n)
 -- there are enough of them, less than a byte too many, and no more than there were
 pub begun_values-bounds : (n : Narrow) (k count : ℕ) → k ≤ count * size_of n → (begun_values n k ≤ count) × (k ≤ begun_values n k * size_of n) × (begun_values n k * size_of n ≤ k + 1)
 begun_values-bounds I8 k count within = (omega arith, omega arith, omega arith)
-begun_values-bounds U8 k count within = (omega arith, omega arith, omega arith)
-begun_values-bounds I16 k count within = (omega arith, omega arith, omega arith)
-begun_values-bounds U16 k count within = (omega arith, omega arith, omega arith)
+begun_values-bounds n k count within = (omega arith, omega arith, omega arith)
 
 -- the bytes of the first values are the first of the bytes
 pub prefix_demoted : (n : Narrow) (count values : ℕ) (raw given : List ℕ) → values ≤ count → count * 4 ≤ length raw → given ≡ demoted_bytes n (take (count * 4) raw) → take (values * size_of n) given ≡ demoted_bytes n (take (values * 4) raw)

@@ -11,7 +11,7 @@ use Rattle.zf_base.specs.declared.lane.Ty.TheVariants.{I32}
 use Rattle.zf_parse.specs.Parsing.{Said, parse}
 use Rattle.zf_parse.proofs.Parts.{said_fit, text_of_said}
 use Rattle.zf_narrow.specs.declared.narrow.Narrow.{Narrow}
-use Rattle.zf_narrow.specs.declared.narrow.Narrow.TheVariants.{I8, U8, I16, U16}
+use Rattle.zf_narrow.specs.declared.narrow.Narrow.TheVariants.{I8}
 use Rattle.zf_narrow.specs.Values.{IsNarrow, nearest}
 use Rattle.zf_narrow.specs.RawNarrow.{raw_narrow, demoted_bytes}
 use Rattle.zf_narrow.specs.Texts.{narrow_restored}
@@ -19,9 +19,7 @@ use Rattle.zf_narrow.specs.Texts.{narrow_restored}
 -- no number of the type is nearer
 pub none_nearer : (n : Narrow) (v x : ℤ) → IsNarrow n x → unsigned_abs (nearest n v -ℤ v) ≤ unsigned_abs (x -ℤ v)
 none_nearer I8 v x is = let low = is.at_least in let high = is.at_most in omega (arith, ints, clamps)
-none_nearer U8 v x is = let low = is.at_least in let high = is.at_most in omega (arith, ints, clamps)
-none_nearer I16 v x is = let low = is.at_least in let high = is.at_most in omega (arith, ints, clamps)
-none_nearer U16 v x is = let low = is.at_least in let high = is.at_most in omega (arith, ints, clamps)
+none_nearer n v x is = let low = is.at_least in let high = is.at_most in omega (arith, ints, clamps)
 
 -- the raw bytes of int32 values as those of the numbers that they stand for
 demoted_values : (n : Narrow) (values : List ℤ) → AreValues w32 values → demoted_bytes n (raw w32 values) ≡ raw_narrow n values

@@ -9,15 +9,13 @@ use Rattle.zf_spec.proofs.Bytes.{length-to_le_bytes}
 use Rattle.zf_stream.proofs.LittleEndian.{values_from-more}
 use Rattle.zf_stream.proofs.RawValues.{raw-append}
 use Rattle.zf_narrow.specs.declared.narrow.Narrow.{Narrow}
-use Rattle.zf_narrow.specs.declared.narrow.Narrow.TheVariants.{I8, U8, I16, U16}
+use Rattle.zf_narrow.specs.declared.narrow.Narrow.TheVariants.{I8}
 use Rattle.zf_narrow.specs.Values.{width_of, size_of, promoted, demoted}
 use Rattle.zf_narrow.specs.RawNarrow.{of_signed, value_of, narrow_bytes, values_in, raw_narrow}
 
 pub size_is : (n : Narrow) → byte_len (width_of n) ≡ size_of n
 size_is I8 = refl
-size_is U8 = refl
-size_is I16 = refl
-size_is U16 = refl
+size_is n = refl
 
 pub length-narrow_bytes : (n : Narrow) (v : ℤ) → length (narrow_bytes n v) ≡ size_of n
 length-narrow_bytes n v = length-to_le_bytes (width_of n) (cast_unsigned (width_of n) v) ∙ size_is n

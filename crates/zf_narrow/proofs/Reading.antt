@@ -1,5 +1,5 @@
 -- One read of a promotion, as the source sees it.
-use Rattle.std.proofs.Common.{◌≡◌, refl, sym, ap, subst, ◌∙◌, ℕ, ◌<◌, Bool, true, false, IsTrue, List, [], ◌++◌, length, drop, replicate, Option, append-nil, arith}
+use Rattle.std.proofs.Common.{◌≡◌, refl, sym, ap, subst, ◌∙◌, ℕ, ◌<◌, Bool, true, false, IsTrue, List, [], ◌++◌, length, drop, Option, append-nil, arith}
 use Rattle.std.specs.Prelude.{◌↔◌}
 use Rattle.std.proofs.lemmas.List.{drop_all}
 use Rattle.zf_dev.specs.Source.{Takes, IsAtEnd}
@@ -7,7 +7,7 @@ use Rattle.zf_narrow.specs.declared.narrow.Narrow.{Narrow}
 use Rattle.zf_narrow.specs.declared.promotion.Promotion.{Promotion}
 use Rattle.zf_narrow.specs.Values.{size_of}
 use Rattle.zf_narrow.specs.Promoting.{listed, exposed_by, TakesValues}
-use Rattle.zf_narrow.specs.Promotions.{exposed, TakesRaw}
+use Rattle.zf_narrow.specs.Promotions.{exposed, IsIdle, TakesRaw, GivesHalf}
 use Rattle.zf_narrow.proofs.Whole.{no_values}
 use Rattle.zf_narrow.proofs.Stepping.{values_given, half_given, none_comes}
 
@@ -23,48 +23,47 @@ pub exposed_unspent : (p : Promotion) (left : Option (List ℕ)) → p.at ≡ 4 
 exposed_unspent p left all four unspent = exposed_idle p left all four ∙ ap (λ s. exposed_by p.narrow s [] (listed p.half) left) (unspent_is p.spent unspent)
 
 -- whole values were read, and all of their bytes given
-pub all_given : (old new : Promotion) (before now : Option (List ℕ)) (raw : List ℕ) → old.at ≡ 4 → length old.value ≡ 4 → (IsTrue old.spent → ⊥) → new.narrow ≡ old.narrow → new.at ≡ 4 → length new.value ≡ 4 → (IsTrue new.spent → ⊥)
-    → TakesRaw old new before now raw → Takes (exposed old before) (exposed new now) raw
-all_given old new before now raw all four unspent same all' four' unspent' takes =
+pub all_gone : (old new : Promotion) (before now : Option (List ℕ)) (raw : List ℕ) → IsIdle old → length old.value ≡ 4 → TakesRaw old new before now raw → Takes (exposed old before) (exposed new now) raw
+all_gone old new before now raw idle four takes =
     let n = old.narrow in
     let from = values_given n before now (listed old.half) (listed new.half) takes.values raw [] takes.taken (sym takes.raw_is ∙ sym (append-nil raw)) in
     let Of : Option (List ℕ) → Type 0 = λ t. Takes t (exposed_by n false [] (listed new.half) now) raw in
     let To : Option (List ℕ) → Type 0 = λ t. Takes (exposed old before) t raw in
-    let end : exposed_by n false [] (listed new.half) now ≡ exposed new now = ap (λ m. exposed_by m false [] (listed new.half) now) (sym same) ∙ sym (exposed_unspent new now all' four' unspent') in
-    subst To end (subst Of (sym (exposed_unspent old before all four unspent)) from)
+    let end : exposed_by n false [] (listed new.half) now ≡ exposed new now =
+    ap (λ m. exposed_by m false [] (listed new.half) now) (sym takes.same_type) ∙ sym (exposed_unspent new now takes.idle.all_given (ap length takes.kept ∙ four) takes.idle.unspent) in
+    subst To end (subst Of (sym (exposed_unspent old before idle.all_given four idle.unspent)) from)
 
 -- and the first of their bytes given
-pub first_given : (old mid : Promotion) (before now : Option (List ℕ)) (raw first value : List ℕ) (at : ℕ) → old.at ≡ 4 → length old.value ≡ 4 → (IsTrue old.spent → ⊥) → mid.narrow ≡ old.narrow → (IsTrue mid.spent → ⊥)
-    → TakesRaw old mid before now raw → raw ≡ first ++ drop at value → Takes (exposed old before) (exposed_by mid.narrow mid.spent (drop at value) (listed mid.half) now) first
-first_given old mid before now raw first value at all four unspent same unspent' takes is =
+pub first_gone : (old mid : Promotion) (before now : Option (List ℕ)) (raw first value : List ℕ) (at : ℕ) → IsIdle old → length old.value ≡ 4 → TakesRaw old mid before now raw → raw ≡ first ++ drop at value
+    → Takes (exposed old before) (exposed_by mid.narrow mid.spent (drop at value) (listed mid.half) now) first
+first_gone old mid before now raw first value at idle four takes is =
     let n = old.narrow in
     let pending = drop at value in
     let from = values_given n before now (listed old.half) (listed mid.half) takes.values first pending takes.taken (sym takes.raw_is ∙ is) in
     let Of : Option (List ℕ) → Type 0 = λ t. Takes t (exposed_by n false pending (listed mid.half) now) first in
     let To : Option (List ℕ) → Type 0 = λ t. Takes (exposed old before) t first in
     let end : exposed_by n false pending (listed mid.half) now ≡ exposed_by mid.narrow mid.spent pending (listed mid.half) now =
-    ap (λ m. exposed_by m false pending (listed mid.half) now) (sym same) ∙ ap (λ s. exposed_by mid.narrow s pending (listed mid.half) now) (sym (unspent_is mid.spent unspent')) in
-    subst To end (subst Of (sym (exposed_unspent old before all four unspent)) from)
+    ap (λ m. exposed_by m false pending (listed mid.half) now) (sym takes.same_type) ∙ ap (λ s. exposed_by mid.narrow s pending (listed mid.half) now) (sym (unspent_is mid.spent takes.idle.unspent)) in
+    subst To end (subst Of (sym (exposed_unspent old before idle.all_given four idle.unspent)) from)
 
 -- the source is at its end, and a zero byte was given for half a value
-pub half_read : (old mid new : Promotion) (before now : Option (List ℕ)) (raw : List ℕ) (count : ℕ) → old.at ≡ 4 → length old.value ≡ 4 → (IsTrue old.spent → ⊥) → mid.narrow ≡ old.narrow → TakesRaw old mid before now raw → length raw ≡ 0
-    → IsAtEnd now → new.narrow ≡ mid.narrow → new.half ≡ mid.half → new.at ≡ 4 → length new.value ≡ 4 → count ≡ length (listed mid.half) → IsTrue new.spent ↔ (0 < count)
-    → (given : List ℕ) → given ≡ replicate (length (listed mid.half)) 0
+pub half_gone : (old mid new : Promotion) (before now : Option (List ℕ)) (raw given : List ℕ) (count : ℕ) → IsIdle old → length old.value ≡ 4 → TakesRaw old mid before now raw → length raw ≡ 0 → IsAtEnd now → GivesHalf mid new count given
     → Takes (exposed old before) (exposed new now) given × (count ≡ 0 → IsAtEnd (exposed new now))
-half_read old mid new before now raw count all four unspent same takes none end narrow half all' four' count_is spent given given_is =
+half_gone old mid new before now raw given count idle four takes none end gives =
     let n = old.narrow in
     let h = listed mid.half in
     let no = no_values n takes.values takes.taken.whole (ap length (sym takes.raw_is) ∙ none) in
     let Few : Narrow → Type 0 = λ m. length h < size_of m in
-    let few : length h < size_of n = subst Few same mid.few in
+    let few : length h < size_of n = subst Few takes.same_type mid.few in
     let Without : List ℕ → Type 0 = λ vs. TakesValues n before now (listed old.half) h vs in
     let Spent : ℕ → Type 0 = λ k. IsTrue new.spent ↔ (0 < k) in
-    let from = half_given n before now (listed old.half) h new.spent few (subst Without no takes.taken) end (subst Spent count_is spent) in
+    let from = half_given n before now (listed old.half) h new.spent few (subst Without no takes.taken) end (subst Spent gives.count_is gives.spent) in
     let Of : Option (List ℕ) → Type 0 = λ t. Takes t (exposed_by n new.spent [] h now) given in
     let To : Option (List ℕ) → Type 0 = λ t. Takes (exposed old before) t given in
     let Given : List ℕ → Type 0 = λ bs. Takes (exposed_by n false [] (listed old.half) before) (exposed_by n new.spent [] h now) bs in
     let is : exposed_by n new.spent [] h now ≡ exposed new now =
-    ap (λ m. exposed_by m new.spent [] h now) (sym (narrow ∙ same)) ∙ ap (λ o. exposed_by new.narrow new.spent [] (listed o) now) (sym half) ∙ sym (exposed_idle new now all' four') in (
-      subst To is (subst Of (sym (exposed_unspent old before all four unspent)) (subst Given (sym given_is) from)),
-      λ nothing. subst IsAtEnd is (none_comes n new.spent now h end (sym count_is ∙ nothing)),
+    ap (λ m. exposed_by m new.spent [] h now) (sym (gives.same_type ∙ takes.same_type)) ∙ ap (λ o. exposed_by new.narrow new.spent [] (listed o) now) (sym gives.half)
+    ∙ sym (exposed_idle new now gives.all_given (ap length (gives.kept ∙ takes.kept) ∙ four)) in (
+      subst To is (subst Of (sym (exposed_unspent old before idle.all_given four idle.unspent)) (subst Given (sym gives.given_are) from)),
+      λ nothing. subst IsAtEnd is (none_comes n new.spent now h end (sym gives.count_is ∙ nothing)),
     )

@@ -36,9 +36,7 @@ of_signed_narrow U16 v fits = let below = word_unsigned v fits in record { at_le
 -- and has these bytes
 bytes_of_signed : (n : Narrow) (v : ℤ) → narrow_bytes n (of_signed n v) ≡ to_le_bytes (width_of n) (cast_unsigned (width_of n) v)
 bytes_of_signed I8 v = refl
-bytes_of_signed U8 v = refl
-bytes_of_signed I16 v = refl
-bytes_of_signed U16 v = refl
+bytes_of_signed n v = refl
 
 -- ---- values
 

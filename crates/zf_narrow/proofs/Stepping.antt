@@ -1,10 +1,10 @@
 -- One read of a source that promotes: what is given is gone from what is to come.
 use Rattle.std.proofs.Common.{◌≡◌, refl, sym, ap, ◌∙◌, ℕ, zero, suc, ◌%◌, ◌≤◌, ◌<◌, Bool, true, false, IsTrue, List, [], ◌∷◌, ◌++◌, length, take, replicate, Option, Some, None, Result, Ok, Err, append_assoc, append-nil, arith}
-use Rattle.std.specs.Prelude.{IfOk, ◌↔◌}
+use Rattle.std.specs.Prelude.{IfOk, OnErr, ◌↔◌}
 use Rattle.std.proofs.lemmas.List.{length-take-le}
 use Rattle.zf_dev.specs.Source.{Takes, IsAtEnd, EndsAt}
 use Rattle.zf_narrow.specs.declared.narrow.Narrow.{Narrow}
-use Rattle.zf_narrow.specs.declared.narrow.Narrow.TheVariants.{I8, U8, I16, U16}
+use Rattle.zf_narrow.specs.declared.narrow.Narrow.TheVariants.{I8}
 use Rattle.zf_narrow.specs.Values.{size_of}
 use Rattle.zf_narrow.specs.RawNarrow.{promoted_bytes, promoted_all}
 use Rattle.zf_narrow.specs.Promoting.{coming, exposed_by, TakesValues}
@@ -12,9 +12,7 @@ use Rattle.zf_narrow.proofs.Whole.{promoted_all-append, promoted_all-few}
 
 some_size : (n : Narrow) → 0 < size_of n
 some_size I8 = omega arith
-some_size U8 = omega arith
-some_size I16 = omega arith
-some_size U16 = omega arith
+some_size n = omega arith
 
 -- the bytes of whole values come before those of what is left
 pub values_then : (n : Narrow) (half half_now values bytes left rest : List ℕ) → left ≡ bytes ++ rest → half ++ bytes ≡ values ++ half_now → length values % size_of n ≡ 0
@@ -46,9 +44,7 @@ half_given n (Some left) (Some rest) half half_now spent few takes end is =
   where
     nothing : (n : Narrow) → promoted_bytes n [] ≡ []
     nothing I8 = refl
-    nothing U8 = refl
-    nothing I16 = refl
-    nothing U16 = refl
+    nothing n = refl
 
     none : (xs : List ℕ) → (0 < length xs → ⊥) → xs ≡ []
     none [] h = refl
@@ -70,6 +66,15 @@ none_comes n spent None half end none = tt
 none_comes n true (Some left) half end none = refl
 none_comes n false (Some left) [] end none = ap (promoted_all n) end ∙ promoted_all-few n [] (some_size n)
 none_comes n false (Some left) (b ∷ half) end none = absurd (omega arith)
+
+-- what follows from a fact on each value, or on an error, follows from it on the result
+pub IfOk-more : {T E : Type 0} (r : Result T E) (P Q : T → Type 0) → IfOk r P → ((x : T) → P x → Q x) → IfOk r Q
+IfOk-more (Ok x) P Q is more = more x is
+IfOk-more (Err e) P Q is more = tt
+
+pub OnErr-more : {T E : Type 0} (r : Result T E) (P Q : Type 0) → OnErr r P → (P → Q) → OnErr r Q
+OnErr-more (Ok x) P Q is more = tt
+OnErr-more (Err e) P Q is more = more is
 
 -- the end of a source that promotes is exposed by a read of nothing
 pub ends_at : {E : Type 0} (r : Result ℕ E) (old new : Option (List ℕ)) (buf : List ℕ) → IfOk r (λ k. Takes old new (take k buf)) → IfOk r (λ k. k ≤ length buf) → IfOk r (λ k. k ≡ 0 → IsAtEnd new) → IfOk r (λ k. EndsAt old new k)

@@ -13,7 +13,7 @@ use Rattle.zf_parse.specs.Parsing.{header_of, restore_answer}
 use Rattle.zf_parse.proofs.Parsed.{good_header}
 use Rattle.zf_parse.proofs.StreamsBack.{header_of-stream_text, answer-stream_text, text-reversible_text}
 use Rattle.zf_narrow.specs.declared.narrow.Narrow.{Narrow}
-use Rattle.zf_narrow.specs.declared.narrow.Narrow.TheVariants.{I8, U8, I16, U16}
+use Rattle.zf_narrow.specs.declared.narrow.Narrow.TheVariants.{I8}
 use Rattle.zf_narrow.specs.Values.{size_of, promoted}
 use Rattle.zf_narrow.specs.RawNarrow.{whole_values, promoted_bytes, demoted_bytes}
 use Rattle.zf_narrow.specs.Texts.{narrow_len, narrow_text, answer_behind, restore_narrow_answer, narrow_restored}
@@ -33,9 +33,7 @@ answer-narrow_text n h bytes is_header int32 =
 -- so many whole values
 counts : (n : Narrow) (l p : ℕ) → l ≡ size_of n * p → (l % size_of n ≡ 0) × (l / size_of n * 4 ≡ 4 * p)
 counts I8 l p is = (omega (arith, is), omega (arith, is))
-counts U8 l p is = (omega (arith, is), omega (arith, is))
-counts I16 l p is = (omega (arith, is), omega (arith, is))
-counts U16 l p is = (omega (arith, is), omega (arith, is))
+counts n l p is = (omega (arith, is), omega (arith, is))
 
 pub text-narrow_text : (n : Narrow) (h : Header) (bytes : List ℕ) → IsHeader h → h.ty ≡ I32 → h.mode ≡ Reversible → length bytes ≡ narrow_len n h → All (λ b. b < 256) bytes
     → narrow_restored n (narrow_text n h bytes) ≡ bytes

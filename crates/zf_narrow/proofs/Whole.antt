@@ -7,7 +7,7 @@ use Rattle.zf_spec.proofs.RawValues.{length-raw, length-values_from}
 use Rattle.zf_stream.proofs.RawValues.{raw-append}
 use Rattle.zf_stream.proofs.Rows.{values_from-append}
 use Rattle.zf_narrow.specs.declared.narrow.Narrow.{Narrow}
-use Rattle.zf_narrow.specs.declared.narrow.Narrow.TheVariants.{I8, U8, I16, U16}
+use Rattle.zf_narrow.specs.declared.narrow.Narrow.TheVariants.{I8}
 use Rattle.zf_narrow.specs.Values.{width_of, size_of, promoted, demoted}
 use Rattle.zf_narrow.specs.RawNarrow.{of_signed, values_in, promoted_bytes, promoted_all, raw_narrow, demoted_bytes}
 use Rattle.zf_narrow.proofs.OneMore.{size_is}
@@ -16,39 +16,27 @@ use Rattle.zf_narrow.proofs.OneMore.{size_is}
 
 pub whole_count : (n : Narrow) (a : ℕ) → a % size_of n ≡ 0 → a ≡ a / size_of n * size_of n
 whole_count I8 a whole = omega arith
-whole_count U8 a whole = omega arith
-whole_count I16 a whole = omega arith
-whole_count U16 a whole = omega arith
+whole_count n a whole = omega arith
 
 pub count-add : (n : Narrow) (a b : ℕ) → a % size_of n ≡ 0 → (a + b) / size_of n ≡ a / size_of n + b / size_of n
 count-add I8 a b whole = omega arith
-count-add U8 a b whole = omega arith
-count-add I16 a b whole = omega arith
-count-add U16 a b whole = omega arith
+count-add n a b whole = omega arith
 
 pub rest-add : (n : Narrow) (a b : ℕ) → a % size_of n ≡ 0 → (a + b) % size_of n ≡ b % size_of n
 rest-add I8 a b whole = omega arith
-rest-add U8 a b whole = omega arith
-rest-add I16 a b whole = omega arith
-rest-add U16 a b whole = omega arith
+rest-add n a b whole = omega arith
 
 pub few_count : (n : Narrow) (a : ℕ) → a < size_of n → a / size_of n ≡ 0
 few_count I8 a few = omega arith
-few_count U8 a few = omega arith
-few_count I16 a few = omega arith
-few_count U16 a few = omega arith
+few_count n a few = omega arith
 
 pub few_rest : (n : Narrow) (a : ℕ) → a < size_of n → a % size_of n ≡ a
 few_rest I8 a few = omega arith
-few_rest U8 a few = omega arith
-few_rest I16 a few = omega arith
-few_rest U16 a few = omega arith
+few_rest n a few = omega arith
 
 none_of_both : (n : Narrow) (a : ℕ) → a / size_of n ≡ 0 → a % size_of n ≡ 0 → a ≡ 0
 none_of_both I8 a none no_rest = omega arith
-none_of_both U8 a none no_rest = omega arith
-none_of_both I16 a none no_rest = omega arith
-none_of_both U16 a none no_rest = omega arith
+none_of_both n a none no_rest = omega arith
 
 -- ---- narrow values as int32 bytes
 

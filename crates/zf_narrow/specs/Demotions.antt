@@ -7,8 +7,9 @@ use Rattle.zf_narrow.specs.declared.demotion.Demotion.{Demotion}
 abbrev pub taken_so_far : Demotion → List ℕ
 taken_so_far d = d.taken.bytes ++ take d.held d.value
 
--- some narrow bytes were written
+-- some narrow bytes were written, of the same type
 pub record Gives (old new : Demotion) (before now : Option (List ℕ)) : Type 0 where
   pub bytes : List ℕ
   pub written : Appends before now bytes
   pub logged : new.given.bytes ≡ old.given.bytes ++ bytes
+  pub same_type : new.narrow ≡ old.narrow

@@ -1,6 +1,6 @@
 -- How far values were promoted, before and after.
-use Rattle.std.specs.Prelude.{ℕ, ◌≡◌, Bool, true, false, List, ◌++◌, length, drop, replicate, Option}
-use Rattle.zf_dev.specs.Source.{Takes}
+use Rattle.std.specs.Prelude.{ℕ, ◌≡◌, ◌<◌, ◌↔◌, Bool, true, false, IsTrue, List, ◌++◌, length, drop, replicate, Option}
+use Rattle.zf_dev.specs.Source.{Takes, Gives}
 use Rattle.zf_narrow.specs.declared.promotion.Promotion.{Promotion}
 use Rattle.zf_narrow.specs.Promoting.{listed, exposed_by, TakesValues}
 use Rattle.zf_narrow.specs.RawNarrow.{promoted_bytes}
@@ -24,15 +24,40 @@ abbrev pub HasGiven : Promotion → List ℕ → Type 0
 HasGiven p given = given ++ drop p.at p.value ≡ promoted_bytes p.narrow p.taken.bytes ++ replicate
     (zeros_given p.spent (listed p.half)) 0
 
--- some narrow bytes were read
+-- nothing is pending, and no zero byte was given for half a value
+pub record IsIdle (p : Promotion) : Type 0 where
+  pub all_given : p.at ≡ 4
+  pub unspent : ¬ IsTrue p.spent
+
+-- some narrow bytes were read, of the same type
 pub record Logs (old new : Promotion) (before now : Option (List ℕ)) : Type 0 where
   pub bytes : List ℕ
   pub taken : Takes before now bytes
   pub logged : read_so_far old ++ bytes ≡ read_so_far new
+  pub same_type : new.narrow ≡ old.narrow
 
--- some whole values were read, and these are their int32 bytes
+-- some whole values were read, and these are their int32 bytes; all else is as it was
 pub record TakesRaw (old new : Promotion) (before now : Option (List ℕ)) (raw : List ℕ) : Type 0 where
   pub values : List ℕ
   pub taken : TakesValues old.narrow before now (listed old.half) (listed new.half) values
   pub logged : new.taken.bytes ≡ old.taken.bytes ++ values
   pub raw_is : raw ≡ promoted_bytes old.narrow values
+  pub same_type : new.narrow ≡ old.narrow
+  pub kept : new.value ≡ old.value
+  pub idle : IsIdle new
+
+-- these int32 bytes were given: they are gone from those to come, and follow those that had been given
+pub record GivesRaw (old new : Promotion) (before now : Option (List ℕ)) (given : List ℕ) : Type 0 where
+  pub gone : Takes (exposed old before) (exposed new now) given
+  pub gave : Gives (HasGiven old) (HasGiven new) given
+
+-- so many zero bytes were given, these, for half a value, if there is one; all else is as it was
+pub record GivesHalf (old new : Promotion) (count : ℕ) (given : List ℕ) : Type 0 where
+  pub given_are : given ≡ replicate (length (listed old.half)) 0
+  pub count_is : count ≡ length (listed old.half)
+  pub spent : IsTrue new.spent ↔ (0 < count)
+  pub same_type : new.narrow ≡ old.narrow
+  pub kept : new.value ≡ old.value
+  pub all_given : new.at ≡ 4
+  pub half : new.half ≡ old.half
+  pub taken : new.taken.bytes ≡ old.taken.bytes

@@ -55,7 +55,6 @@ impl Demotion {
     /// Takes the first of these int32 bytes, at least one, and says how many, as a sink does.
     pub(crate) fn write<O: Sink>(&mut self, out: &mut O, bytes: &[u8]) -> Result<usize, Failed>
         requires { 0 < length bytes.now }
-        ensures same_type { self.new.narrow ≡ self.old.narrow }
         ensures some { IfOk result (λ k. 0 < k) }
         ensures bound { IfOk result (λ k. k ≤ length bytes.now) }
         ensures taken { IfOk result (λ k. taken_so_far self.new ≡ taken_so_far self.old ++ take k bytes.now) }
@@ -72,7 +71,6 @@ impl Demotion {
 
     /// Writes the byte that is owed, where one is.
     pub(crate) fn settle<O: Sink>(&mut self, out: &mut O) -> Result<(), Failed>
-        ensures same_type { self.new.narrow ≡ self.old.narrow }
         ensures held { self.new.held ≡ self.old.held }
         ensures value { self.new.value ≡ self.old.value }
         ensures taken { self.new.taken.bytes ≡ self.old.taken.bytes }
@@ -93,7 +91,6 @@ impl Demotion {
     fn write_part<O: Sink>(&mut self, out: &mut O, bytes: &[u8]) -> Result<usize, Failed>
         requires some { 0 < length bytes.now }
         requires settled { self.old.owed ≡ None }
-        ensures same_type { self.new.narrow ≡ self.old.narrow }
         ensures some { IfOk result (λ k. 0 < k) }
         ensures bound { IfOk result (λ k. k ≤ length bytes.now) }
         ensures taken { IfOk result (λ k. taken_so_far self.new ≡ taken_so_far self.old ++ take k bytes.now) }
@@ -119,7 +116,6 @@ impl Demotion {
     fn write_values<O: Sink>(&mut self, out: &mut O, raw: &[u8]) -> Result<usize, Failed>
         requires room { 4 ≤ length raw.now }
         requires settled { self.old.owed ≡ None }
-        ensures same_type { self.new.narrow ≡ self.old.narrow }
         ensures held { self.new.held ≡ self.old.held }
         ensures value { self.new.value ≡ self.old.value }
         ensures some { IfOk result (λ k. 4 ≤ k) }

@@ -38,7 +38,7 @@ pub(crate) struct Promotion {
 }
 
 impl Promotion {
-    ghost use Rattle.zf_narrow.specs.Promotions.{exposed, HasGiven, Logs, TakesRaw};
+    ghost use Rattle.zf_narrow.specs.Promotions.{exposed, IsIdle, Logs, TakesRaw, GivesRaw, GivesHalf};
 
     /// Nothing was read.
     pub(crate) fn new(narrow: Narrow) -> Promotion
@@ -70,16 +70,12 @@ impl Promotion {
     pub(crate) fn read<S: Source>(&mut self, src: &mut S, buf: &mut [u8]) -> Result<usize, Failed>
         requires room { 0 < length buf.old }
         requires at_end { IsTrue self.old.spent → IsAtEnd (S.contents src.old) }
-        ensures same_type { self.new.narrow ≡ self.old.narrow }
         ensures bound { IfOk result (λ k. k ≤ length buf.old) }
-        ensures given { IfOk result (λ k. Takes (exposed self.old (S.contents src.old))
-            (exposed self.new (S.contents src.new)) (take k buf.new)) }
+        ensures given { IfOk result (λ k. GivesRaw self.old self.new (S.contents src.old) (S.contents src.new)
+            (take k buf.new)) }
         ensures rest { IfOk result (λ k. drop k buf.new ≡ drop k buf.old) }
         ensures end { IfOk result (λ k. k ≡ 0 → IsAtEnd (exposed self.new (S.contents src.new))) }
-        ensures ungiven { OnErr result (Takes (exposed self.old (S.contents src.old))
-            (exposed self.new (S.contents src.new)) []) }
-        ensures gave { IfOk result (λ k. Gives (HasGiven self.old) (HasGiven self.new) (take k buf.new)) }
-        ensures gave_none { OnErr result (Gives (HasGiven self.old) (HasGiven self.new) []) }
+        ensures ungiven { OnErr result (GivesRaw self.old self.new (S.contents src.old) (S.contents src.new) []) }
         ensures taken { Logs self.old self.new (S.contents src.old) (S.contents src.new) }
         ensures at_end { IsTrue self.new.spent → IsAtEnd (S.contents src.new) }
         ensures source { AsksSource S.Source result src.old src.new }
@@ -103,18 +99,13 @@ impl Promotion {
     // Reads one value, and gives the first of its bytes.
     fn read_one<S: Source>(&mut self, src: &mut S, buf: &mut [u8]) -> Result<usize, Failed>
         requires room { 0 < length buf.old }
-        requires given { self.old.at ≡ 4 }
-        requires unspent { ¬ IsTrue self.old.spent }
-        ensures same_type { self.new.narrow ≡ self.old.narrow }
+        requires idle { IsIdle self.old }
         ensures bound { IfOk result (λ k. k ≤ length buf.old) }
-        ensures given { IfOk result (λ k. Takes (exposed self.old (S.contents src.old))
-            (exposed self.new (S.contents src.new)) (take k buf.new)) }
+        ensures given { IfOk result (λ k. GivesRaw self.old self.new (S.contents src.old) (S.contents src.new)
+            (take k buf.new)) }
         ensures rest { IfOk result (λ k. drop k buf.new ≡ drop k buf.old) }
         ensures end { IfOk result (λ k. k ≡ 0 → IsAtEnd (exposed self.new (S.contents src.new))) }
-        ensures ungiven { OnErr result (Takes (exposed self.old (S.contents src.old))
-            (exposed self.new (S.contents src.new)) []) }
-        ensures gave { IfOk result (λ k. Gives (HasGiven self.old) (HasGiven self.new) (take k buf.new)) }
-        ensures gave_none { OnErr result (Gives (HasGiven self.old) (HasGiven self.new) []) }
+        ensures ungiven { OnErr result (GivesRaw self.old self.new (S.contents src.old) (S.contents src.new) []) }
         ensures taken { Logs self.old self.new (S.contents src.old) (S.contents src.new) }
         ensures at_end { IsTrue self.new.spent → IsAtEnd (S.contents src.new) }
         ensures source { AsksSource S.Source result src.old src.new }
@@ -135,12 +126,7 @@ impl Promotion {
     // the end.
     fn read_values<S: Source>(&mut self, src: &mut S, buf: &mut [u8]) -> Result<usize, Failed>
         requires room { 4 ≤ length buf.old }
-        requires given { self.old.at ≡ 4 }
-        requires unspent { ¬ IsTrue self.old.spent }
-        ensures same_type { self.new.narrow ≡ self.old.narrow }
-        ensures given { self.new.at ≡ 4 }
-        ensures kept { self.new.value ≡ self.old.value }
-        ensures unspent { ¬ IsTrue self.new.spent }
+        requires idle { IsIdle self.old }
         ensures bound { IfOk result (λ k. k ≤ length buf.old) }
         ensures some { IfOk result (λ k. 0 < k → 4 ≤ k) }
         ensures values { IfOk result (λ k. TakesRaw self.old self.new (S.contents src.old)
@@ -166,17 +152,9 @@ impl Promotion {
     // Gives a zero byte where half a value is left over, and says how many bytes that are.
     fn give_half(&mut self, buf: &mut [u8]) -> usize
         requires room { 0 < length buf.old }
-        requires given { self.old.at ≡ 4 }
-        requires unspent { ¬ IsTrue self.old.spent }
-        ensures same_type { self.new.narrow ≡ self.old.narrow }
-        ensures given { self.new.at ≡ 4 }
-        ensures kept { self.new.value ≡ self.old.value }
-        ensures half { self.new.half ≡ self.old.half }
-        ensures taken { self.new.taken.bytes ≡ self.old.taken.bytes }
-        ensures value { take result buf.new ≡ replicate (length (listed self.old.half)) 0 }
+        requires idle { IsIdle self.old }
+        ensures half { GivesHalf self.old self.new result (take result buf.new) }
         ensures rest { drop result buf.new ≡ drop result buf.old }
-        ensures count { result ≡ length (listed self.old.half) }
-        ensures spent { IsTrue self.new.spent ↔ (0 < result) }
     {
         match self.half {
             Some(_) => {

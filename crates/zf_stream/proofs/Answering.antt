@@ -23,10 +23,6 @@ answer_at_end r None now answer bytes fault taken ended good = tt
 answer_at_end (Ok u) (Some input) now answer bytes fault taken ended good = inl (sym (ap answer (Takes-to_end input now bytes taken ended) ∙ good))
 answer_at_end (Err e) (Some input) now answer bytes fault taken ended good = inr (inr (inl fault))
 
-pub both_ok : {T E : Type 0} {P Q R : Type 0} (r : Result T E) → OnOk r P → OnOk r Q → (P → Q → R) → OnOk r R
-both_ok (Ok x) p q f = f p q
-both_ok (Err e) p q f = tt
-
 pub after_err : {T E : Type 0} {P R : Type 0} (r : Result T E) → OnErr r P → (P → R) → OnErr r R
 after_err (Ok x) p f = tt
 after_err (Err e) p f = f p

@@ -1,5 +1,5 @@
 -- How compressing ends, put together.
-use Rattle.std.proofs.Common.{◌≡◌, refl, sym, subst, ◌∙◌, ℕ, ◌<◌, inl, inr, Bool, List, [], ◌++◌, length, Option, Some, None, Result, Ok, Err}
+use Rattle.std.proofs.Common.{◌≡◌, refl, sym, subst, ◌∙◌, ℕ, ◌<◌, inr, Bool, List, [], ◌++◌, length, Option, Some, None, Result, Ok, Err}
 use Rattle.std.specs.Prelude.{IfErr, OnOk, OnErr}
 use Rattle.zf_dev.specs.Source.{Gives, IsAtEnd}
 use Rattle.zf_dev.specs.declared.source.Source.{Ghosts as Source}

@@ -1,5 +1,5 @@
 -- Calls that fail only where a device does, one after another.
-use Rattle.std.proofs.Common.{◌≡◌, refl, Result, Ok, Err}
+use Rattle.std.proofs.Common.{◌≡◌, Result, Ok, Err}
 use Rattle.zf_dev.specs.declared.source.Source.{Ghosts as Source}
 use Rattle.zf_dev.specs.declared.sink.Sink.{Ghosts as Sink}
 use Rattle.zf_dev.specs.Devices.{Reads, Writes}

@@ -17,12 +17,8 @@ first_bytes-take (suc n) (b ∷ s) within = ap (λ (bs : List ℕ). b ∷ bs) (f
 
 -- four bytes as a word of eight
 narrow_word : (bytes : List ℕ) → length bytes ≡ 4 → from_le_bytes w64 (first_bytes 8 bytes) ≡ from_le_bytes w32 bytes
-narrow_word [] e = absurd (omega arith)
-narrow_word (a ∷ []) e = absurd (omega arith)
-narrow_word (a ∷ b ∷ []) e = absurd (omega arith)
-narrow_word (a ∷ b ∷ c ∷ []) e = absurd (omega arith)
 narrow_word (a ∷ b ∷ c ∷ d ∷ []) e = omega arith
-narrow_word (a ∷ b ∷ c ∷ d ∷ f ∷ rest) e = absurd (omega arith)
+narrow_word bytes e = absurd (omega arith)
 
 word_at : (w : Width) (bytes : List ℕ) → (w ≡ w32) ⊎ (w ≡ w64) → length bytes ≡ byte_len w → from_le_bytes w64 (first_bytes 8 bytes) ≡ from_le_bytes w bytes
 word_at w bytes two size =

@@ -82,15 +82,10 @@ of_codes h all (Err b) = tt
 of_codes h all (Ok found) = of_fill (blocks h.shape) _ (nat_lt (length found.1) ((64 - (all - length found.1) % 64) % 64)) (has_one (take ((64 - (all - length found.1) % 64) % 64) found.1)) (nat_lt ((64 - (all - length found.1) % 64) % 64) (length found.1))
 
 not_before : (e : StreamFault) → IsOfCodes e → ¬ IsBeforeWriting e
-not_before (faults.Header f) of before = of
-not_before faults.Memory of before = of
-not_before faults.Read of before = of
-not_before faults.Write of before = of
-not_before (faults.RawShort n) of before = of
-not_before faults.RawLong of before = of
 not_before (faults.Truncated n) of before = before
 not_before faults.Pad of before = before
 not_before faults.Trailing of before = before
+not_before e of before = of
 
 device_not_before : (e : StreamFault) → (e ≡ faults.Read) ⊎ (e ≡ faults.Write) → ¬ IsBeforeWriting e
 device_not_before e device before =

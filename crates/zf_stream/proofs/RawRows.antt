@@ -30,25 +30,13 @@ lacks_is : (before wanted : ℕ) (old new : Option (List ℕ)) (e : StreamFault)
     → ((n : ℕ) × (e ≡ faults.RawShort n) × EndsShort before wanted old new n) ⊎ ((e ≡ faults.Read) × TakesSome old new)
 lacks_is before wanted old new (faults.RawShort n) lacks = inl (n, refl, lacks)
 lacks_is before wanted old new faults.Read lacks = inr (refl, lacks)
-lacks_is before wanted old new faults.RawLong lacks = absurd lacks
-lacks_is before wanted old new (faults.Header f) lacks = absurd lacks
-lacks_is before wanted old new (faults.Truncated n) lacks = absurd lacks
-lacks_is before wanted old new faults.Pad lacks = absurd lacks
-lacks_is before wanted old new faults.Trailing lacks = absurd lacks
-lacks_is before wanted old new faults.Write lacks = absurd lacks
-lacks_is before wanted old new faults.Memory lacks = absurd lacks
+lacks_is before wanted old new e lacks = absurd lacks
 
 -- or what came behind all of it: a byte, or the source failed
 more_is : (mid now : Option (List ℕ)) (e : StreamFault) → GoesOn mid now e → ((byte : ℕ) × (e ≡ faults.RawLong) × Takes mid now (byte ∷ [])) ⊎ ((e ≡ faults.Read) × TakesSome mid now)
 more_is mid now faults.RawLong more = inl (more.0, refl, more.1)
 more_is mid now faults.Read more = inr (refl, more)
-more_is mid now (faults.RawShort n) more = absurd more
-more_is mid now (faults.Header f) more = absurd more
-more_is mid now (faults.Truncated n) more = absurd more
-more_is mid now faults.Pad more = absurd more
-more_is mid now faults.Trailing more = absurd more
-more_is mid now faults.Write more = absurd more
-more_is mid now faults.Memory more = absurd more
+more_is mid now e more = absurd more
 
 -- what was taken though
 pub some_taken : (before wanted : ℕ) (old new : Option (List ℕ)) (e : StreamFault) → LacksRaw before wanted old new e → TakesSome old new

@@ -41,10 +41,4 @@ lacks_behind before at part wanted old mid new bytes (faults.RawShort n) taken l
   count_is = omega (arith, length-append bytes lacks.bytes, lacks.count_is);
 }
 lacks_behind before at part wanted old mid new bytes faults.Read taken long within lacks = (bytes ++ lacks.0, Takes-append old mid new bytes lacks.0 taken lacks.1)
-lacks_behind before at part wanted old mid new bytes faults.RawLong taken long within lacks = absurd lacks
-lacks_behind before at part wanted old mid new bytes (faults.Header f) taken long within lacks = absurd lacks
-lacks_behind before at part wanted old mid new bytes (faults.Truncated n) taken long within lacks = absurd lacks
-lacks_behind before at part wanted old mid new bytes faults.Pad taken long within lacks = absurd lacks
-lacks_behind before at part wanted old mid new bytes faults.Trailing taken long within lacks = absurd lacks
-lacks_behind before at part wanted old mid new bytes faults.Write taken long within lacks = absurd lacks
-lacks_behind before at part wanted old mid new bytes faults.Memory taken long within lacks = absurd lacks
+lacks_behind before at part wanted old mid new bytes e taken long within lacks = absurd lacks

@@ -1,5 +1,5 @@
 -- How restoring ends, put together.
-use Rattle.std.proofs.Common.{◌≡◌, refl, sym, subst, ◌∙◌, ℕ, inl, inr, ⊎_elim, List, ◌++◌, Option, Some, None, Result, Err, arith}
+use Rattle.std.proofs.Common.{◌≡◌, refl, subst, ℕ, inl, inr, ⊎_elim, List, ◌++◌, Option, Some, None, Result, Err, arith}
 use Rattle.std.specs.Prelude.{IfErr, OnOk, OnErr}
 use Rattle.std.proofs.lemmas.Result.{IfErr-weaker}
 use Rattle.zf_spec.specs.Stream.{to_bits}

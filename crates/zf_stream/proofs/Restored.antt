@@ -211,25 +211,13 @@ module _ (h : Header) (row here : ℕ) (next : IsNext h row here) {src0 mid out0
             ∙ ap (codes_answer h (w0.reader.at + length (stream_from w0 bytes))) codes;
       })
   slab_cut now first faults.Read is lacks = inr (inl refl)
-  slab_cut now first (faults.RawShort n) is lacks = absurd lacks
-  slab_cut now first faults.RawLong is lacks = absurd lacks
-  slab_cut now first (faults.Header f) is lacks = absurd lacks
-  slab_cut now first faults.Pad is lacks = absurd lacks
-  slab_cut now first faults.Trailing is lacks = absurd lacks
-  slab_cut now first faults.Write is lacks = absurd lacks
-  slab_cut now first faults.Memory is lacks = absurd lacks
+  slab_cut now first e is lacks = absurd lacks
 
 -- some bytes were taken
 pub some_lacked : (part : Header) (first : ℕ) (src now : Option (List ℕ)) (w : Window) (e : StreamFault) → LacksSlab part first src now w e → TakesSome src now
 some_lacked part first src now w (faults.Truncated number) cut = (cut.bytes, cut.taken)
 some_lacked part first src now w faults.Read some = some
-some_lacked part first src now w (faults.RawShort n) lacks = absurd lacks
-some_lacked part first src now w faults.RawLong lacks = absurd lacks
-some_lacked part first src now w (faults.Header f) lacks = absurd lacks
-some_lacked part first src now w faults.Pad lacks = absurd lacks
-some_lacked part first src now w faults.Trailing lacks = absurd lacks
-some_lacked part first src now w faults.Write lacks = absurd lacks
-some_lacked part first src now w faults.Memory lacks = absurd lacks
+some_lacked part first src now w e lacks = absurd lacks
 
 -- where the work stopped
 pub rows_left : (h : Header) (row : ℕ) {src0 mid now out0 out1 : Option (List ℕ)} {w0 w1 : Window} → Restores h row src0 mid out0 out1 w0 w1 → TakesSome mid now → LeavesRows h src0 now out0 out1 w0

@@ -43,13 +43,7 @@ typed_fault wanted n (Some all) prefix (faults.Header f) r within is fault resul
     let known : header_fault all ≡ Some f = sym (fault_first n all within) ∙ ap header_fault (sym is) ∙ fault in
     inl (result ∙ sym (ap (λ o. header_or o (answer_of_types wanted (header_of all).ty (restore_answer all))) known))
 typed_fault wanted n (Some all) prefix (faults.RawShort m) r within is fault result = absurd fault
-typed_fault wanted n (Some all) prefix faults.RawLong r within is fault result = absurd fault
-typed_fault wanted n (Some all) prefix (faults.Truncated m) r within is fault result = absurd fault
-typed_fault wanted n (Some all) prefix faults.Pad r within is fault result = absurd fault
-typed_fault wanted n (Some all) prefix faults.Trailing r within is fault result = absurd fault
-typed_fault wanted n (Some all) prefix faults.Read r within is fault result = absurd fault
-typed_fault wanted n (Some all) prefix faults.Write r within is fault result = absurd fault
-typed_fault wanted n (Some all) prefix faults.Memory r within is fault result = absurd fault
+typed_fault wanted n (Some all) prefix e r within is fault result = absurd fault
 
 -- a good header of the other type
 typed_other : (wanted : Ty) (known src : Option (List ℕ)) (prefix : List ℕ) (h : Header) (len : ℕ) → Takes known src prefix → BeginsWithHeader prefix h len → h.ty ≢ wanted → Answers (Ok false) known (typed_answer wanted)
@@ -94,14 +88,7 @@ typed_done wanted known src now out0 out prefix h len taken begun same fin =
 -- a fault of a header is that of its bytes, and one behind it that of bytes behind it
 typed_possible_header : (wanted : Ty) (prefix : List ℕ) (e : StreamFault) → IsFaultOf prefix e → CanRefuseTyped wanted e
 typed_possible_header wanted prefix (faults.Header f) fault = inl (prefix, ap (λ o. header_or o (answer_of_types wanted (header_of prefix).ty (restore_answer prefix))) fault)
-typed_possible_header wanted prefix (faults.RawShort m) fault = absurd fault
-typed_possible_header wanted prefix faults.RawLong fault = absurd fault
-typed_possible_header wanted prefix (faults.Truncated m) fault = absurd fault
-typed_possible_header wanted prefix faults.Pad fault = absurd fault
-typed_possible_header wanted prefix faults.Trailing fault = absurd fault
-typed_possible_header wanted prefix faults.Read fault = absurd fault
-typed_possible_header wanted prefix faults.Write fault = absurd fault
-typed_possible_header wanted prefix faults.Memory fault = absurd fault
+typed_possible_header wanted prefix e fault = absurd fault
 
 typed_possible : (wanted : Ty) (prefix : List ℕ) (h : Header) (len : ℕ) (e : StreamFault) → BeginsWithHeader prefix h len → h.ty ≡ wanted → CanRefuseBehind prefix e → CanRefuseTyped wanted e
 typed_possible wanted prefix h len e begun same can =

@@ -1,10 +1,12 @@
 -- What `bound` does, from what its calls answer.
 use Rattle.std.proofs.Common.{◌≡◌, ℕ, ◌↔◌, IsTrue, List, [], length, Option, Result, Ok, Err, IsOk, IfOk, inl, inr, refl, ap, sym, subst, ◌∙◌}
+use Rattle.std.proofs.lemmas.Bool.{true≢false}
 use Rattle.std.specs.Int.{Width}
 use mir.Val.{bits}
 use Rattle.zf_base.specs.Widths.{width_of}
 use Rattle.zf_dev.specs.Shelf.{Files, KeepsFiles}
 use Rattle.zf_dev.specs.Sink.{Appends, AppendsPrefix}
+use Rattle.zf_dev.specs.declared.sink.Sink.{Ghosts as Sink}
 use Rattle.zf_header.specs.declared.header.Header.{Header}
 use Rattle.zf_header.specs.HeaderBits.{IsRate}
 use Rattle.zf_parse.specs.declared.fault.StreamFault.{StreamFault}
@@ -16,14 +18,19 @@ use Rattle.zf_bound.specs.declared.certified.Certified.{Certified}
 use Rattle.zf_bound.specs.Errors.{IsSmallEnough}
 use Rattle.zf_bound.specs.Bounds.{plane_of, error_of, certified_of, bound_text}
 use Rattle.zf_bound.proofs.Certificates.{certified_is}
+use Rattle.zfpi.specs.declared.status.Status.{Status}
 use Rattle.zfpi.specs.declared.status.Status.TheVariants as statuses
 use Rattle.zfpi.specs.declared.command.Command.TheVariants.{Bound}
 use Rattle.zfpi.specs.Faults.{index_status}
 use Rattle.zfpi.specs.Opened.{array_in, opened}
 use Rattle.zfpi.specs.Certified.{certified_text, certified_status}
-use Rattle.zfpi.specs.Loaded.{HoldsFile}
+use Rattle.zfpi.specs.Loaded.{HoldsFile, RefusesFile}
+use Rattle.zfpi.specs.Steps.{is_work_done}
+use Rattle.zfpi.specs.Calls.{Certifies}
 use Rattle.zfpi.specs.World.{seen}
 use Rattle.zfpi.specs.Headline.{Behaves}
+use Rattle.zfpi.proofs.Causes.{HasCauses-refused}
+use Rattle.zfpi.proofs.Rungs.{refuses}
 use Rattle.zfpi.proofs.Exposed.{some_input, Takes-none}
 use Rattle.zfpi.proofs.Opening.{array_in-rate, header_said}
 use Rattle.zfpi.proofs.Loading.{ComesFirst-index, Behaves-unopened, world_with, files_with, ExposesFiles-with, opened-held, IsLoading}
@@ -51,6 +58,17 @@ module _ (name : List ℕ) (most : ℕ) where
     loads = λ w. tt;
     starves = λ w. tt;
   }
+
+  -- the file is refused with this status
+  pub Certifies-refused : {B : Type 0} {O : Sink B} (bytes : List ℕ) (status : Status) (out : B) → RefusesFile status → ((src : Option (List ℕ)) (known now : Option Files) → HoldsFile known name bytes → KeepsFiles known now → Behaves (Bound name most) status (seen src (O.contents out) known) (seen src (O.contents out) now))
+      → Certifies O name most bytes status out out
+  Certifies-refused {O} bytes status out why behaves =
+      let r = refuses status why in
+      record {
+        behaves = behaves;
+        causes = λ src. HasCauses-refused (Bound name most) status src (O.faults out) r.no_read r.no_write;
+        shelfless = record { no_load = r.no_load; no_save = λ is. true≢false (sym (ap is_work_done is) ∙ r.undone) };
+      }
 
   -- the file is no stream
   pub Behaves-no_codes : (e : IndexFault) (bytes : List ℕ) (h : Header) (src out : Option (List ℕ)) (known now : Option Files) → HoldsFile known name bytes → KeepsFiles known now → HasHeader bytes h → IsRate h.mode → IsFault (parse bytes) (stream_fault e)

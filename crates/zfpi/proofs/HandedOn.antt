@@ -1,12 +1,16 @@
 -- What a command wrote is handed on once it has ended: what stays of what is known of it, and what a fault makes of it.
-use Rattle.std.proofs.Common.{◌≡◌, ◌≢◌, ℕ, ◌≤◌, true, false, List, [], take, inl, inr, Option, Result, Ok, Err, IsOk, IsErr, refl, ap, sym, subst, ◌∙◌, append-nil, arith}
+use Rattle.std.proofs.Common.{◌≡◌, ◌≢◌, ℕ, ◌≤◌, true, false, List, [], take, inl, inr, Option, None, Result, Ok, Err, IsOk, IsErr, refl, ap, sym, subst, ◌∙◌, append-nil, arith}
 use Rattle.std.specs.Prelude.{OnOk}
+use Rattle.std.proofs.lemmas.Bool.{false≢true}
 use Rattle.zf_dev.specs.Faults.{Rose, IsQuiet, HasCause}
 use Rattle.zf_dev.specs.declared.faults.Failed.{Failed}
 use Rattle.zf_dev.specs.declared.faults.LoadError.{LoadError}
 use Rattle.zf_dev.specs.declared.faults.LoadError.TheVariants as loading
 use Rattle.zf_dev.specs.Shelf.{Files}
 use Rattle.zf_dev.specs.Sink.{Appends, AppendsPrefix}
+use Rattle.zf_dev.specs.declared.source.Source.{Ghosts as Source}
+use Rattle.zf_dev.specs.declared.sink.Sink.{Ghosts as Sink}
+use Rattle.zf_dev.specs.declared.shelf.Shelf.{Ghosts as Shelf}
 use Rattle.zf_dev.proofs.Appending.{Appends-append, AppendsPrefix-all}
 use Rattle.zf_parse.specs.Parsing.{Said}
 use Rattle.zfpi.specs.declared.status.Status.{Status}
@@ -22,6 +26,8 @@ use Rattle.zfpi.proofs.Ends.{IsPossible}
 use Rattle.zfpi.specs.Sending.{IsDone, EndsSent, HandsOn}
 use Rattle.zfpi.specs.Steps.{is_work_done, IsShelfless}
 use Rattle.zfpi.specs.Headline.{IsSent, Writes, Saves, Behaves, HasCauses, IsIdle, StopsAtEnd, Sends}
+use Rattle.zfpi.specs.Calls.{Streams, Fulfils}
+use Rattle.zfpi.proofs.Stepping.{Steps-none}
 use Rattle.zfpi.proofs.Loading.{ComesFirst, by_first}
 use Rattle.zfpi.proofs.Promises.{IsRefusal, opened_first_array, IsPossible-behaves}
 
@@ -119,27 +125,17 @@ unsent c status before now unsaved done b = absurd done
 
 -- a command that loads nothing ends with no fault of a load
 no_load : (c : Command) → (meaning c).loads ≡ false → IsPossible c LoadFault → ⊥
-no_load (Compress h) none may = may
-no_load (CompressNarrow n h) none may = may
-no_load Restore none may = may
-no_load (RestoreNarrow n) none may = may
-no_load Info none may = may
-no_load (New name ty ns b) none may = may
-no_load (Sample h seed) none may = may
-no_load c none may = absurd (cc)
+no_load (Run name caching) none may = absurd (cc)
+no_load (Look name lines) none may = absurd (cc)
+no_load (Bound name most) none may = absurd (cc)
+no_load c none may = may
 
 -- and they never end with a fault of a save
 no_save : (c : Command) → IsSentAfter c → IsPossible c SaveFault → ⊥
-no_save (Compress h) unsaved may = may
-no_save (CompressNarrow n h) unsaved may = may
-no_save Restore unsaved may = may
-no_save (RestoreNarrow n) unsaved may = may
-no_save Info unsaved may = may
 no_save (New name ty ns b) unsaved may = unsaved
 no_save (Run name caching) unsaved may = unsaved
 no_save (Look name lines) unsaved may = unsaved
-no_save (Bound name most) unsaved may = may
-no_save (Sample h seed) unsaved may = may
+no_save c unsaved may = may
 
 done_work : (c : Command) (status : Status) → IsSentAfter c → IsPossible c status → is_work_done status ≡ true → IsDone status
 done_work c Done unsaved may work = tt
@@ -149,29 +145,19 @@ done_work c status unsaved may work = absurd (cc)
 
 -- a sink that they write to may have had a fault
 writes_used : (c : Command) → IsSentAfter c → (before now : ℕ) → IsIdle (meaning c).writes before now
-writes_used (Compress h) unsaved before now = tt
-writes_used (CompressNarrow n h) unsaved before now = tt
-writes_used Restore unsaved before now = tt
-writes_used (RestoreNarrow n) unsaved before now = tt
-writes_used Info unsaved before now = tt
 writes_used (New name ty ns b) unsaved before now = absurd unsaved
 writes_used (Run name caching) unsaved before now = absurd unsaved
 writes_used (Look name lines) unsaved before now = absurd unsaved
-writes_used (Bound name most) unsaved before now = tt
-writes_used (Sample h seed) unsaved before now = tt
+writes_used c unsaved before now = tt
 
 -- where they may have come to the source by a status, they may have by a write fault
 reads_cut : (c : Command) → IsSentAfter c → (status : Status) (m n : ℕ) → IsIdle ((meaning c).reads status) m n → IsIdle ((meaning c).reads WriteFault) m n
-reads_cut (Compress h) unsaved status m n idle = tt
-reads_cut (CompressNarrow k h) unsaved status m n idle = tt
-reads_cut Restore unsaved status m n idle = tt
-reads_cut (RestoreNarrow k) unsaved status m n idle = tt
-reads_cut Info unsaved status m n idle = tt
 reads_cut (New name ty ns b) unsaved status m n idle = absurd unsaved
 reads_cut (Run name caching) unsaved status m n idle = absurd unsaved
 reads_cut (Look name lines) unsaved status m n idle = absurd unsaved
 reads_cut (Bound name most) unsaved status m n idle = idle
 reads_cut (Sample h seed) unsaved status m n idle = idle
+reads_cut c unsaved status m n idle = tt
 
 module _ (c : Command) (status ended : Status) (unsaved : IsSentAfter c) where
   -- what such a command did once what it wrote was handed on
@@ -233,6 +219,21 @@ module _ (c : Command) (status ended : Status) (unsaved : IsSentAfter c) where
     | inr quiet ↦ inr (omega (arith, kept, quiet))
   ])
 
+  -- over all devices, of a command that has no shelf
+  pub Fulfils-sent : {A B C : Type 0} {S : Source A} {O : Sink B} {F : Shelf C} → (meaning c).loads ≡ false → (meaning c).saves ≡ false → (src src_now : A) (out mid now : B) (shelf : C) → Streams S O c status src src_now out mid
+      → HandsOn status ended (O.contents mid) (O.contents now) (O.faults mid) (O.faults now) (O.is_flushed now) → Fulfils S O F c ended src src_now out now shelf shelf
+  Fulfils-sent {S} {O} {F} unloaded unchanged src src_now out mid now shelf s sends =
+      let behaves = λ (files : Option Files). Behaves-sent (seen (S.contents src) (O.contents out) files) (S.contents src_now) (O.contents mid) (O.contents now) files (s.behaves files) sends in
+      let shelfless = IsShelfless-sent _ _ unloaded (behaves None) in
+      record {
+        behaves = behaves (F.files shelf);
+        causes = HasCauses-sent _ _ _ _ _ s.causes sends;
+        stops = StopsAtEnd-sent _ _ s.stops sends;
+        steps = Steps-none F.loads F.saves F.faults c ended shelf unloaded unchanged shelfless;
+        sure_shelf = λ sure. (shelfless.no_load, sure);
+        sent = λ flushed. IsSent-sent _ _ _ _ _ (behaves None) s.causes.writing.0 sends;
+      }
+
 pub unloaded_sent : (status ended : Status) {before now : Option (List ℕ)} {m n : ℕ} {Flushed : Type 0} → status ≢ LoadFault → HandsOn status ended before now m n Flushed → ended ≢ LoadFault
 unloaded_sent status ended none sent = λ is. elim sent.ends [ inl same ↦ none (sym same ∙ is) | inr failed ↦ other (sym failed.0 ∙ is) ]
   where
@@ -241,10 +242,8 @@ unloaded_sent status ended none sent = λ is. elim sent.ends [ inl same ↦ none
 
 -- a file that was not loaded was no fault of the shelf, where the load was none
 pub unloaded_status : (e : LoadError) → e ≢ loading.Failed → load_status e ≢ LoadFault
-unloaded_status loading.Missing none is = cc
-unloaded_status loading.Long none is = cc
 unloaded_status loading.Failed none is = none refl
-unloaded_status loading.Memory none is = cc
+unloaded_status e none is = cc
 
 -- ---- a flush, and what it makes of what is known
 
@@ -269,11 +268,8 @@ Sends-stays text before mid now first m n sends stays kept = record {
 pub cut_sent : (ended : Status) {before now : Option (List ℕ)} {m n : ℕ} {Flushed : Type 0} → HandsOn WriteFault ended before now m n Flushed → ended ≡ WriteFault
 cut_sent ended sent = elim sent.ends [ inl same ↦ same | inr failed ↦ failed.0 ]
 
-undone : false ≡ true → ⊥
-undone is = cc
-
 pub IsSent-cut : (ended : Status) (first m n : ℕ) {before now : Option (List ℕ)} {Flushed : Type 0} → first ≤ m → HandsOn WriteFault ended before now m n Flushed → IsSent ended (IsQuiet first n) Flushed
 IsSent-cut ended first m n kept sent = λ why. sent.flushed (elim why [
-  | inl work ↦ absurd (undone (sym (ap is_work_done (cut_sent ended sent)) ∙ work))
+  | inl work ↦ absurd (false≢true (sym (ap is_work_done (cut_sent ended sent)) ∙ work))
   | inr quiet ↦ inr (omega (arith, kept, quiet))
 ])

@@ -95,10 +95,4 @@ Behaves-lacks faults.Read src_before src_now out shelf lacks =
       written = AppendsPrefix-none out [];
       saved = KeepsFiles-none shelf;
     }
-Behaves-lacks (faults.RawShort m) src_before src_now out shelf lacks = absurd lacks
-Behaves-lacks faults.RawLong src_before src_now out shelf lacks = absurd lacks
-Behaves-lacks (faults.Truncated b) src_before src_now out shelf lacks = absurd lacks
-Behaves-lacks faults.Pad src_before src_now out shelf lacks = absurd lacks
-Behaves-lacks faults.Trailing src_before src_now out shelf lacks = absurd lacks
-Behaves-lacks faults.Write src_before src_now out shelf lacks = absurd lacks
-Behaves-lacks faults.Memory src_before src_now out shelf lacks = absurd lacks
+Behaves-lacks e src_before src_now out shelf lacks = absurd (first_of (assumption lacks, cc))

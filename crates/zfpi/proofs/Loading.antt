@@ -48,9 +48,7 @@ by_first P missing long load header truncated pad trailing memory no_rate status
 -- no fault of an index is one of a device, and each comes before anything is read
 pub ComesFirst-index : (e : IndexFault) → ComesFirst (index_status e)
 ComesFirst-index (index.Truncated b) = tt
-ComesFirst-index index.Pad = tt
-ComesFirst-index index.Trailing = tt
-ComesFirst-index index.Memory = tt
+ComesFirst-index e = tt
 
 IsOfCommand-first : (status : Status) → ComesFirst status → IsOfCommand status
 IsOfCommand-first = by_first IsOfCommand tt tt tt (λ f. tt) (λ b. tt) tt tt tt (λ m. tt)

@@ -34,13 +34,22 @@ use Rattle.zfpi.specs.Scripts.{Answering, run_answers, look_answers, lines_statu
 use Rattle.zfpi.specs.Answer.{meaning, MayFail, OfUsed}
 use Rattle.zfpi.proofs.Ends.{IsPossible, CompressEnds, RestoreEnds, RestoreNarrowEnds, InfoEnds, FileEnds, LookEnds, RunEnds, BoundEnds}
 use Rattle.zfpi.specs.Steps.{IsShelfless}
-use Rattle.zfpi.specs.Headline.{OfCommand, Behaves, HasCauses, IsComplete, IsFromOutside, IsBack, GivesBack}
+use Rattle.zfpi.specs.Headline.{OfCommand, OnUsage, RefusesWords, IsOfCommand, Behaves, HasCauses, IsComplete, IsFromOutside, IsBack, GivesBack}
 use Rattle.zfpi.proofs.CommandWords.{one_command}
 use Rattle.zfpi.proofs.Loading.{ComesFirst}
 
 -- what holds of one command that the words are holds of each
 pub OfCommand-one : (words : List (List ℕ)) (c : Command) → IsSpelled c words → (P : Command → Type 0) → P c → OfCommand words P
 OfCommand-one words c spelled P this = λ d other. subst P (one_command words c d spelled other) this
+
+-- a command that the words are does not refuse them
+pub RefusesWords-of : (words : List (List ℕ)) (status : Status) → (c : Command) × IsSpelled c words → IsOfCommand status → RefusesWords words status
+RefusesWords-of words (statuses.Usage k) spelled ends = absurd ends
+RefusesWords-of words status spelled ends = spelled
+
+pub OnUsage-of : (status : Status) (P : Type 0) → IsOfCommand status → OnUsage status P
+OnUsage-of (statuses.Usage k) P ends = absurd ends
+OnUsage-of status P ends = tt
 
 -- ---- what follows from the two records of a command
 
@@ -72,36 +81,19 @@ IsComplete-quiet c status before now old new Sure Still behaves causes src out s
 
 -- the statuses from outside that a command may end with are among those that it can end with
 possible_fault : (status : Status) (c : Command) (w : World) (starved : List ℕ) → MayFail status c w → IsPossible c status
-possible_fault ReadFault (Compress h) w starved may = tt
-possible_fault ReadFault (CompressNarrow n h) w starved may = tt
-possible_fault ReadFault Restore w starved may = tt
-possible_fault ReadFault (RestoreNarrow n) w starved may = tt
-possible_fault ReadFault Info w starved may = tt
-possible_fault WriteFault (Compress h) w starved may = tt
-possible_fault WriteFault (CompressNarrow n h) w starved may = tt
-possible_fault WriteFault Restore w starved may = tt
-possible_fault WriteFault (RestoreNarrow n) w starved may = tt
-possible_fault WriteFault (Bound name most) w starved may = tt
-possible_fault LoadFault (Bound name most) w starved may = tt
-possible_fault Memory (Bound name most) w starved may = tt
-possible_fault WriteFault Info w starved may = tt
-possible_fault WriteFault (Sample h seed) w starved may = tt
-possible_fault ReadFault (Run name caching) w starved may = tt
-possible_fault WriteFault (Run name caching) w starved may = tt
+possible_fault ReadFault (New name ty ns b) w starved may = absurd may
+possible_fault ReadFault (Bound name most) w starved may = absurd may
+possible_fault ReadFault (Sample h seed) w starved may = absurd may
+possible_fault ReadFault c w starved may = tt
+possible_fault WriteFault (New name ty ns b) w starved may = absurd may
+possible_fault WriteFault c w starved may = tt
 possible_fault LoadFault (Run name caching) w starved may = tt
-possible_fault ReadFault (Look name l) w starved may = tt
-possible_fault WriteFault (Look name l) w starved may = tt
 possible_fault LoadFault (Look name l) w starved may = tt
-possible_fault Memory (Look name l) w starved may = tt
+possible_fault LoadFault (Bound name most) w starved may = tt
 possible_fault SaveFault (New name ty ns b) w starved may = tt
 possible_fault SaveFault (Run name caching) w starved may = tt
-possible_fault Memory (Run name caching) w starved may = tt
-possible_fault Memory (Compress h) w starved may = tt
-possible_fault Memory (CompressNarrow n h) w starved may = tt
-possible_fault Memory Restore w starved may = tt
-possible_fault Memory (RestoreNarrow n) w starved may = tt
-possible_fault Memory (New name ty ns b) w starved may = tt
-possible_fault Memory (Sample h seed) w starved may = tt
+possible_fault Memory Info w starved may = absurd may
+possible_fault Memory c w starved may = tt
 possible_fault status c w starved may = absurd (first_of (assumption may, cc))
 
 -- and so are those that it states for an input
@@ -112,16 +104,11 @@ compress_ends starved_are n false false less = tt
 
 restore_ends : (answer : Result (Unit {0}) StreamFault) → blames_foreign answer ≡ false → RestoreEnds (status_of answer)
 unfolding blames_foreign is_foreign
-restore_ends (Ok good) own = tt
 restore_ends (Err (faults.RawShort m)) own = absurd (cc)
 restore_ends (Err faults.RawLong) own = absurd (cc)
-restore_ends (Err (faults.Header f)) own = tt
-restore_ends (Err (faults.Truncated b)) own = tt
-restore_ends (Err faults.Pad) own = tt
-restore_ends (Err faults.Trailing) own = tt
 restore_ends (Err faults.Read) own = absurd (cc)
 restore_ends (Err faults.Write) own = absurd (cc)
-restore_ends (Err faults.Memory) own = tt
+restore_ends answer own = tt
 
 -- whatever the header says
 RestoreEnds-narrow : (status : Status) → RestoreEnds status → RestoreNarrowEnds status
@@ -145,16 +132,11 @@ IsRefusal Ends (Err status) = Ends status
 
 said_ends : (answer : Result Said StreamFault) → blames_foreign (without_said answer) ≡ false → IsRefusal FileEnds (said_or_status answer)
 unfolding blames_foreign is_foreign IsRefusal
-said_ends (Ok said) own = tt
 said_ends (Err (faults.RawShort m)) own = absurd (cc)
 said_ends (Err faults.RawLong) own = absurd (cc)
-said_ends (Err (faults.Header f)) own = tt
-said_ends (Err (faults.Truncated c)) own = tt
-said_ends (Err faults.Pad) own = tt
-said_ends (Err faults.Trailing) own = tt
 said_ends (Err faults.Read) own = absurd (cc)
 said_ends (Err faults.Write) own = absurd (cc)
-said_ends (Err faults.Memory) own = tt
+said_ends answer own = tt
 
 -- what ends a file ends a look, and what ends a look ends a run
 FileEnds-look : (status : Status) → FileEnds status → LookEnds status

@@ -1,5 +1,6 @@
 -- What a command on a script promises on each rung of its way, from what the calls there answer.
 use Rattle.std.proofs.Common.{◌≡◌, ◌≢◌, ℕ, ◌+◌, ◌≤◌, ◌&&◌, Bool, true, false, List, length, Option, Some, None, inl, inr, refl, ap, sym, subst, ◌∙◌, arith}
+use Rattle.std.proofs.lemmas.Bool.{true≢false}
 use Rattle.std.specs.Prelude.{count_by}
 use Rattle.zf_dev.specs.Faults.{Rose, IsQuiet, HasCause}
 use Rattle.zf_dev.specs.Source.{Takes, IsAtEnd, TakesMoreThan, TakesSome}
@@ -47,9 +48,6 @@ use Rattle.zfpi.proofs.HandedOn.{Behaves-stays, cut_sent, IsSent-later, IsSent-c
 
 -- ---- files that are refused
 
-no_bool : true ≡ false → ⊥
-no_bool is = cc
-
 -- it has no good header
 pub IsRefused-header : (access : Access) (bytes : List ℕ) (fault : HeaderFault) → header_fault bytes ≡ Some fault → IsRefused access bytes (NoHeader fault)
 IsRefused-header (Run caching) bytes fault is = record { refusal = tt; why = inl (array_in-header bytes fault is) }
@@ -58,25 +56,25 @@ IsRefused-header (Look lines) bytes fault is = record { refusal = tt; why = inl 
 -- its mode is not admitted
 pub IsRefused-mode : (access : Access) (bytes : List ℕ) (h : Header) (number : ℕ) → header_fault bytes ≡ None → h ≡ header_of bytes → admits access h.mode ≡ false → number ≡ mode_number (coding h.mode) → IsRefused access bytes (NotRate number)
 IsRefused-mode (Run caching) bytes h number good is not number_is =
-    record { refusal = tt; why = inl (array_in-no_rate bytes h number good is (λ b rate. no_bool (sym (ap (admits (Run caching)) rate) ∙ not)) number_is) }
-IsRefused-mode (Look lines) bytes h number good is not number_is = absurd (no_bool not)
+    record { refusal = tt; why = inl (array_in-no_rate bytes h number good is (λ b rate. true≢false (sym (ap (admits (Run caching)) rate) ∙ not)) number_is) }
+IsRefused-mode (Look lines) bytes h number good is not number_is = absurd (true≢false not)
 
 -- or it is
 pub Admits-mode : (access : Access) (mode : Mode) → IsMode mode → admits access mode ≡ true → Admits access mode
 Admits-mode (Look lines) mode is admitted = tt
 Admits-mode (Run caching) (Rate b) is admitted = is
-Admits-mode (Run caching) Reversible is admitted = absurd (no_bool (sym admitted))
-Admits-mode (Run caching) (Precision p) is admitted = absurd (no_bool (sym admitted))
+Admits-mode (Run caching) Reversible is admitted = absurd (true≢false (sym admitted))
+Admits-mode (Run caching) (Precision p) is admitted = absurd (true≢false (sym admitted))
 
 -- such a status comes before anything was done
-record Refuses (status : Status) : Type 0 where
-  first : ComesFirst status
-  no_read : status ≢ ReadFault
-  no_write : status ≢ WriteFault
-  no_load : status ≢ LoadFault
-  undone : is_work_done status ≡ false
+pub record Refuses (status : Status) : Type 0 where
+  pub first : ComesFirst status
+  pub no_read : status ≢ ReadFault
+  pub no_write : status ≢ WriteFault
+  pub no_load : status ≢ LoadFault
+  pub undone : is_work_done status ≡ false
 
-refuses : (status : Status) → RefusesFile status → Refuses status
+pub refuses : (status : Status) → RefusesFile status → Refuses status
 refuses (NoHeader fault) why = record { first = tt; no_read = λ is. cc; no_write = λ is. cc; no_load = λ is. cc; undone = refl }
 refuses (NotRate m) why = record { first = tt; no_read = λ is. cc; no_write = λ is. cc; no_load = λ is. cc; undone = refl }
 refuses (Truncated b) why = record { first = tt; no_read = λ is. cc; no_write = λ is. cc; no_load = λ is. cc; undone = refl }

@@ -1,7 +1,7 @@
 -- What a command does that works on a script, once its file is opened.
 use Rattle.std.proofs.Common.{◌≡◌, ℕ, zero, suc, ◌+◌, ◌≤◌, ◌<◌, cond, List, [], ◌∷◌, ◌++◌, length, take, drop, true, false, Option, Some, None, Result, Ok, IsOk, is_some, ◌⊎◌, inl, inr, refl, ap, sym, subst, ◌∙◌, arith, append-nil, length-append}
 use Rattle.std.specs.Prelude.{count_by}
-use Rattle.std.proofs.lemmas.Bool.{lt-ltb, le-ltb}
+use Rattle.std.proofs.lemmas.Bool.{lt-ltb, le-ltb, false≢true}
 use Rattle.std.proofs.lemmas.Grind.{flat_map-append}
 use Rattle.std.proofs.lemmas.List.{take-append-drop}
 use Rattle.std.proofs.Math.Seq.{take-append-add}
@@ -68,9 +68,6 @@ pub record IsScripted (c : Command) (name : List ℕ) (reading : List ℕ → Re
   pub writes : (w : World) → IsRunnable (opened reading (w.files name)) w → OfUsed (meaning c).writes ((meaning c).works w)
   pub saves : (w : World) → (meaning c).saves ≡ true → IsRunnable (opened reading (w.files name)) w → OfUsed (meaning c).saves ((meaning c).works w)
 
-other_bool : false ≡ true → ⊥
-other_bool is = cc
-
 pub IsScripted-on : (access : Access) (name : List ℕ) → IsScripted (command_on access name) name (reading_of access) (answers_of access) (file_of access)
 IsScripted-on (Run caching) name = record {
   loading = record {
@@ -114,7 +111,7 @@ IsScripted-on (Look lines) name = record {
   writes_replies = refl;
   reads = λ w good. good;
   writes = λ w good. good;
-  saves = λ w saving good. absurd (other_bool saving);
+  saves = λ w saving good. absurd (false≢true saving);
 }
 
 pub loads-on : (access : Access) (name : List ℕ) → (meaning (command_on access name)).loads ≡ true

@@ -1,22 +1,18 @@
 -- The steps of a call on the shelf.
 use Rattle.std.proofs.Common.{◌≡◌, ◌≢◌, ℕ, ◌≤◌, ◌&&◌, Bool, true, false, inl, inr, refl, ap, sym, subst, ◌∙◌, arith}
+use Rattle.std.proofs.lemmas.Bool.{true≢false}
 use Rattle.zf_dev.specs.Faults.{IsQuiet, HasCause}
 use Rattle.zf_dev.specs.declared.faults.LoadError.{LoadError}
 use Rattle.zf_dev.specs.declared.faults.LoadError.TheVariants as loading
 use Rattle.zf_dev.specs.declared.faults.TakeError.{TakeError}
 use Rattle.zf_dev.specs.declared.faults.TakeError.TheVariants as taking
-use Rattle.zf_index.specs.declared.fault.IndexFault.{IndexFault}
-use Rattle.zf_index.specs.declared.fault.IndexFault.TheVariants as index
 use Rattle.zfpi.specs.declared.status.Status.{Status}
 use Rattle.zfpi.specs.declared.status.Status.TheVariants.{WriteFault, LoadFault, SaveFault}
 use Rattle.zfpi.specs.declared.command.Command.{Command}
-use Rattle.zfpi.specs.Faults.{load_status, index_status, take_status}
+use Rattle.zfpi.specs.Faults.{load_status, take_status}
 use Rattle.zfpi.specs.Answer.{meaning}
 use Rattle.zfpi.specs.Sending.{EndsSent}
 use Rattle.zfpi.specs.Steps.{is_work_done, Makes, SavesOnce, Steps, IsShelfless}
-
-no_bool : true ≡ false → ⊥
-no_bool is = cc
 
 and_false : (b : Bool) → b && false ≡ false
 and_false true = refl
@@ -49,7 +45,7 @@ module _ {F : Type 0} (saves : F → F → Type 0) (faults : F → ℕ) (c : Com
   pub SavesOnce-none : (status : Status) (shelf : F) → is_work_done status ≡ false → status ≢ LoadFault → SavesOnce saves faults c status shelf shelf
   SavesOnce-none status shelf undone no_load = record {
     save = Makes-none saves faults ((meaning c).saves && is_work_done status) (status ≡ SaveFault) shelf (ap (λ b. (meaning c).saves && b) undone ∙ and_false (meaning c).saves)
-        (λ is. no_bool (sym (ap is_work_done is) ∙ undone));
+        (λ is. true≢false (sym (ap is_work_done is) ∙ undone));
     no_load = no_load;
   }
 
@@ -59,27 +55,15 @@ module _ {F : Type 0} (saves : F → F → Type 0) (faults : F → ℕ) (c : Com
   SavesOnce-take taking.Failed shelf = SavesOnce-none (take_status taking.Failed) shelf refl (λ is. cc)
   SavesOnce-take taking.Memory shelf = SavesOnce-none (take_status taking.Memory) shelf refl (λ is. cc)
 
--- ---- statuses that are no fault of a shelf
-
-pub IsShelfless-index : (e : IndexFault) → IsShelfless (index_status e)
-IsShelfless-index (index.Truncated b) = record { no_load = λ is. cc; no_save = λ is. cc }
-IsShelfless-index index.Pad = record { no_load = λ is. cc; no_save = λ is. cc }
-IsShelfless-index index.Trailing = record { no_load = λ is. cc; no_save = λ is. cc }
-IsShelfless-index index.Memory = record { no_load = λ is. cc; no_save = λ is. cc }
-
 -- ---- the steps of a call
 
 no_failure : (e : LoadError) → load_status e ≡ LoadFault → e ≡ loading.Failed
-no_failure loading.Missing is = absurd (cc)
-no_failure loading.Long is = absurd (cc)
 no_failure loading.Failed is = refl
-no_failure loading.Memory is = absurd (cc)
+no_failure e is = absurd (cc)
 
 no_work : (e : LoadError) → is_work_done (load_status e) ≡ false
 no_work loading.Missing = refl
-no_work loading.Long = refl
-no_work loading.Failed = refl
-no_work loading.Memory = refl
+no_work e = refl
 
 module _ {F : Type 0} (loads saves : F → F → Type 0) (faults : F → ℕ) (c : Command) where
   -- where the count did not rise there was no fault of the shelf
@@ -126,7 +110,7 @@ module _ {F : Type 0} (loads saves : F → F → Type 0) (faults : F → ℕ) (c
     loaded = now;
     load = subst (λ b. Makes b loads faults (load_status e ≡ LoadFault) before now) (sym loading) (step, (cause.0, λ is. cause.1 (no_failure e is)));
     save = Makes-none saves faults ((meaning c).saves && is_work_done (load_status e)) (load_status e ≡ SaveFault) now
-        (ap (λ b. (meaning c).saves && b) (no_work e) ∙ and_false (meaning c).saves) (λ is. no_bool (sym (ap is_work_done is) ∙ no_work e));
+        (ap (λ b. (meaning c).saves && b) (no_work e) ∙ and_false (meaning c).saves) (λ is. true≢false (sym (ap is_work_done is) ∙ no_work e));
   }
 
   -- the same steps once what was written was handed on or not
@@ -141,5 +125,5 @@ module _ {F : Type 0} (loads saves : F → F → Type 0) (faults : F → ℕ) (c
   ]
     where
       unsaved : (b : Bool) → b ≡ false → Makes (b && is_work_done status) saves faults (status ≡ SaveFault) steps.loaded now → Makes (b && false) saves faults (WriteFault ≡ SaveFault) steps.loaded now
-      unsaved true is makes = absurd (no_bool is)
+      unsaved true is makes = absurd (true≢false is)
       unsaved false is makes = (makes.0, λ same. cc)

@@ -10,7 +10,3 @@ StopsAtEnd-same used n = record { once = omega arith; unused = IsIdle-same used 
 -- it may have been used
 pub StopsAtEnd-used : (used : Bool) (m n : ℕ) → used ≡ true → n ≤ m + 1 → StopsAtEnd used m n
 StopsAtEnd-used used m n is once = record { once = once; unused = IsIdle-used used m n is }
-
--- it was counted from where the call began
-pub StopsAtEnd-begun : (begun before now : ℕ) → begun ≡ before → now ≤ begun + 1 → StopsAtEnd true before now
-StopsAtEnd-begun begun before now same once = record { once = omega arith; unused = tt }

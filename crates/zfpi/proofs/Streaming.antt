@@ -1,7 +1,10 @@
 -- From what a call on a stream promises to what a command promises that hands it on.
-use Rattle.std.proofs.Common.{◌≡◌, ◌≢◌, ℕ, List, [], ◌∷◌, Option, Some, None, Result, Err, ◌⊎◌, inl, inr, refl, ap, sym, subst, ◌∙◌}
+use Rattle.std.proofs.Common.{◌≡◌, ◌≢◌, ℕ, ◌+◌, ◌≤◌, true, List, [], ◌∷◌, Option, Some, None, Result, Err, ◌⊎◌, inl, inr, refl, ap, sym, subst, ◌∙◌, arith}
 use Rattle.std.proofs.lemmas.List.{take_all}
+use Rattle.zf_dev.specs.Faults.{HasCause}
 use Rattle.zf_dev.specs.Shelf.{Files}
+use Rattle.zf_dev.specs.declared.source.Source.{Ghosts as Source}
+use Rattle.zf_dev.specs.declared.sink.Sink.{Ghosts as Sink}
 use Rattle.zf_dev.specs.Source.{Takes, IsAtEnd}
 use Rattle.zf_dev.specs.Sink.{Appends, AppendsPrefix}
 use Rattle.zf_dev.proofs.Appending.{AppendsPrefix-none}
@@ -30,6 +33,9 @@ use Rattle.zfpi.specs.Faults.{fault_status, narrow_status, status_of, narrow_sta
 use Rattle.zfpi.specs.World.{World, ExposesInput, seen}
 use Rattle.zfpi.specs.Answer.{meaning, TakesStream, MayFail, compress_draft, restore_draft, OfUsed}
 use Rattle.zfpi.specs.Headline.{IsOfCommand, Writes, Saves, Behaves}
+use Rattle.zfpi.specs.Calls.{Streams}
+use Rattle.zfpi.proofs.Causes.{IsIdle-used}
+use Rattle.zfpi.proofs.Stopping.{StopsAtEnd-used}
 use Rattle.zfpi.proofs.Completed.{one_value}
 use Rattle.zfpi.proofs.Exposed.{world_of, ExposesFiles-same, KeepsFiles-none, ExposesInput-taken}
 
@@ -58,25 +64,11 @@ Writes-cut status text draft before now cut prefix = prefix
 IsCut-fault : (e : StreamFault) → IsCut (fault_status e)
 unfolding IsCut
 IsCut-fault (faults.RawShort m) = tt
-IsCut-fault faults.RawLong = tt
-IsCut-fault (faults.Header f) = tt
-IsCut-fault (faults.Truncated b) = tt
-IsCut-fault faults.Pad = tt
-IsCut-fault faults.Trailing = tt
-IsCut-fault faults.Read = tt
-IsCut-fault faults.Write = tt
-IsCut-fault faults.Memory = tt
+IsCut-fault e = tt
 
 TakesStream-fault : (e : StreamFault) (input taken : List ℕ) → TakesStream (fault_status e) input taken
 TakesStream-fault (faults.RawShort m) input taken = tt
-TakesStream-fault faults.RawLong input taken = tt
-TakesStream-fault (faults.Header f) input taken = tt
-TakesStream-fault (faults.Truncated b) input taken = tt
-TakesStream-fault faults.Pad input taken = tt
-TakesStream-fault faults.Trailing input taken = tt
-TakesStream-fault faults.Read input taken = tt
-TakesStream-fault faults.Write input taken = tt
-TakesStream-fault faults.Memory input taken = tt
+TakesStream-fault e input taken = tt
 
 -- a command that reads a stream to its end and saves nothing
 pub record IsStreaming (c : Command) : Type 0 where
@@ -126,6 +118,40 @@ IsStreaming-restore_narrow n = record {
   reads = λ w. tt;
   writes = λ w. tt;
 }
+
+-- what a command did by calls over its source, which may have been put aside for them: it is not read behind its end
+pub Streams-begun : {A B : Type 0} (S : Source A) (O : Sink B) (c : Command) (status : Status) {begun : ℕ} {src s src_now : A} {out out_now : B} {Read Write : Type 0} → (meaning c).reads status ≡ true → (meaning c).writes ≡ true
+    → s ≡ src_now → begun ≡ S.ends_seen src → S.ends_seen src_now ≤ begun + 1 → HasCause Read (S.faults src) (S.faults src_now) → HasCause Write (O.faults out) (O.faults out_now) → (S.never_fails src → (Read → ⊥) × S.never_fails src_now)
+    → (status ≡ statuses.ReadFault → Read) → (status ≡ statuses.WriteFault → Write) → ((files : Option Files) → Behaves c status (seen (S.contents src) (O.contents out) files) (seen (S.contents src_now) (O.contents out_now) files))
+    → Streams S O c status src s out out_now
+Streams-begun S O c status {begun} {src} {s} {src_now} {out} {out_now} reads writes moved began once reading writing sure read write behaves = subst (λ s. Streams S O c status src s out out_now) (sym moved) (record {
+  behaves = behaves;
+  causes = record {
+    reading = (reading.0, λ fault. reading.1 (read fault));
+    writing = (writing.0, λ fault. writing.1 (write fault));
+    no_reading = IsIdle-used ((meaning c).reads status) (S.faults src) (S.faults src_now) reads;
+    no_writing = IsIdle-used (meaning c).writes (O.faults out) (O.faults out_now) writes;
+    sure = λ is_sure. let known = sure is_sure in (λ fault. known.0 (read fault), known.1);
+  };
+  stops = StopsAtEnd-used ((meaning c).reads status) (S.ends_seen src) (S.ends_seen src_now) reads (omega (arith, began, once));
+})
+
+-- a fault of a device is named as such
+pub read_named : (e : StreamFault) → fault_status e ≡ statuses.ReadFault → e ≡ faults.Read
+read_named faults.Read is = refl
+read_named e is = absurd (cc)
+
+pub write_named : (e : StreamFault) → fault_status e ≡ statuses.WriteFault → e ≡ faults.Write
+write_named faults.Write is = refl
+write_named e is = absurd (cc)
+
+pub narrow_read_named : (e : NarrowFault) → narrow_status e ≡ statuses.ReadFault → e ≡ Stream faults.Read
+narrow_read_named NotNarrow is = absurd (cc)
+narrow_read_named (Stream e) is = ap Stream (read_named e is)
+
+pub narrow_write_named : (e : NarrowFault) → narrow_status e ≡ statuses.WriteFault → e ≡ Stream faults.Write
+narrow_write_named NotNarrow is = absurd (cc)
+narrow_write_named (Stream e) is = ap Stream (write_named e is)
 
 -- ---- after Ok
 
@@ -228,25 +254,12 @@ nothing_written before now same = subst (λ out. AppendsPrefix before out []) (s
 
 pub compress_prefix : (e : StreamFault) (text : List ℕ) (before now : Option (List ℕ)) → AppendsPrefix before now text → (e ≡ faults.Memory → now ≡ before) → AppendsPrefix before now (compress_draft (fault_status e) text)
 compress_prefix faults.Memory text before now prefix none = nothing_written before now (none refl)
-compress_prefix (faults.RawShort m) text before now prefix none = prefix
-compress_prefix faults.RawLong text before now prefix none = prefix
-compress_prefix (faults.Header f) text before now prefix none = prefix
-compress_prefix (faults.Truncated b) text before now prefix none = prefix
-compress_prefix faults.Pad text before now prefix none = prefix
-compress_prefix faults.Trailing text before now prefix none = prefix
-compress_prefix faults.Read text before now prefix none = prefix
-compress_prefix faults.Write text before now prefix none = prefix
+compress_prefix e text before now prefix none = prefix
 
 pub restore_prefix : (e : StreamFault) (text : List ℕ) (before now : Option (List ℕ)) → AppendsPrefix before now text → (streams.IsBeforeWriting e → AppendsPrefix before now []) → AppendsPrefix before now (restore_draft (fault_status e) text)
 restore_prefix (faults.Header f) text before now prefix none = none tt
 restore_prefix faults.Memory text before now prefix none = none tt
-restore_prefix (faults.RawShort m) text before now prefix none = prefix
-restore_prefix faults.RawLong text before now prefix none = prefix
-restore_prefix (faults.Truncated b) text before now prefix none = prefix
-restore_prefix faults.Pad text before now prefix none = prefix
-restore_prefix faults.Trailing text before now prefix none = prefix
-restore_prefix faults.Read text before now prefix none = prefix
-restore_prefix faults.Write text before now prefix none = prefix
+restore_prefix e text before now prefix none = prefix
 
 -- ---- an input for which `restore` takes memory
 

@@ -29,11 +29,14 @@ use Rattle.zf_run.specs.Sessions.{setting_of, look_setting_of, look_start_of}
 use Rattle.zf_run.specs.Pairs.{pair_state, two_setting_of}
 use Rattle.zf_run.specs.Ends.{Completes, Halts, IsEnd, Runs, Looks, RunsTwo}
 use Rattle.zfpi.specs.declared.command.Caching.{Caching}
+use Rattle.zfpi.specs.declared.command.Access.{Access}
 use Rattle.zfpi.specs.declared.command.Access.TheVariants.{Run, Look}
+use Rattle.zfpi.specs.declared.commands.target.Loaded.{Loaded}
 use Rattle.zfpi.specs.Faults.{fault_status, index_status}
 use Rattle.zfpi.specs.Scripts.{lines_for, first_lines, setting_over, ran_over, starved_over, run_file, look_answers}
 use Rattle.zfpi.specs.Subjects.{Subject, Ran}
-use Rattle.zfpi.specs.Loaded.{StandsFor, RefusesFile, IsRefused}
+use Rattle.zfpi.specs.Accesses.{Admits}
+use Rattle.zfpi.specs.Loaded.{IsAccessed, StandsFor, RefusesFile, IsRefused}
 use Rattle.zfpi.proofs.Opening.{array_in-rate, stream_in-said}
 
 -- ---- how a run ends
@@ -172,11 +175,17 @@ module _ (lines : Option ℕ) (w : Width) (bytes : List ℕ) (h : Header) (a : s
 
 -- ---- a file that is not opened
 
-RefusesFile-index : (e : IndexFault) → RefusesFile (index_status e)
+pub RefusesFile-index : (e : IndexFault) → RefusesFile (index_status e)
 RefusesFile-index (index.Truncated b) = tt
-RefusesFile-index index.Pad = tt
-RefusesFile-index index.Trailing = tt
-RefusesFile-index index.Memory = tt
+RefusesFile-index e = tt
+
+-- what a run loads is a store's file
+pub HasHeader-run : (access : Access) (caching : Caching) (loaded : Loaded) → access ≡ Run caching → IsAccessed access loaded → store.HasHeader loaded.file.items loaded.header
+HasHeader-run access caching loaded is accessed = record {
+  good = accessed.header.good;
+  header = accessed.header.header;
+  rate = subst (λ a. Admits a loaded.header.mode) is accessed.mode;
+}
 
 -- it is no array's
 pub IsRefused-array : (caching : Caching) (bytes : List ℕ) (h : Header) (e : IndexFault) → store.HasHeader bytes h → IsFault (parse bytes) (stream.stream_fault e) → IsRefused (Run caching) bytes (index_status e)

@@ -17,6 +17,7 @@
 --     Loaded      what a command has loaded, and what it is opened as
 --     Sending     how what a command wrote is handed on
 --     Headline    what the program promises of every command
+--     Calls       what a command did to its devices
 --     Rungs       what a command on a script promises on each rung of its way
 pub mod Names
 pub mod Words
@@ -36,4 +37,5 @@ pub mod Subjects
 pub mod Loaded
 pub mod Sending
 pub mod Headline
+pub mod Calls
 pub mod Rungs

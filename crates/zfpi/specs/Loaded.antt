@@ -2,13 +2,15 @@
 use Rattle.std.specs.Prelude.{◌≡◌, ℕ, ◌≤◌, ◌⊎◌, List, length, Option, Ok, Err}
 use Rattle.zf_dev.specs.Shelf.{Files, HasFile}
 use Rattle.zf_parse.specs.Parsing.{Said}
+use Rattle.zf_index.specs.Files.{HasHeader}
 use Rattle.zf_cached.specs.Arrays.{max_file}
 use Rattle.zf_cached.specs.Runs.{lines_of, ended}
 use Rattle.zf_commands.specs.Runs.{starved_lines}
 use Rattle.zfpi.specs.declared.command.Access.{Access}
+use Rattle.zfpi.specs.declared.commands.target.Loaded.{Loaded}
 use Rattle.zfpi.specs.declared.status.Status.{Status}
 use Rattle.zfpi.specs.declared.status.Status.TheVariants.{Header, NotRate, Truncated, Pad, Trailing, Memory}
-use Rattle.zfpi.specs.Accesses.{reading_of, answers_of, file_of}
+use Rattle.zfpi.specs.Accesses.{IsAccess, Admits, reading_of, answers_of, file_of}
 use Rattle.zfpi.specs.Subjects.{Subject, ran_all}
 
 -- the file of this name has these bytes, and not more than a file may have
@@ -42,3 +44,9 @@ RefusesFile status = ⊥
 pub record IsRefused (access : Access) (bytes : List ℕ) (status : Status) : Type 0 where
   pub refusal : RefusesFile status
   pub why : (reading_of access bytes ≡ Err status) ⊎ (status ≡ Memory)
+
+-- what was loaded begins with the header that was read of it, and its mode is one that the access admits
+pub record IsAccessed (access : Access) (loaded : Loaded) : Type 0 where
+  pub lines : IsAccess access
+  pub header : HasHeader loaded.file.items loaded.header
+  pub mode : Admits access loaded.header.mode

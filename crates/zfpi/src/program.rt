@@ -6,6 +6,7 @@ ghost use Rattle.zfpi.specs.Statuses.{error_line};
 ghost use Rattle.zfpi.specs.World.{seen, counts};
 ghost use Rattle.zfpi.specs.Answer.{meaning};
 ghost use Rattle.zfpi.specs.Steps.{Steps};
+ghost use Rattle.zfpi.specs.Calls.{Fulfils, HeedsWords};
 ghost use Rattle.zfpi.specs.Headline.{OfCommand, OnUsage, RefusesWords, Behaves, HasCauses, StopsAtEnd, IsSent, AreQuiet, IsComplete, GivesBack, Sends};
 
 use crate::command::{Access, Command};
@@ -77,21 +78,8 @@ fn answer<S: Source, O: Sink, F: Shelf>(
     out: &mut O,
     shelf: &mut F,
 ) -> Status
-    ensures usage { RefusesWords (map string_bytes words.now) result }
-    ensures untouched { OnUsage result ((src.new ≡ src.old) × (out.new ≡ out.old) × (shelf.new ≡ shelf.old)) }
-    ensures command { OfCommand (map string_bytes words.now) (λ c. Behaves c result
-        (seen (S.contents src.old) (O.contents out.old) (F.files shelf.old))
-        (seen (S.contents src.new) (O.contents out.new) (F.files shelf.new))) }
-    ensures causes { OfCommand (map string_bytes words.now) (λ c. HasCauses c result
-        (counts (S.faults src.old) (O.faults out.old)) (counts (S.faults src.new) (O.faults out.new))
-        (S.never_fails src.old) (S.never_fails src.new)) }
-    ensures stops { OfCommand (map string_bytes words.now) (λ c.
-        StopsAtEnd ((meaning c).reads result) (S.ends_seen src.old) (S.ends_seen src.new)) }
-    ensures steps { OfCommand (map string_bytes words.now)
-        (λ c. Steps F.loads F.saves F.faults c result shelf.old shelf.new) }
-    ensures sure_shelf { F.never_fails shelf.old → (result ≢ Status.LoadFault) × F.never_fails shelf.new }
-    ensures sent { O.is_flushed out.old → IsSent result (IsQuiet (O.faults out.old) (O.faults out.new))
-        (O.is_flushed out.new) }
+    ensures { HeedsWords S.Source O.Sink F.Shelf (map string_bytes words.now) result
+        src.old src.new out.old out.new shelf.old shelf.new }
 {
     match parse(words) {
         Ok(command) => do_command(alloc, command, src, out, shelf),
@@ -108,17 +96,8 @@ fn do_command<S: Source, O: Sink, F: Shelf>(
     shelf: &mut F,
 ) -> Status
     requires { (meaning command).can_run }
-    ensures behaves { Behaves command result
-        (seen (S.contents src.old) (O.contents out.old) (F.files shelf.old))
-        (seen (S.contents src.new) (O.contents out.new) (F.files shelf.new)) }
-    ensures causes { HasCauses command result
-        (counts (S.faults src.old) (O.faults out.old)) (counts (S.faults src.new) (O.faults out.new))
-        (S.never_fails src.old) (S.never_fails src.new) }
-    ensures stops { StopsAtEnd ((meaning command).reads result) (S.ends_seen src.old) (S.ends_seen src.new) }
-    ensures steps { Steps F.loads F.saves F.faults command result shelf.old shelf.new }
-    ensures sure_shelf { F.never_fails shelf.old → (result ≢ Status.LoadFault) × F.never_fails shelf.new }
-    ensures sent { O.is_flushed out.old → IsSent result (IsQuiet (O.faults out.old) (O.faults out.new))
-        (O.is_flushed out.new) }
+    ensures { Fulfils S.Source O.Sink F.Shelf command result src.old src.new out.old out.new
+        shelf.old shelf.new }
 {
     match command {
         Command::Compress(header) => send(compress(alloc, header, src, out), out),

@@ -1,7 +1,6 @@
 //! `bound`: how far the values of a stream are from whatever was stored in it, as a line.
 
 ghost use Rattle.std.specs.Prelude.{◌≡◌, ◌≢◌, ℕ, List, Option, IfOk, IfErr, OnOk};
-ghost use Rattle.zf_dev.specs.Shelf.{Files, KeepsFiles};
 ghost use Rattle.zf_header.specs.HeaderBits.{IsRate};
 ghost use Rattle.zf_index.specs.Files.{HasHeader, stream_fault};
 ghost use Rattle.zf_parse.specs.Parsing.{parse};
@@ -9,8 +8,8 @@ ghost use Rattle.zf_parse.specs.ReadStreams.{IsFault};
 ghost use Rattle.zf_bound.specs.Bounds.{IsGood, certified_of};
 ghost use Rattle.zfpi.specs.declared.command.Command.TheVariants.{Bound};
 ghost use Rattle.zfpi.specs.World.{seen, counts};
-ghost use Rattle.zfpi.specs.Loaded.{HoldsFile};
-ghost use Rattle.zfpi.specs.Steps.{Steps, IsShelfless};
+ghost use Rattle.zfpi.specs.Steps.{Steps};
+ghost use Rattle.zfpi.specs.Calls.{Certifies};
 ghost use Rattle.zfpi.specs.Headline.{Behaves, HasCauses};
 
 use crate::commands::line::bound_line;
@@ -46,15 +45,9 @@ pub fn bound<O: Sink, F: Shelf>(
     }
 }
 
-// The same with the file that was loaded.
+// Writes the line of a file that was loaded.
 fn bound_file<O: Sink>(alloc: Global, name: &Name, most: u64, file: &[u8], out: &mut O) -> Status
-    ensures behaves { (src : Option (List ℕ)) (known now : Option Files) → HoldsFile known name.now file.now
-        → KeepsFiles known now
-        → Behaves (Bound name.now most) result (seen src (O.contents out.old) known)
-        (seen src (O.contents out.new) now) }
-    ensures causes { (src : ℕ) → HasCauses (Bound name.now most) result
-        (counts src (O.faults out.old)) (counts src (O.faults out.new)) (Unit {0}) (Unit {0}) }
-    ensures shelfless { IsShelfless result }
+    ensures { Certifies O.Sink name.now most file.now result out.old out.new }
 {
     match zf_header::read(file) {
         Ok((header, _)) => match header.mode {
@@ -65,7 +58,7 @@ fn bound_file<O: Sink>(alloc: Global, name: &Name, most: u64, file: &[u8], out: 
     }
 }
 
-// The same with the header of the file.
+// Writes the line of a stream with this header.
 fn bound_stream<O: Sink>(
     alloc: Global,
     name: &Name,
@@ -76,13 +69,7 @@ fn bound_stream<O: Sink>(
 ) -> Status
     requires header { HasHeader file.now header.now }
     requires rate { IsRate header.now.mode }
-    ensures behaves { (src : Option (List ℕ)) (known now : Option Files) → HoldsFile known name.now file.now
-        → KeepsFiles known now
-        → Behaves (Bound name.now most) result (seen src (O.contents out.old) known)
-        (seen src (O.contents out.new) now) }
-    ensures causes { (src : ℕ) → HasCauses (Bound name.now most) result
-        (counts src (O.faults out.old)) (counts src (O.faults out.new)) (Unit {0}) (Unit {0}) }
-    ensures shelfless { IsShelfless result }
+    ensures { Certifies O.Sink name.now most file.now result out.old out.new }
 {
     match certified(alloc, header, file, most) {
         Ok(certified) => {

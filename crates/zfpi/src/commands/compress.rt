@@ -1,11 +1,9 @@
 //! `compress`: raw values to their stream.
 
-ghost use Rattle.std.specs.Prelude.{◌≡◌, Option};
-ghost use Rattle.zf_dev.specs.Shelf.{Files};
+ghost use Rattle.std.specs.Prelude.{◌≡◌};
 ghost use Rattle.zfpi.specs.declared.command.Command.TheVariants.{Compress};
-ghost use Rattle.zfpi.specs.World.{seen, counts};
 ghost use Rattle.zfpi.specs.Answer.{meaning};
-ghost use Rattle.zfpi.specs.Headline.{Behaves, HasCauses, StopsAtEnd};
+ghost use Rattle.zfpi.specs.Calls.{Streams};
 
 use crate::status::Status;
 use std::alloc::Global;
@@ -16,19 +14,12 @@ use zf_header::Header;
 /// Reads raw values, and writes the stream that has this header.
 pub fn compress<S: Source, O: Sink>(alloc: Global, h: Header, src: &mut S, out: &mut O) -> Status
     requires { (meaning (Compress h)).can_run }
-    ensures behaves { (files : Option Files) → Behaves (Compress h) result
-        (seen (S.contents src.old) (O.contents out.old) files)
-        (seen (S.contents src.new) (O.contents out.new) files) }
-    ensures causes { HasCauses (Compress h) result
-        (counts (S.faults src.old) (O.faults out.old)) (counts (S.faults src.new) (O.faults out.new))
-        (S.never_fails src.old) (S.never_fails src.new) }
-    ensures stops { StopsAtEnd ((meaning (Compress h)).reads result) (S.ends_seen src.old)
-        (S.ends_seen src.new) }
+    ensures { Streams S.Source O.Sink (Compress h) result src.old src.new out.old out.new }
 {
     compress_begun::<S, O, Brand>(alloc, h, src, out)
 }
 
-// The same of a source that the call began with: it is not read behind its end.
+// Compresses what a source gives that the call began with, and does not read it behind its end.
 fn compress_begun<S: Source, O: Sink, K: Begun>(
     alloc: Global,
     h: Header,
@@ -37,14 +28,7 @@ fn compress_begun<S: Source, O: Sink, K: Begun>(
 ) -> Status
     requires begun { K.ends_seen ≡ S.ends_seen src.old }
     requires can { (meaning (Compress h)).can_run }
-    ensures behaves { (files : Option Files) → Behaves (Compress h) result
-        (seen (S.contents src.old) (O.contents out.old) files)
-        (seen (S.contents src.new) (O.contents out.new) files) }
-    ensures causes { HasCauses (Compress h) result
-        (counts (S.faults src.old) (O.faults out.old)) (counts (S.faults src.new) (O.faults out.new))
-        (S.never_fails src.old) (S.never_fails src.new) }
-    ensures stops { StopsAtEnd ((meaning (Compress h)).reads result) (S.ends_seen src.old)
-        (S.ends_seen src.new) }
+    ensures { Streams S.Source O.Sink (Compress h) result src.old src.new out.old out.new }
 {
     let mut source = UntilEnd::<S, K> {
         src,

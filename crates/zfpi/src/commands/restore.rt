@@ -1,11 +1,8 @@
 //! `restore`: a stream to its raw values.
 
-ghost use Rattle.std.specs.Prelude.{◌≡◌, Option};
-ghost use Rattle.zf_dev.specs.Shelf.{Files};
+ghost use Rattle.std.specs.Prelude.{◌≡◌};
 ghost use Rattle.zfpi.specs.declared.command.Command.TheVariants.{Restore};
-ghost use Rattle.zfpi.specs.World.{seen, counts};
-ghost use Rattle.zfpi.specs.Answer.{meaning};
-ghost use Rattle.zfpi.specs.Headline.{Behaves, HasCauses, StopsAtEnd};
+ghost use Rattle.zfpi.specs.Calls.{Streams};
 
 use crate::status::Status;
 use std::alloc::Global;
@@ -14,27 +11,15 @@ use zf_dev::{Begun, Sink, Source, UntilEnd};
 
 /// Reads a stream, and writes its raw values.
 pub fn restore<S: Source, O: Sink>(alloc: Global, src: &mut S, out: &mut O) -> Status
-    ensures behaves { (files : Option Files) → Behaves Restore result
-        (seen (S.contents src.old) (O.contents out.old) files)
-        (seen (S.contents src.new) (O.contents out.new) files) }
-    ensures causes { HasCauses Restore result
-        (counts (S.faults src.old) (O.faults out.old)) (counts (S.faults src.new) (O.faults out.new))
-        (S.never_fails src.old) (S.never_fails src.new) }
-    ensures stops { StopsAtEnd ((meaning Restore).reads result) (S.ends_seen src.old) (S.ends_seen src.new) }
+    ensures { Streams S.Source O.Sink Restore result src.old src.new out.old out.new }
 {
     restore_begun::<S, O, Brand>(alloc, src, out)
 }
 
-// The same of a source that the call began with: it is not read behind its end.
+// Restores what a source gives that the call began with, and does not read it behind its end.
 fn restore_begun<S: Source, O: Sink, K: Begun>(alloc: Global, src: &mut S, out: &mut O) -> Status
     requires { K.ends_seen ≡ S.ends_seen src.old }
-    ensures behaves { (files : Option Files) → Behaves Restore result
-        (seen (S.contents src.old) (O.contents out.old) files)
-        (seen (S.contents src.new) (O.contents out.new) files) }
-    ensures causes { HasCauses Restore result
-        (counts (S.faults src.old) (O.faults out.old)) (counts (S.faults src.new) (O.faults out.new))
-        (S.never_fails src.old) (S.never_fails src.new) }
-    ensures stops { StopsAtEnd ((meaning Restore).reads result) (S.ends_seen src.old) (S.ends_seen src.new) }
+    ensures { Streams S.Source O.Sink Restore result src.old src.new out.old out.new }
 {
     let mut source = UntilEnd::<S, K> {
         src,

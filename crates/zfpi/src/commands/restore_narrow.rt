@@ -1,12 +1,9 @@
 //! `restore` of narrow values: a stream of int32 values to the raw values of 8 or 16 bits that they stand
 //! for.
 
-ghost use Rattle.std.specs.Prelude.{◌≡◌, Option};
-ghost use Rattle.zf_dev.specs.Shelf.{Files};
+ghost use Rattle.std.specs.Prelude.{◌≡◌};
 ghost use Rattle.zfpi.specs.declared.command.Command.TheVariants.{RestoreNarrow};
-ghost use Rattle.zfpi.specs.World.{seen, counts};
-ghost use Rattle.zfpi.specs.Answer.{meaning};
-ghost use Rattle.zfpi.specs.Headline.{Behaves, HasCauses, StopsAtEnd};
+ghost use Rattle.zfpi.specs.Calls.{Streams};
 
 use crate::status::Status;
 use std::alloc::Global;
@@ -21,19 +18,12 @@ pub fn restore_narrow<S: Source, O: Sink>(
     src: &mut S,
     out: &mut O,
 ) -> Status
-    ensures behaves { (files : Option Files) → Behaves (RestoreNarrow narrow) result
-        (seen (S.contents src.old) (O.contents out.old) files)
-        (seen (S.contents src.new) (O.contents out.new) files) }
-    ensures causes { HasCauses (RestoreNarrow narrow) result
-        (counts (S.faults src.old) (O.faults out.old)) (counts (S.faults src.new) (O.faults out.new))
-        (S.never_fails src.old) (S.never_fails src.new) }
-    ensures stops { StopsAtEnd ((meaning (RestoreNarrow narrow)).reads result) (S.ends_seen src.old)
-        (S.ends_seen src.new) }
+    ensures { Streams S.Source O.Sink (RestoreNarrow narrow) result src.old src.new out.old out.new }
 {
     restore_narrow_begun::<S, O, Brand>(alloc, narrow, src, out)
 }
 
-// The same of a source that the call began with: it is not read behind its end.
+// Restores what a source gives that the call began with, and does not read it behind its end.
 fn restore_narrow_begun<S: Source, O: Sink, K: Begun>(
     alloc: Global,
     narrow: Narrow,
@@ -41,14 +31,7 @@ fn restore_narrow_begun<S: Source, O: Sink, K: Begun>(
     out: &mut O,
 ) -> Status
     requires { K.ends_seen ≡ S.ends_seen src.old }
-    ensures behaves { (files : Option Files) → Behaves (RestoreNarrow narrow) result
-        (seen (S.contents src.old) (O.contents out.old) files)
-        (seen (S.contents src.new) (O.contents out.new) files) }
-    ensures causes { HasCauses (RestoreNarrow narrow) result
-        (counts (S.faults src.old) (O.faults out.old)) (counts (S.faults src.new) (O.faults out.new))
-        (S.never_fails src.old) (S.never_fails src.new) }
-    ensures stops { StopsAtEnd ((meaning (RestoreNarrow narrow)).reads result) (S.ends_seen src.old)
-        (S.ends_seen src.new) }
+    ensures { Streams S.Source O.Sink (RestoreNarrow narrow) result src.old src.new out.old out.new }
 {
     let mut source = UntilEnd::<S, K> {
         src,

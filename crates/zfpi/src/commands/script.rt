@@ -1,18 +1,13 @@
 //! `run` and `look`: a script on the array, or on the stream, of a file.
 
-ghost use Rattle.std.specs.Prelude.{◌≡◌, ◌≢◌, ℕ, List, length};
+ghost use Rattle.std.specs.Prelude.{◌≡◌, ℕ, List, length};
 ghost use Rattle.zf_base.specs.Widths.{width_of};
-ghost use Rattle.zf_dev.specs.Faults.{IsQuiet};
-ghost use Rattle.zf_index.specs.Files.{HasHeader};
 ghost use Rattle.zfpi.specs.declared.command.Access.{Access};
-ghost use Rattle.zfpi.specs.World.{seen, counts};
-ghost use Rattle.zfpi.specs.Accesses.{IsAccess, command_on, Admits, admits};
+ghost use Rattle.zfpi.specs.Accesses.{IsAccess, command_on, admits};
 ghost use Rattle.zfpi.specs.Subjects.{subject, IsFresh, HasRoom};
-ghost use Rattle.zfpi.specs.Loaded.{StandsFor};
-ghost use Rattle.zfpi.specs.Steps.{Steps};
+ghost use Rattle.zfpi.specs.Loaded.{IsAccessed, StandsFor};
 ghost use Rattle.zfpi.specs.Rungs.{WorksOn, Answers};
-ghost use Rattle.zfpi.specs.Answer.{meaning};
-ghost use Rattle.zfpi.specs.Headline.{Behaves, HasCauses, StopsAtEnd, IsSent};
+ghost use Rattle.zfpi.specs.Calls.{Fulfils};
 
 use crate::command::Access;
 use crate::commands::kinds::in_kind;
@@ -39,18 +34,8 @@ pub fn script<S: Source, O: Sink, F: Shelf>(
     shelf: &mut F,
 ) -> Status
     requires { IsAccess access }
-    ensures behaves { Behaves (command_on access name.now) result
-        (seen (S.contents src.old) (O.contents out.old) (F.files shelf.old))
-        (seen (S.contents src.new) (O.contents out.new) (F.files shelf.new)) }
-    ensures causes { HasCauses (command_on access name.now) result
-        (counts (S.faults src.old) (O.faults out.old)) (counts (S.faults src.new) (O.faults out.new))
-        (S.never_fails src.old) (S.never_fails src.new) }
-    ensures stops { StopsAtEnd ((meaning (command_on access name.now)).reads result)
-        (S.ends_seen src.old) (S.ends_seen src.new) }
-    ensures steps { Steps F.loads F.saves F.faults (command_on access name.now) result shelf.old shelf.new }
-    ensures sent { O.is_flushed out.old
-        → IsSent result (IsQuiet (O.faults out.old) (O.faults out.new)) (O.is_flushed out.new) }
-    ensures sure_shelf { F.never_fails shelf.old → (result ≢ Status.LoadFault) × F.never_fails shelf.new }
+    ensures { Fulfils S.Source O.Sink F.Shelf (command_on access name.now) result src.old src.new
+        out.old out.new shelf.old shelf.new }
 {
     match shelf.load(alloc, name.as_str(), MAX_FILE) {
         Ok(file) => on_file(alloc, name, access, file, src, out, shelf),
@@ -105,9 +90,7 @@ fn on_header<S: Source, O: Sink, F: Shelf>(
     out: &mut O,
     shelf: &mut F,
 ) -> Status
-    requires access { IsAccess access }
-    requires header { HasHeader loaded.file.items loaded.header }
-    requires mode { Admits access loaded.header.mode }
+    requires { IsAccessed access loaded }
     ensures { WorksOn O.Sink F.Shelf S.Source (command_on access name.now) name.now loaded.file.items result
         src.old src.new out.old out.new shelf.old shelf.new }
 {
@@ -130,9 +113,7 @@ fn on_kind<T: Lane, const D: usize, S: Source, O: Sink, F: Shelf>(
     out: &mut O,
     shelf: &mut F,
 ) -> Status
-    requires access { IsAccess access }
-    requires header { HasHeader loaded.file.items loaded.header }
-    requires mode { Admits access loaded.header.mode }
+    requires accessed { IsAccessed access loaded }
     requires same_type { T.width ≡ width_of loaded.header.ty }
     requires dims { length loaded.header.shape ≡ D }
     ensures { WorksOn O.Sink F.Shelf S.Source (command_on access name.now) name.now loaded.file.items result

@@ -3,11 +3,10 @@
 ghost use Rattle.std.specs.Prelude.{◌≡◌, length, IfOk, IfErr};
 ghost use Rattle.zf_base.specs.Widths.{width_of};
 ghost use Rattle.zf_dev.specs.Faults.{HasCause};
-ghost use Rattle.zf_index.specs.Files.{HasHeader};
-ghost use Rattle.zfpi.specs.Accesses.{IsAccess, Admits, named};
+ghost use Rattle.zfpi.specs.Accesses.{named};
 ghost use Rattle.zfpi.specs.Sending.{IsDone};
 ghost use Rattle.zfpi.specs.Subjects.{subject, IsFresh, HasRoom, Ran, filed_now};
-ghost use Rattle.zfpi.specs.Loaded.{StandsFor, IsRefused};
+ghost use Rattle.zfpi.specs.Loaded.{IsAccessed, StandsFor, IsRefused};
 ghost use Rattle.zfpi.specs.Rungs.{Closes};
 
 use crate::command::{Access, Caching};
@@ -45,9 +44,7 @@ pub enum Target<T: Lane, const D: usize> {
 impl<T: Lane, const D: usize> Target<T, D> {
     /// Opens a file by the access that a script has to it.
     pub fn open(alloc: Global, access: Access, loaded: Loaded) -> Result<Self, Status>
-        requires access { IsAccess access }
-        requires header { HasHeader loaded.file.items loaded.header }
-        requires mode { Admits access loaded.header.mode }
+        requires accessed { IsAccessed access loaded }
         requires same_type { T.width ≡ width_of loaded.header.ty }
         requires dims { length loaded.header.shape ≡ D }
         ensures stands { IfOk result (λ t. StandsFor (subject T.value T.width t) access loaded.file.items) }

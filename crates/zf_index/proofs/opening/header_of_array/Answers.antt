@@ -9,11 +9,9 @@ use Rattle.zf_index.proofs.opening.header_of_array.Goals as goal
 
 -- bytes with no header in any mode have none in some
 in_some_mode : (Does : Mode → Type 0) (ty : Ty) (d : ℕ) (bytes : List ℕ) (e : OpenFault) → LacksHeader AnyMode ty d bytes e → LacksHeader Does ty d bytes e
-in_some_mode Does ty d bytes (open_fault.Header f) why = why
-in_some_mode Does ty d bytes (open_fault.Ty found) why = why
-in_some_mode Does ty d bytes (open_fault.Dims found) why = why
 in_some_mode Does ty d bytes (open_fault.Mode found) why = absurd (why.2 tt)
 in_some_mode Does ty d bytes (open_fault.Codes f) why = absurd why
+in_some_mode Does ty d bytes e why = why
 
 pub returns-in-Err-clause-fault : goal.returns-in-Err-clause-fault
 returns-in-Err-clause-fault g c = in_some_mode IsRate g.T.Lane.TY c.args.dims c.args.file.now c.in-Err.fault c.in-Err.ensures.fault

@@ -6,12 +6,8 @@ use Rattle.zf_stream.proofs.slabs.with_rows.Goals as goal
 
 -- at most four sizes, one after another
 by_size : (d : ℕ) (ns : List ℕ) → d ≡ length ns → d ≤ 4 → take d (get_or ns 0 1 ∷ get_or ns 1 1 ∷ get_or ns 2 1 ∷ get_or ns 3 1 ∷ []) ≡ ns
-by_size d [] is four = rw is refl
-by_size d (a ∷ []) is four = rw is refl
-by_size d (a ∷ b ∷ []) is four = rw is refl
-by_size d (a ∷ b ∷ c ∷ []) is four = rw is refl
-by_size d (a ∷ b ∷ c ∷ e ∷ []) is four = rw is refl
 by_size d (a ∷ b ∷ c ∷ e ∷ f ∷ ns) is four = absurd (omega arith)
+by_size d ns is four = rw is refl
 
 sizes : (d rows a b c e : ℕ) (ns : List ℕ) → d ≡ length ns → d ≤ 4 → a ≡ get_or (with_rows rows ns) 0 1 → b ≡ get_or (with_rows rows ns) 1 1 → c ≡ get_or (with_rows rows ns) 2 1 → e ≡ get_or (with_rows rows ns) 3 1
     → take d (a ∷ b ∷ c ∷ e ∷ []) ≡ with_rows rows ns

@@ -1,4 +1,4 @@
-use Rattle.std.proofs.Common.{◌≡◌, ℕ, ◌+◌, ◌-◌, ◌*◌, ◌/◌, ◌≤◌, ℤ, List, ◌++◌, map, length, take, drop, sym, ap, subst, ◌∙◌, take-append-drop, arith}
+use Rattle.std.proofs.Common.{◌≡◌, ℕ, ◌+◌, ◌-◌, ◌*◌, ◌/◌, ◌≤◌, ℤ, List, ◌++◌, map, length, take, drop, ap, subst, ◌∙◌, arith}
 use Rattle.std.proofs.lemmas.List.{take_at, length-take, map-append}
 use Rattle.std.proofs.Math.Nat.{div-mul-le_self, mul-le-mul_right}
 use Rattle.std.specs.Int.{Width}

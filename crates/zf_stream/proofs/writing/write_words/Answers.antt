@@ -1,4 +1,4 @@
-use Rattle.std.proofs.Common.{◌≡◌, ℕ, ◌+◌, ◌-◌, ◌*◌, ◌<◌, ◌^◌, List, ◌++◌, length, take, drop, sym, ap, subst, ◌∙◌, take-append-drop, arith}
+use Rattle.std.proofs.Common.{◌≡◌, ℕ, ◌+◌, ◌-◌, ◌*◌, ◌<◌, ◌^◌, List, ◌++◌, length, take, drop, ap, subst, ◌∙◌, arith}
 use Rattle.std.proofs.lemmas.List.{take_at, length-take}
 use Rattle.std.proofs.lemmas.List.Elements.{All-from_get_or}
 use Rattle.std.proofs.lemmas.Grind.{flat_map-append}
@@ -11,7 +11,6 @@ use Rattle.zf_dev.proofs.Devices.{Writes-more}
 use Rattle.zf_stream.proofs.Failing.{WritesOnly-ok, WritesOnly-then}
 use Rattle.std.proofs.lemmas.Result.{err_from_is_err_and}
 use Rattle.zf_stream.proofs.writing.write_words.Goals as goal
-use Rattle.std.proofs.Math.Seq.{take-add}
 
 -- what a piece was filled with
 filled : (put rest words : List ℕ) (at n m k : ℕ) → put ≡ bytes_in (take k (drop at words)) → k ≡ n → length put ≡ m → take m (put ++ rest) ≡ bytes_in (take n (drop at words))

@@ -1,22 +1,27 @@
-use Rattle.std.proofs.Common.{map, string_bytes}
-use Rattle.zfpi.specs.Steps.{Steps}
-use Rattle.zfpi.specs.Answer.{meaning}
-use Rattle.zfpi.specs.Headline.{Behaves, HasCauses, StopsAtEnd}
-use Rattle.zfpi.proofs.Promises.{OfCommand-one}
+use Rattle.std.proofs.Common.{map, string_bytes, refl}
+use Rattle.zfpi.specs.Calls.{Fulfils}
+use Rattle.zfpi.proofs.Promises.{OfCommand-one, RefusesWords-of, OnUsage-of}
 use Rattle.zfpi.proofs.program.answer.Goals as goal
 
-pub returns-in-Ok-clause-command : goal.returns-in-Ok-clause-command
-returns-in-Ok-clause-command g c =
-    OfCommand-one (map string_bytes c.args.words.now) c.in-Ok.command c.in-Ok.ensures.command (λ d. Behaves d c.do_command.result _ _) c.do_command.ensures.behaves
+pub returns-in-Ok : goal.returns-in-Ok
+returns-in-Ok g c =
+    let words = map string_bytes c.args.words.now in
+    let status = c.do_command.result in
+    let spelled = c.in-Ok.ensures.command in
+    let done = c.do_command.ensures in
+    record {
+      usage = RefusesWords-of words status (c.in-Ok.command, spelled) done.behaves.ends;
+      untouched = OnUsage-of status _ done.behaves.ends;
+      fulfils = OfCommand-one words c.in-Ok.command spelled (λ d. Fulfils g.S.Source g.O.Sink g.F.Shelf d status _ _ _ _ _ _) done;
+      sure_shelf = done.sure_shelf;
+      sent = done.sent;
+    }
 
-pub returns-in-Ok-clause-steps : goal.returns-in-Ok-clause-steps
-returns-in-Ok-clause-steps g c =
-    OfCommand-one (map string_bytes c.args.words.now) c.in-Ok.command c.in-Ok.ensures.command (λ d. Steps g.F.Shelf.loads g.F.Shelf.saves g.F.Shelf.faults d c.do_command.result c.args.shelf.now _) c.do_command.ensures.steps
-
-pub returns-in-Ok-clause-causes : goal.returns-in-Ok-clause-causes
-returns-in-Ok-clause-causes g c =
-    OfCommand-one (map string_bytes c.args.words.now) c.in-Ok.command c.in-Ok.ensures.command (λ d. HasCauses d c.do_command.result _ _ _ _) c.do_command.ensures.causes
-
-pub returns-in-Ok-clause-stops : goal.returns-in-Ok-clause-stops
-returns-in-Ok-clause-stops g c =
-    OfCommand-one (map string_bytes c.args.words.now) c.in-Ok.command c.in-Ok.ensures.command (λ d. StopsAtEnd ((meaning d).reads c.do_command.result) _ _) c.do_command.ensures.stops
+pub returns-in-Err : goal.returns-in-Err
+returns-in-Err g c = record {
+  usage = c.in-Err.ensures.usage;
+  untouched = (refl, refl, refl);
+  fulfils = λ d spelled. absurd (c.in-Err.ensures.usage.no_command d spelled);
+  sure_shelf = λ sure. ((λ is. cc), sure);
+  sent = λ flushed why. flushed;
+}

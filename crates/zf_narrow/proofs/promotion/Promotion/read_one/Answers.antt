@@ -1,61 +1,33 @@
 use Rattle.std.proofs.Common.{rules, ◌≡◌, ◌∙◌, ap, length, take, [], arith}
 use Rattle.std.proofs.lemmas.List.{take_all}
 use Rattle.zf_stream.proofs.OnErrors.{on_err}
-use Rattle.zf_narrow.proofs.Reading.{all_given, first_given, half_read}
+use Rattle.zf_narrow.proofs.Reading.{first_gone}
 use Rattle.zf_narrow.proofs.Given.{gives_all, gives_first, gives_half}
 use Rattle.zf_narrow.proofs.promotion.Promotion.read_one.Goals as goal
 
 pub returns-in_err-count-clause-ungiven : goal.returns-in_err-count-clause-ungiven
 returns-in_err-count-clause-ungiven g c =
     let four : length c.args.self.now.value ≡ 4 = search rules in
-    let four' : length c.read_values.new.self.value ≡ 4 = ap length c.read_values.ensures.kept ∙ four in
-    on_err c.from_residual.result _
-    (all_given c.args.self.now c.read_values.new.self (g.S.Source.contents c.args.src.now) (g.S.Source.contents c.read_values.new.src) [] c.requires.given four c.requires.unspent c.read_values.ensures.same_type c.read_values.ensures.given four' c.read_values.ensures.unspent
-    c.in_err-count.ensures.err)
+    on_err c.from_residual.result _ (gives_all c.args.self.now c.read_values.new.self (g.S.Source.contents c.args.src.now) (g.S.Source.contents c.read_values.new.src) [] c.requires.idle four c.in_err-count.ensures.err)
 
 pub returns-then-count-eq0-clause-given : goal.returns-then-count-eq0-clause-given
 returns-then-count-eq0-clause-given g c =
     let four : length c.args.self.now.value ≡ 4 = search rules in
-    let four' : length c.give_half.new.self.value ≡ 4 = ap length (c.give_half.ensures.kept ∙ c.read_values.ensures.kept) ∙ four in
     let none : length (take c.in_ok-count.count c.read_values.new.buf) ≡ 0 = ap (λ k. length (take k c.read_values.new.buf)) c.if-count-eq0.true in
-    (half_read c.args.self.now c.read_values.new.self c.give_half.new.self (g.S.Source.contents c.args.src.now) (g.S.Source.contents c.read_values.new.src) _ c.give_half.result c.requires.given four c.requires.unspent c.read_values.ensures.same_type c.in_ok-count.ensures.values none
-    (c.in_ok-count.ensures.end c.if-count-eq0.true) c.give_half.ensures.same_type c.give_half.ensures.half c.give_half.ensures.given four' c.give_half.ensures.count c.give_half.ensures.spent _ c.give_half.ensures.value).0
+    (gives_half c.args.self.now c.read_values.new.self (g.S.Source.contents c.args.src.now) (g.S.Source.contents c.read_values.new.src) _ c.requires.idle four c.in_ok-count.ensures.values c.give_half.new.self _ _ none (c.in_ok-count.ensures.end c.if-count-eq0.true) c.give_half.ensures.half).0
 
 pub returns-then-count-eq0-clause-end : goal.returns-then-count-eq0-clause-end
 returns-then-count-eq0-clause-end g c =
     let four : length c.args.self.now.value ≡ 4 = search rules in
-    let four' : length c.give_half.new.self.value ≡ 4 = ap length (c.give_half.ensures.kept ∙ c.read_values.ensures.kept) ∙ four in
     let none : length (take c.in_ok-count.count c.read_values.new.buf) ≡ 0 = ap (λ k. length (take k c.read_values.new.buf)) c.if-count-eq0.true in
-    (half_read c.args.self.now c.read_values.new.self c.give_half.new.self (g.S.Source.contents c.args.src.now) (g.S.Source.contents c.read_values.new.src) _ c.give_half.result c.requires.given four c.requires.unspent c.read_values.ensures.same_type c.in_ok-count.ensures.values none
-    (c.in_ok-count.ensures.end c.if-count-eq0.true) c.give_half.ensures.same_type c.give_half.ensures.half c.give_half.ensures.given four' c.give_half.ensures.count c.give_half.ensures.spent _ c.give_half.ensures.value).1
+    (gives_half c.args.self.now c.read_values.new.self (g.S.Source.contents c.args.src.now) (g.S.Source.contents c.read_values.new.src) _ c.requires.idle four c.in_ok-count.ensures.values c.give_half.new.self _ _ none (c.in_ok-count.ensures.end c.if-count-eq0.true) c.give_half.ensures.half).1
 
 pub returns-clause-given : goal.returns-clause-given
 returns-clause-given g c =
     let four : length c.args.self.now.value ≡ 4 = search rules in
     let long : length c.read_values.new.buf ≡ 4 = search rules in
-    let all = take_all c.in_ok-count.count c.read_values.new.buf (omega (arith, long, c.in_ok-count.ensures.some, c.if-count-eq0.false)) in
-    first_given c.args.self.now c.read_values.new.self (g.S.Source.contents c.args.src.now) (g.S.Source.contents c.read_values.new.src) (take c.in_ok-count.count c.read_values.new.buf) (take c.give-given.result c.give-given.new.buf) c.read_values.new.buf c.give-given.new.at c.requires.given four c.requires.unspent c.read_values.ensures.same_type c.read_values.ensures.unspent c.in_ok-count.ensures.values
-    (all ∙ c.give-given.ensures.given)
-
-pub returns-in_err-count-clause-gave_none : goal.returns-in_err-count-clause-gave_none
-returns-in_err-count-clause-gave_none g c =
-    let four : length c.args.self.now.value ≡ 4 = search rules in
-    let four' : length c.read_values.new.self.value ≡ 4 = ap length c.read_values.ensures.kept ∙ four in
-    on_err c.from_residual.result _
-    (gives_all c.args.self.now c.read_values.new.self (g.S.Source.contents c.args.src.now) (g.S.Source.contents c.read_values.new.src) [] c.requires.given four c.requires.unspent c.read_values.ensures.same_type c.read_values.ensures.unspent c.in_err-count.ensures.err c.read_values.ensures.given four')
-
-pub returns-then-count-eq0-clause-gave : goal.returns-then-count-eq0-clause-gave
-returns-then-count-eq0-clause-gave g c =
-    let four : length c.args.self.now.value ≡ 4 = search rules in
-    let four' : length c.give_half.new.self.value ≡ 4 = ap length (c.give_half.ensures.kept ∙ c.read_values.ensures.kept) ∙ four in
-    let none : length (take c.in_ok-count.count c.read_values.new.buf) ≡ 0 = ap (λ k. length (take k c.read_values.new.buf)) c.if-count-eq0.true in
-    gives_half c.args.self.now c.read_values.new.self (g.S.Source.contents c.args.src.now) (g.S.Source.contents c.read_values.new.src) _ c.requires.given four c.requires.unspent c.read_values.ensures.same_type c.read_values.ensures.unspent c.in_ok-count.ensures.values
-    c.give_half.new.self _ c.give_half.result none c.give_half.ensures.same_type c.give_half.ensures.half c.give_half.ensures.taken c.give_half.ensures.given four' c.give_half.ensures.count c.give_half.ensures.spent c.give_half.ensures.value
-
-pub returns-clause-gave : goal.returns-clause-gave
-returns-clause-gave g c =
-    let four : length c.args.self.now.value ≡ 4 = search rules in
-    let long : length c.read_values.new.buf ≡ 4 = search rules in
-    let all = take_all c.in_ok-count.count c.read_values.new.buf (omega (arith, long, c.in_ok-count.ensures.some, c.if-count-eq0.false)) in
-    gives_first c.args.self.now c.read_values.new.self (g.S.Source.contents c.args.src.now) (g.S.Source.contents c.read_values.new.src) (take c.in_ok-count.count c.read_values.new.buf) c.requires.given four c.requires.unspent c.read_values.ensures.same_type
-    c.read_values.ensures.unspent c.in_ok-count.ensures.values (take c.give-given.result c.give-given.new.buf) c.read_values.new.buf c.give-given.new.at (all ∙ c.give-given.ensures.given)
+    let all = take_all c.in_ok-count.count c.read_values.new.buf (omega (arith, long, c.in_ok-count.ensures.some, c.if-count-eq0.false)) ∙ c.give-given.ensures.given in
+    record {
+      gone = first_gone c.args.self.now c.read_values.new.self (g.S.Source.contents c.args.src.now) (g.S.Source.contents c.read_values.new.src) _ (take c.give-given.result c.give-given.new.buf) c.read_values.new.buf c.give-given.new.at c.requires.idle four c.in_ok-count.ensures.values all;
+      gave = gives_first c.args.self.now c.read_values.new.self (g.S.Source.contents c.args.src.now) (g.S.Source.contents c.read_values.new.src) _ c.requires.idle four c.in_ok-count.ensures.values (take c.give-given.result c.give-given.new.buf) c.read_values.new.buf c.give-given.new.at all;
+    }

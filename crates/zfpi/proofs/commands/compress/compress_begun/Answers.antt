@@ -1,39 +1,29 @@
-use Rattle.std.proofs.Common.{[], Err, ap, sym, refl, true, subst}
+use Rattle.std.proofs.Common.{[], Err, ap, sym, refl}
 use Rattle.zf_parse.specs.Raw.{compress_answer, stream_text}
 use Rattle.zfpi.specs.declared.command.Command.TheVariants.{Compress}
-use Rattle.zfpi.specs.Faults.{status_of, fault_status}
 use Rattle.zfpi.specs.declared.status.Status.TheVariants.{Done}
-use Rattle.zfpi.specs.World.{seen}
-use Rattle.zfpi.specs.Headline.{Behaves, StopsAtEnd}
-use Rattle.zfpi.proofs.Stopping.{StopsAtEnd-begun}
-use Rattle.zfpi.proofs.Streaming.{IsStreaming-compress, Behaves-done, Behaves-fault, compress_prefix}
+use Rattle.zfpi.specs.Faults.{status_of, fault_status}
+use Rattle.zfpi.proofs.Streaming.{IsStreaming-compress, Streams-begun, Behaves-done, Behaves-fault, compress_prefix, read_named, write_named}
 use Rattle.zfpi.proofs.commands.compress.compress_begun.Goals as goal
 
-pub returns-in-Ok-clause-behaves : goal.returns-in-Ok-clause-behaves
-returns-in-Ok-clause-behaves g c = λ files.
-    let h = c.args.h in
-    let done = c.in-Ok.ensures.outcome.ok in
-    let src_is = c.src-1.given.1 (sym (ap (λ (q : _). q.0) c.compress.ensures.source.same)) in
-    subst (λ s. Behaves (Compress c.args.h) Done (seen (g.S.Source.contents c.args.src.now) (g.O.Sink.contents c.args.out.now) files) (seen (g.S.Source.contents s) (g.O.Sink.contents c.compress.new.out) files)) (sym src_is)
-    (Behaves-done (Compress h) done.bytes _ _ _ _ files (IsStreaming-compress h) (ap status_of (sym done.good)) done.taken done.ended done.written)
+pub returns-in-Ok : goal.returns-in-Ok
+returns-in-Ok g c =
+    let command = Compress c.args.h in
+    let is = IsStreaming-compress c.args.h in
+    let call = c.in-Ok.ensures in
+    let done = call.outcome.ok in
+    let moved = c.src-1.given.1 (sym (ap (λ (q : _). q.0) c.compress.ensures.source.same)) in
+    Streams-begun g.S.Source g.O.Sink command Done refl refl moved c.requires.begun c.compress.new.src.once call.source.cause call.sink.cause call.source.sure (λ fault. absurd (cc)) (λ fault. absurd (cc))
+    (λ files. Behaves-done command done.bytes _ _ _ _ files is (ap status_of (sym done.good)) done.taken done.ended done.written)
 
-pub returns-in-Err-clause-behaves : goal.returns-in-Err-clause-behaves
-returns-in-Err-clause-behaves g c = λ files.
-    let h = c.args.h in
+pub returns-in-Err : goal.returns-in-Err
+returns-in-Err g c =
+    let command = Compress c.args.h in
+    let is = IsStreaming-compress c.args.h in
     let e = c.in-Err.fault in
-    let done = c.in-Err.ensures.outcome in
-    let left = done.err in
-    let src_is = c.src-1.given.1 (sym (ap (λ (q : _). q.0) c.compress.ensures.source.same)) in
-    rw c.from.ensures (subst (λ s. Behaves (Compress c.args.h) (fault_status c.in-Err.fault) (seen (g.S.Source.contents c.args.src.now) (g.O.Sink.contents c.args.out.now) files) (seen (g.S.Source.contents s) (g.O.Sink.contents c.compress.new.out) files)) (sym src_is)
-    (Behaves-fault (Compress h) (compress_answer h) e [] left.bytes _ _ _ _ files (IsStreaming-compress h) (λ w. refl) done.answer done.possible tt (λ input exposed memory. tt) left.taken
-    (λ w. compress_prefix e (stream_text h left.bytes) _ _ left.written (λ starved. done.unwritten (ap Err starved)))))
-
-pub returns-in-Ok-clause-stops : goal.returns-in-Ok-clause-stops
-returns-in-Ok-clause-stops g c =
-    let src_is = c.src-1.given.1 (sym (ap (λ (q : _). q.0) c.compress.ensures.source.same)) in
-    subst (λ s. StopsAtEnd true (g.S.Source.ends_seen c.args.src.now) (g.S.Source.ends_seen s)) (sym src_is) (StopsAtEnd-begun _ _ _ c.requires.begun c.compress.new.src.once)
-
-pub returns-in-Err-clause-stops : goal.returns-in-Err-clause-stops
-returns-in-Err-clause-stops g c =
-    let src_is = c.src-1.given.1 (sym (ap (λ (q : _). q.0) c.compress.ensures.source.same)) in
-    subst (λ s. StopsAtEnd true (g.S.Source.ends_seen c.args.src.now) (g.S.Source.ends_seen s)) (sym src_is) (StopsAtEnd-begun _ _ _ c.requires.begun c.compress.new.src.once)
+    let call = c.in-Err.ensures in
+    let done = call.outcome in
+    let moved = c.src-1.given.1 (sym (ap (λ (q : _). q.0) c.compress.ensures.source.same)) in
+    rw c.from.ensures (Streams-begun g.S.Source g.O.Sink command (fault_status e) refl refl moved c.requires.begun c.compress.new.src.once call.source.cause call.sink.cause call.source.sure (λ fault. ap Err (read_named e fault)) (λ fault. ap Err (write_named e fault))
+    (λ files. Behaves-fault command (compress_answer c.args.h) e [] done.err.bytes _ _ _ _ files is (λ w. refl) done.answer done.possible tt (λ input exposed memory. tt) done.err.taken
+    (λ w. compress_prefix e (stream_text c.args.h done.err.bytes) _ _ done.err.written (λ starved. done.unwritten (ap Err starved)))))

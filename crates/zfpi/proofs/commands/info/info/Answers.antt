@@ -1,26 +1,30 @@
-use Rattle.std.proofs.Common.{true, refl, ◌∙◌}
-use Rattle.zfpi.proofs.Stopping.{StopsAtEnd-used}
+use Rattle.std.proofs.Common.{refl, ◌∙◌, ap, subst, Err, arith}
+use Rattle.zf_stream.specs.Headed.{LacksHeader}
+use Rattle.zfpi.specs.declared.command.Command.TheVariants.{Info}
+use Rattle.zfpi.specs.declared.status.Status.TheVariants.{Done, WriteFault}
+use Rattle.zfpi.specs.Faults.{fault_status}
+use Rattle.zfpi.proofs.Streaming.{Streams-begun, read_named, write_named}
 use Rattle.zfpi.proofs.Heading.{Behaves-line, Behaves-cut_line, Behaves-lacks}
 use Rattle.zfpi.proofs.commands.info.info.Goals as goal
 
-pub returns-in-Ok-write_all-clause-behaves : goal.returns-in-Ok-write_all-clause-behaves
-returns-in-Ok-write_all-clause-behaves g c = λ files.
+pub returns-in-Ok-write_all : goal.returns-in-Ok-write_all
+returns-in-Ok-write_all g c =
+    let call = c.in-Ok.ensures.source in
     let line = c.as_bytes.ensures.value ∙ (c.as_str.ensures.value ∙ c.info_line-line.ensures) in
-    Behaves-line c.in-Ok.header c.in-Ok.bits c.as_bytes.result.now _ _ _ _ files c.in-Ok.ensures.ok line c.in-Ok-write_all.ensures.all
+    Streams-begun g.S.Source g.O.Sink Info Done refl refl refl refl c.read_header.ensures.seen call.cause c.write_all.ensures.cause call.sure (λ fault. absurd (cc)) (λ fault. absurd (cc))
+    (λ files. Behaves-line c.in-Ok.header c.in-Ok.bits c.as_bytes.result.now _ _ _ _ files c.in-Ok.ensures.ok line c.in-Ok-write_all.ensures.all)
 
-pub returns-in-Err-write_all-clause-behaves : goal.returns-in-Err-write_all-clause-behaves
-returns-in-Err-write_all-clause-behaves g c = λ files.
+pub returns-in-Err-write_all : goal.returns-in-Err-write_all
+returns-in-Err-write_all g c =
+    let call = c.in-Ok.ensures.source in
     let line = c.as_bytes.ensures.value ∙ (c.as_str.ensures.value ∙ c.info_line-line.ensures) in
-    Behaves-cut_line c.in-Ok.header c.in-Ok.bits c.as_bytes.result.now _ _ _ _ files c.in-Ok.ensures.ok line c.write_all.ensures.prefix
+    Streams-begun g.S.Source g.O.Sink Info WriteFault refl refl refl refl c.read_header.ensures.seen call.cause c.in-Err-write_all.ensures.cause call.sure (λ fault. absurd (cc)) (λ fault. refl)
+    (λ files. Behaves-cut_line c.in-Ok.header c.in-Ok.bits c.as_bytes.result.now _ _ _ _ files c.in-Ok.ensures.ok line c.write_all.ensures.prefix)
 
-pub returns-in-Err-clause-behaves : goal.returns-in-Err-clause-behaves
-returns-in-Err-clause-behaves g c = λ files. rw c.from.ensures (Behaves-lacks c.in-Err.fault _ _ _ files c.in-Err.ensures.err)
-
-pub returns-in-Ok-write_all-clause-stops : goal.returns-in-Ok-write_all-clause-stops
-returns-in-Ok-write_all-clause-stops g c = StopsAtEnd-used true _ _ refl c.read_header.ensures.seen
-
-pub returns-in-Err-write_all-clause-stops : goal.returns-in-Err-write_all-clause-stops
-returns-in-Err-write_all-clause-stops g c = StopsAtEnd-used true _ _ refl c.read_header.ensures.seen
-
-pub returns-in-Err-clause-stops : goal.returns-in-Err-clause-stops
-returns-in-Err-clause-stops g c = StopsAtEnd-used true _ _ refl c.read_header.ensures.seen
+pub returns-in-Err : goal.returns-in-Err
+returns-in-Err g c =
+    let e = c.in-Err.fault in
+    let call = c.in-Err.ensures.source in
+    rw c.from.ensures (Streams-begun g.S.Source g.O.Sink Info (fault_status e) {Write = ⊥} refl refl refl refl c.read_header.ensures.seen call.cause (omega arith, λ none. absurd none) call.sure (λ fault. ap Err (read_named e fault))
+    (λ fault. subst (LacksHeader _ _) (write_named e fault) c.in-Err.ensures.err)
+    (λ files. Behaves-lacks e _ _ _ files c.in-Err.ensures.err))
