@@ -6,7 +6,7 @@ use Rattle.zf_header.specs.declared.header.Header.{Header}
 use Rattle.zf_cached.specs.State.{State}
 use Rattle.zf_cached.specs.Touch.{touch}
 use Rattle.zf_cached.specs.Arrays.{array_format}
-use Rattle.zf_cache.specs.Standing.{state_of}
+use Rattle.zf_cache.specs.Standing.{state_at}
 use Rattle.zf_store.specs.Stored.{Stored, format_of}
 use Rattle.zf_store.proofs.Kept.{blocks_is}
 use Rattle.zf_array.proofs.Standing.{header_now, has_blocks, joined_after, state_after}
@@ -36,7 +36,7 @@ returns-clause-state g c =
     step g.T.Lane.value g.T.Lane.width g.row.D s.store s.cache (vec_len s.buffer) c.self.invariant c.args.self.now c.self.view_is c.get.new.back c.get.new.self c.get.ensures.step.kept c.get.ensures.step.fits (λ f u. touch f u c.args.b) c.get.ensures.step.state
 
 pub returns-clause-value : goal.returns-clause-value
-unfolding state_of
+unfolding state_at
 returns-clause-value g c =
     let s = c.self.inside in
     let b = c.args.b in

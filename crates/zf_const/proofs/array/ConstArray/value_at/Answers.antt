@@ -5,7 +5,7 @@ use Rattle.zf_header.specs.declared.header.Header.{Header}
 use Rattle.zf_cached.specs.State.{State}
 use Rattle.zf_cached.specs.Touch.{touch}
 use Rattle.zf_cached.specs.Arrays.{array_format}
-use Rattle.zf_cache.specs.Standing.{state_of}
+use Rattle.zf_cache.specs.Standing.{state_at}
 use Rattle.zf_const.specs.Parts.{Coded, format_of}
 use Rattle.zf_const.proofs.Standing.{state_held, has_blocks, header_now, joined_after, header_after, codes_after, step}
 use Rattle.zf_const.proofs.array.ConstArray.value_at.Goals as goal
@@ -37,7 +37,7 @@ returns-clause-state g c =
     (λ f u. touch f u c.args.b) c.get_read.ensures.step.state
 
 pub returns-clause-value : goal.returns-clause-value
-unfolding state_of
+unfolding state_at
 returns-clause-value g c =
     let s = c.self.inside in
     let b = c.args.b in
