@@ -1,7 +1,7 @@
 -- Planes of four digits in which the first rank alone has ones.
-use Rattle.std.proofs.Common.{◌≡◌, ℕ, zero, suc, ◌+◌, ◌-◌, ◌*◌, ◌/◌, ◌%◌, ◌^◌, ◌<◌, ◌≤◌, max, Bool, true, false, eqb, List, [], ◌∷◌, ◌++◌, map, get_or, refl, sym, ap, ◌∙◌, arith, pow-suc}
+use Rattle.std.proofs.Common.{◌≡◌, ℕ, zero, suc, ◌+◌, ◌-◌, ◌*◌, ◌/◌, ◌^◌, ◌<◌, ◌≤◌, max, Bool, true, false, eqb, List, [], ◌∷◌, ◌++◌, map, get_or, refl, ap, ◌∙◌, arith, pow-suc}
 use Rattle.std.proofs.lemmas.Bool.{eqb-true}
-use Rattle.std.proofs.lemmas.Nat.{shr-shr, le_or_l, le_or_r, leading_length}
+use Rattle.std.proofs.lemmas.Nat.{le_or_l, le_or_r, leading_length}
 use Rattle.std.specs.Int.{w64, leading_zeros}
 use Rattle.std.proofs.Math.Nat.{div-eq_of_lt}
 use Rattle.std.proofs.Math.Pow.{pow_mono}
@@ -15,7 +15,7 @@ use Rattle.zf_planes.specs.declared.spread_table.TheConstants.{SPREAD}
 use Rattle.zf_spec.proofs.Fields.{field-add, is_odd-digit_value}
 use Rattle.zf_bits.proofs.Fields.{digit_value_le}
 use Rattle.zf_planes.proofs.Tables.{each_below, each_below-true}
-use Rattle.zf_planes.proofs.TopPlanes.{map-from, odd_low, top_planes-split}
+use Rattle.zf_planes.proofs.TopPlanes.{map-from, top_planes-split}
 use Rattle.zf_planes.proofs.Strings.{code_from-append}
 use Rattle.zf_planes.proofs.TopPlanes.{below}
 

@@ -1,11 +1,11 @@
 //! Reading planes from their code.
 
-ghost use Rattle.std.specs.Prelude.{◌≡◌, ◌+◌, ◌-◌, ◌*◌, ◌%◌, ◌<◌, ◌≤◌, ◌↔◌, min, max, slice_set, true, false, ◌∷◌, ◌++◌, length, map, take, replicate, All, IsNone, IfNone, IfSome, OnSome};
+ghost use Rattle.std.specs.Prelude.{◌≡◌, ◌+◌, ◌-◌, ◌*◌, ◌%◌, ◌<◌, ◌≤◌, ◌↔◌, min, slice_set, true, false, ◌∷◌, ◌++◌, length, map, take, replicate, All, IsNone, IfNone, IfSome, OnSome};
 ghost use Rattle.zf_spec.specs.Grid.{IsBlockSize};
 ghost use Rattle.zf_spec.specs.Kept.{kept_planes};
 ghost use Rattle.zf_spec.specs.ReadPlanes.{first_bits};
 ghost use Rattle.zf_spec.specs.HeldPlanes.{digits_held, planes_held, IsClearFrom};
-ghost use Rattle.zf_spec.specs.Numbers.{field, word_bits};
+ghost use Rattle.zf_spec.specs.Numbers.{word_bits};
 ghost use Rattle.zf_spec.specs.Planes.{reach};
 ghost use Rattle.zf_bits.specs.Reader.{rest, Reads};
 ghost use Rattle.zf_planes.specs.Moves.{Moves, LacksPlane, MovesOverPlane};
@@ -13,7 +13,7 @@ ghost use Rattle.zf_planes.specs.Sizes.{HasBlanks};
 ghost use Rattle.zf_planes.specs.Decoding.{coded, coded_bits, tail_ahead, tail_bits, run_ahead, run_bits, planes_bits, Takes, Lacks, ReadsTail, ReadsTop};
 
 use crate::cursor::Cursor;
-use crate::word_reading::{read_in_words, read_same};
+use crate::word_reading::read_by_kinds;
 use crate::words::clear;
 use zf_bits::{BitReader, Plane};
 
@@ -196,41 +196,8 @@ pub(crate) fn read_by_runs<P: Plane>(
     read_tail(n, size, prefix, cursor)
 }
 
-/// Reads the code of the top `prec` planes. All are zero before, and the other planes stay so. The answer is
-/// what is left of the budget.
-#[inline(always)]
-fn read_by_planes<P: Plane>(
-    budget: u64,
-    prec: u32,
-    size: usize,
-    reader: &BitReader<'_>,
-    planes: &mut [P],
-) -> Option<u64>
-    requires planes { HasBlanks size prec P.word_count (length planes.old) (map P.words planes.old) }
-    ensures short { IfNone result (length (rest reader.now)
-        < planes_bits budget prec size 0 (rest reader.now)) }
-    ensures read { IfSome result (λ left. ReadsTop budget prec size (rest reader.now)
-        (map P.words planes.new) left) }
-{
-    let mut cursor = Cursor::new(budget, reader);
-    let mut i = cursor.pass_zero_planes(prec) as usize;
-    let mut above = 0;
-    while i < prec as usize && cursor.left > 0 {
-        cursor.look_on(above as u64 + 1);
-        if above < size && (above as u64) < cursor.count && (cursor.bits >> above) % 2 == 0 {
-            i = read_same(above, size, i, prec as usize, planes, &mut cursor);
-        } else {
-            let read = read_by_runs::<P>(above, size, &mut cursor)?;
-            above = read.above;
-            let k = planes.len() - 1 - i;
-            planes[k] = read.plane;
-            i += 1;
-        }
-    }
-    Some(cursor.left)
-}
-
-/// The same, by words where a plane lies in one: a program of its own for each such size.
+/// Reads the code of the top `prec` planes. All are zero before, and the other planes stay so. Each size of
+/// planes in one word has a program of its own. The answer is what is left of the budget.
 fn read_top<P: Plane>(
     budget: u64,
     prec: u32,
@@ -245,10 +212,10 @@ fn read_top<P: Plane>(
         (map P.words planes.new) left) }
 {
     match size {
-        4 => read_in_words(budget, prec, 4, reader, planes),
-        16 => read_in_words(budget, prec, 16, reader, planes),
-        64 => read_in_words(budget, prec, 64, reader, planes),
-        _ => read_by_planes(budget, prec, size, reader, planes),
+        4 => read_by_kinds(budget, prec, 4, reader, planes),
+        16 => read_by_kinds(budget, prec, 16, reader, planes),
+        64 => read_by_kinds(budget, prec, 64, reader, planes),
+        _ => read_by_kinds(budget, prec, size, reader, planes),
     }
 }
 

@@ -1,13 +1,12 @@
 //! Reading the code of planes of four digits straight into the digits of the coefficients.
 
-ghost use Rattle.std.specs.Prelude.{true, ◌≡◌, ◌+◌, ◌-◌, ◌*◌, ◌/◌, ◌%◌, ◌^◌, ◌<◌, ◌≤◌, ◌↔◌, max, false, [], ◌∷◌, ◌++◌, length, map, take, replicate, slice_index_or, All, IsNone, IfNone, IfSome, OnSome};
+ghost use Rattle.std.specs.Prelude.{true, ◌≡◌, ◌+◌, ◌-◌, ◌*◌, ◌/◌, ◌%◌, ◌^◌, ◌<◌, ◌≤◌, ◌↔◌, false, ◌++◌, length, map, take, replicate, All, IsNone, IfNone, IfSome, OnSome};
 ghost use Rattle.zf_spec.specs.Numbers.{field};
-ghost use Rattle.zf_spec.specs.Planes.{code_from, reach, reach_of_all, planes_of};
+ghost use Rattle.zf_spec.specs.Planes.{planes_of};
 ghost use Rattle.zf_spec.specs.Kept.{kept_planes};
 ghost use Rattle.zf_bits.specs.Reader.{rest, Reads};
 ghost use Rattle.zf_planes.specs.Moves.{LacksPlane, LacksPlanes, MovesOverOne, MovesOverPlanes, MovesOverSome};
-ghost use Rattle.zf_planes.specs.Decoding.{coded, coded_bits, plane_ahead, plane_bits, planes_ahead, planes_bits, IsSpent, Takes, Lacks};
-ghost use Rattle.zf_planes.specs.Fours.{string_planes};
+ghost use Rattle.zf_planes.specs.Decoding.{coded, coded_bits, planes_ahead, planes_bits, IsSpent};
 ghost use Rattle.zf_planes.specs.Lanes.{low_planes, lanes_in, AreBelow, IsGathered, gathered, ReadsPlanes};
 
 use crate::cursor::Cursor;

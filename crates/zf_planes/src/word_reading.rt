@@ -1,17 +1,16 @@
-//! Reading planes of up to 64 digits, each of which lies in one word.
+//! Reading planes by what they are.
 //!
 //! Planes come in three kinds, and each kind in a row: those in which no more ranks have a one, those in
 //! which some more have, and, once all ranks have had one, those whose code is their digits. Each kind has a
 //! loop or an arm of its own, so that most planes take few steps.
 
-ghost use Rattle.std.specs.Prelude.{◌≡◌, ◌+◌, ◌-◌, ◌*◌, ◌/◌, ◌%◌, ◌^◌, ◌<◌, ◌≤◌, max, false, ◌++◌, length, map, take, drop, replicate, All, IfNone, IfSome, OnSome};
-ghost use Rattle.zf_spec.specs.HeldPlanes.{digits_held, planes_held, IsClearFrom};
-ghost use Rattle.zf_spec.specs.Planes.{reach};
+ghost use Rattle.std.specs.Prelude.{◌≡◌, ◌+◌, ◌-◌, ◌*◌, ◌/◌, ◌%◌, ◌^◌, ◌<◌, ◌≤◌, false, ◌++◌, length, map, take, drop, replicate, All, IfNone, IfSome};
+ghost use Rattle.zf_spec.specs.HeldPlanes.{planes_held, IsClearFrom};
 ghost use Rattle.zf_planes.specs.WordPlanes.{IsReadAs};
 ghost use Rattle.zf_bits.specs.Reader.{rest};
 ghost use Rattle.zf_planes.specs.Sizes.{IsWordSize, HasBlanks};
 ghost use Rattle.zf_planes.specs.Moves.{Moves, LacksPlane, MovesOverPlane};
-ghost use Rattle.zf_planes.specs.Decoding.{plane_ahead, plane_bits, planes_ahead, planes_bits, Takes, Lacks, ReadsTop};
+ghost use Rattle.zf_planes.specs.Decoding.{planes_ahead, planes_bits, ReadsTop};
 
 use crate::cursor::Cursor;
 use crate::decoding::{PlaneRead, read_by_runs};
@@ -104,15 +103,18 @@ pub(crate) fn read_same<P: Plane>(
 #[inline(always)]
 fn read_more<P: Plane>(n: usize, size: usize, cursor: &mut Cursor<'_>) -> Option<PlaneRead<P>>
     requires in_plane { n < size }
-    requires size { size ≤ 64 }
+    requires words { size ≤ 64 * P.word_count }
     requires more { n < cursor.old.count → cursor.old.bits / 2 ^ n % 2 ≡ 1 }
     ensures short { IfNone result (LacksPlane size n cursor.old cursor.new) }
     ensures read { IfSome result (λ read. MovesOverPlane size n cursor.old cursor.new (P.words read.plane)
         read.above) }
 {
-    let more = plane_with(n, size, cursor.bits);
-    if more.len <= cursor.count {
-        return Some(take_plane(n, size, more, cursor));
+    // A plane in one word is known where its bits are in sight, and a table has its tail.
+    if size <= 64 {
+        let more = plane_with(n, size, cursor.bits);
+        if more.len <= cursor.count {
+            return Some(take_plane(n, size, more, cursor));
+        }
     }
     read_by_runs(n, size, cursor)
 }
@@ -120,31 +122,33 @@ fn read_more<P: Plane>(n: usize, size: usize, cursor: &mut Cursor<'_>) -> Option
 /// Reads a plane in which all ranks have had a one above.
 #[inline(always)]
 fn read_last<P: Plane>(size: usize, cursor: &mut Cursor<'_>) -> Option<PlaneRead<P>>
-    requires size { IsWordSize size }
+    requires some { 0 < size }
+    requires words { size ≤ 64 * P.word_count }
     ensures short { IfNone result (LacksPlane size size cursor.old cursor.new) }
     ensures read { IfSome result (λ read. MovesOverPlane size size cursor.old cursor.new (P.words read.plane)
         read.above) }
 {
-    cursor.look_on(size as u64);
-    let all = plane_of_all(size, cursor.bits);
-    if all.len <= cursor.count {
-        return Some(take_plane(size, size, all, cursor));
+    if size <= 64 {
+        cursor.look_on(size as u64);
+        let all = plane_of_all(size, cursor.bits);
+        if all.len <= cursor.count {
+            return Some(take_plane(size, size, all, cursor));
+        }
     }
-    // The last plane of a budget may have fewer bits.
+    // It lies in several words, or it is the last of a budget, which may have fewer bits.
     read_by_runs(size, size, cursor)
 }
 
 /// Reads the code of the top `prec` planes. All are zero before, and the other planes stay so. The answer is
 /// what is left of the budget.
 #[inline(always)]
-pub(crate) fn read_in_words<P: Plane>(
+pub(crate) fn read_by_kinds<P: Plane>(
     budget: u64,
     prec: u32,
     size: usize,
     reader: &BitReader<'_>,
     planes: &mut [P],
 ) -> Option<u64>
-    requires size { size ≤ 64 }
     requires planes { HasBlanks size prec P.word_count (length planes.old) (map P.words planes.old) }
     ensures short { IfNone result (length (rest reader.now)
         < planes_bits budget prec size 0 (rest reader.now)) }

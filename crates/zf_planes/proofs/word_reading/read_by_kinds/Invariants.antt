@@ -1,7 +1,7 @@
 -- The top i planes are read, the others are zero, and what reading makes of the rest is what it makes of the planes below.
 use Rattle.std.proofs.Common.{◌≡◌, ◌⊎◌, ◌-◌, ◌≤◌, length, map}
 use Rattle.zf_planes.proofs.PlanesRead.{AreRead}
-use Rattle.zf_planes.proofs.word_reading.read_in_words.Given as goal
+use Rattle.zf_planes.proofs.word_reading.read_by_kinds.Given as goal
 
 abbrev pub invariant-loop-i : goal.invariant-loop-i
 invariant-loop-i g l = record {
