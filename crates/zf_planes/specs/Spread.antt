@@ -11,8 +11,8 @@ top_digit word i = is_odd (word / 2 ^ (63 - i))
 unfoldable pub top_planes : ℕ → List ℕ → List (List Bool)
 top_planes k words = map (λ i. map (λ word. top_digit word i) words) (upto k)
 
--- the number that has k digits, the first one lowest, and each b times as high as the one before: they are two
--- bits apart where b is 4, and four where it is 16
+-- the number that has k digits, the first one lowest, and each b times as high as the one before: they are
+-- two bits apart where b is 4, and four where it is 16
 unfoldable pub spread : ℕ → ℕ → (ℕ → Bool) → ℕ
 spread b zero digits = 0
 spread b (suc k) digits = digit_value (digits 0) + b * spread b k (λ i. digits (suc i))

@@ -196,8 +196,8 @@ pub(crate) fn read_by_runs<P: Plane>(
     read_tail(n, size, prefix, cursor)
 }
 
-/// Reads the code of the top `prec` planes. All are zero before, and the other planes stay so. Each size of
-/// planes in one word has a program of its own. The answer is what is left of the budget.
+/// Reads the code of the top `prec` planes. All are zero before, and the other planes stay so. Each usual
+/// size of planes in one word has a program of its own. The answer is what is left of the budget.
 fn read_top<P: Plane>(
     budget: u64,
     prec: u32,
@@ -212,7 +212,6 @@ fn read_top<P: Plane>(
         (map P.words planes.new) left) }
 {
     match size {
-        4 => read_by_kinds(budget, prec, 4, reader, planes),
         16 => read_by_kinds(budget, prec, 16, reader, planes),
         64 => read_by_kinds(budget, prec, 64, reader, planes),
         _ => read_by_kinds(budget, prec, size, reader, planes),
