@@ -15,7 +15,7 @@ use Rattle.zf_cached.specs.Arrays.{array_format}
 use Rattle.zf_cached.specs.Runs.{read_step}
 use Rattle.zf_cached.specs.State.{Counts}
 use Rattle.zf_cached.specs.Windows.{Window, LiesIn, mapped, sliced, has_place, positions, is_window, none_zero, lies_in}
-use Rattle.zf_cached.specs.Steps.{Setting, Session, touched, changed, changed_at, filled_below, summed, total, value_there, is_of_type, is_line_count, needs_split, tests, step, done}
+use Rattle.zf_cached.specs.Steps.{Setting, Session, touched, changed, changed_at, filled_below, total, value_there, is_of_type, is_line_count, needs_split, tests, step, done}
 use Rattle.zf_cached.proofs.Windows.{length-mapped, LiesIn-sliced}
 use Rattle.zf_window.specs.declared.window.ViewFault.{ViewFault}
 use Rattle.zf_window.specs.WindowFields.{view_fault}

@@ -4,7 +4,7 @@ use Rattle.std.specs.Int.{Width}
 use Rattle.std.specs.Result.{OnOk, OnErr}
 use Rattle.std.proofs.lemmas.List.{length-set, length-map, length-replicate, map-set, get_or-map}
 use Rattle.zf_spec.specs.Numbers.{wrap}
-use Rattle.zf_spec.specs.Grid.{blocks, is_inside, extent_of, indices}
+use Rattle.zf_spec.specs.Grid.{blocks}
 use Rattle.zf_base.specs.Widths.{width_of}
 use Rattle.zf_base.specs.Places.{block_number, place_of}
 use Rattle.zf_base.specs.Positions.{used_axes}

@@ -1,5 +1,5 @@
 -- Positions of a window that stand side by side in one block of the array.
-use Rattle.std.proofs.Common.{◌≡◌, ℕ, zero, suc, ◌+◌, ◌-◌, ◌*◌, ◌/◌, ◌%◌, ◌^◌, ◌<◌, ◌≤◌, Bool, true, false, ltb, ltb-true, lt-ltb, eqb, eqb-true, List, [], ◌∷◌, map, length, get_or, if◌then◌else◌, refl, ap, sym, subst, ◌∙◌, div-add-mod', arith}
+use Rattle.std.proofs.Common.{◌≡◌, ℕ, zero, suc, ◌+◌, ◌*◌, ◌/◌, ◌%◌, ◌^◌, ◌<◌, ◌≤◌, Bool, true, false, ltb, ltb-true, lt-ltb, eqb, eqb-true, List, [], ◌∷◌, map, length, if◌then◌else◌, refl, ap, sym, subst, ◌∙◌, div-add-mod', arith}
 use Rattle.std.proofs.Math.Nat.{add-mul}
 use Rattle.std.proofs.lemmas.Bool.{and_parts, and_from}
 use Rattle.zf_spec.specs.Grid.{IsShape, grid, raster, fours, product, coordinates, is_inside}

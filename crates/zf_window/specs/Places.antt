@@ -30,7 +30,7 @@ pub record WalkingIn : Type 0 where
   pub window : Window
   pub next : ℕ
 
--- the position with this number is the next one where so much is left of a run, and the walk goes on behind it
+-- the number of the next position, where so much is left of a run and the walk goes on behind that
 abbrev pub next_of : Walking → Run → ℕ
 next_of walk rest = walk.next - rest.count
 

@@ -1,4 +1,4 @@
-use Rattle.std.proofs.Common.{◌≡◌, sym, ap, subst, ◌∙◌, ℕ, ◌^◌, pos, List, length, get_or, arith}
+use Rattle.std.proofs.Common.{sym, ap, subst, ◌∙◌, ℕ, ◌^◌, pos, List, length, get_or, arith}
 use Rattle.zf_base.specs.Positions.{used_axes, IsPosition}
 use Rattle.zf_base.specs.Places.{block_number, place_of, IsAt}
 use Rattle.zf_cached.specs.Steps.{touched}
