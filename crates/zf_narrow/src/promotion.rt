@@ -75,7 +75,8 @@ impl Promotion {
             (take k buf.new)) }
         ensures rest { IfOk result (λ k. drop k buf.new ≡ drop k buf.old) }
         ensures end { IfOk result (λ k. k ≡ 0 → IsAtEnd (exposed self.new (S.contents src.new))) }
-        ensures ungiven { OnErr result (GivesRaw self.old self.new (S.contents src.old) (S.contents src.new) []) }
+        ensures ungiven { OnErr result (GivesRaw self.old self.new (S.contents src.old) (S.contents src.new)
+            []) }
         ensures taken { Logs self.old self.new (S.contents src.old) (S.contents src.new) }
         ensures at_end { IsTrue self.new.spent → IsAtEnd (S.contents src.new) }
         ensures source { AsksSource S.Source result src.old src.new }
@@ -105,7 +106,8 @@ impl Promotion {
             (take k buf.new)) }
         ensures rest { IfOk result (λ k. drop k buf.new ≡ drop k buf.old) }
         ensures end { IfOk result (λ k. k ≡ 0 → IsAtEnd (exposed self.new (S.contents src.new))) }
-        ensures ungiven { OnErr result (GivesRaw self.old self.new (S.contents src.old) (S.contents src.new) []) }
+        ensures ungiven { OnErr result (GivesRaw self.old self.new (S.contents src.old) (S.contents src.new)
+            []) }
         ensures taken { Logs self.old self.new (S.contents src.old) (S.contents src.new) }
         ensures at_end { IsTrue self.new.spent → IsAtEnd (S.contents src.new) }
         ensures source { AsksSource S.Source result src.old src.new }
