@@ -6,7 +6,7 @@ use Rattle.zf_spec.specs.Numbers.{wrap}
 use Rattle.zf_base.specs.Formats.{Format, meant, encoded, with_at}
 use Rattle.zf_base.proofs.Formats.{with_at-same, with_at-other}
 use Rattle.zf_cached.specs.State.{State, risen, own_line, is_block, is_here}
-use Rattle.zf_cached.specs.Touch.{write_back, write_back_dirty, write_back_line, hit, miss, touch, soiled, touch_for_writing, with_values, touch_for_writing_at, touch_at}
+use Rattle.zf_cached.specs.Touch.{write_back, write_back_dirty, write_back_line, hit, miss, touch, soiled, with_values, touch_for_writing_at, touch_at}
 use Rattle.zf_cached.specs.Changes.{write_back_lines, emptied, flush, discard}
 use Rattle.zf_cached.specs.Placing.{direct}
 use Rattle.zf_cached.proofs.Caching.{at_change, write_back_line_by, write_back_line-other, touch_by, touch-left_away}

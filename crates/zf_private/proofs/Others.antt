@@ -9,7 +9,7 @@ use Rattle.zf_cached.specs.State.{State, is_block}
 use Rattle.zf_cached.specs.Touch.{touch}
 use Rattle.zf_cached.specs.Changes.{flush, discard}
 use Rattle.zf_cache.specs.Kept.{tag_at, block_in, line_of}
-use Rattle.zf_cache.specs.Standing.{state_of, values_of, line_values, Fits, state_at}
+use Rattle.zf_cache.specs.Standing.{line_values, Fits, state_at}
 use Rattle.zf_cache.proofs.Tags.{names-clean}
 use Rattle.zf_cached.specs.Acts.{Act}
 use Rattle.zf_cached.specs.Views.{changed, acted, AreAlike}

@@ -4,7 +4,7 @@ use Rattle.std.specs.Int.{Width}
 use Rattle.std.proofs.lemmas.Bool.{cases_lt}
 use Rattle.zf_base.specs.Formats.{Format}
 use Rattle.zf_cached.specs.State.{State}
-use Rattle.zf_cache.specs.Standing.{state_of, Fits, state_at}
+use Rattle.zf_cache.specs.Standing.{Fits, state_at}
 use Rattle.zf_cache.proofs.Tags.{same_or_not}
 use Rattle.zf_cached.specs.Acts.{Act}
 use Rattle.zf_cached.specs.Views.{Views, Step, state_of_view, acted, answered, stepped, IsWithin, HasOwn, AreAlike}

@@ -1,11 +1,11 @@
 -- Touches of a two-way cache, in the words of its two lines.
 use Rattle.std.specs.Prelude.{if◌then◌else◌}
-use Rattle.std.proofs.Common.{◌≡◌, ◌⊎◌, inl, inr, refl, sym, ap, subst, ◌∙◌, ℕ, Bool, true, false, not, ◌||◌, eq-eqb, Option, Some, None, is_none}
+use Rattle.std.proofs.Common.{◌≡◌, ◌⊎◌, inl, inr, refl, sym, ap, subst, ◌∙◌, ℕ, Bool, true, false, not, ◌||◌, Option, Some, None, is_none}
 use Rattle.std.specs.Int.{Width}
 use Rattle.zf_base.specs.Formats.{Format}
 use Rattle.zf_cached.specs.State.{State, is_block}
 use Rattle.zf_cached.specs.Placing.{line_in, is_at}
-use Rattle.zf_cached.specs.Touch.{write_back_line, hit, miss}
+use Rattle.zf_cached.specs.Touch.{hit, miss}
 use Rattle.zf_cached.specs.Fates.{IsLeft, IsRounded}
 use Rattle.zf_cached.specs.Consistency.{IsCached}
 use Rattle.zf_cached.proofs.Arrays.{meant-zeros}

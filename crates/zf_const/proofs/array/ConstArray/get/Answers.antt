@@ -7,7 +7,7 @@ use Rattle.zf_header.specs.declared.header.Header.{Header}
 use Rattle.zf_cached.specs.State.{State}
 use Rattle.zf_cached.specs.Touch.{touch}
 use Rattle.zf_cached.specs.Arrays.{array_format}
-use Rattle.zf_cache.specs.Standing.{state_of, state_at}
+use Rattle.zf_cache.specs.Standing.{state_at}
 use Rattle.zf_const.specs.Standing.{format, state, block_at}
 use Rattle.zf_const.specs.Parts.{Coded, format_of, held_by}
 use Rattle.zf_const.proofs.Standing.{state_held, has_blocks, header_now, joined_after, header_after, codes_after, step}

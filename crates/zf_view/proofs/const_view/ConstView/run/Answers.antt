@@ -1,4 +1,4 @@
-use Rattle.std.proofs.Common.{refl, ap, sym, subst, ◌∙◌, ◌^◌, ℕ, length, arith}
+use Rattle.std.proofs.Common.{refl, ap, sym, subst, ◌∙◌, ◌^◌, length, arith}
 use Rattle.zf_base.specs.Positions.{used_axes, IsPosition}
 use Rattle.zf_base.specs.Places.{block_number, place_of}
 use Rattle.zf_cached.specs.Placing.{direct}

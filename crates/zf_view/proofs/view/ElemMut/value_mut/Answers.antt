@@ -1,5 +1,5 @@
 use Rattle.std.proofs.Common.{refl}
-use Rattle.zf_cached.specs.Touch.{touch_for_writing, soiled, touch_for_writing_at}
+use Rattle.zf_cached.specs.Touch.{soiled, touch_for_writing_at}
 use Rattle.zf_view.proofs.view.ElemMut.value_mut.Goals as goal
 
 pub returns : goal.returns
