@@ -1,15 +1,16 @@
 //! The rows of a cache over a backing that rounds to even numbers, and how often it calls the backing.
 
 ghost use Rattle.std.specs.Prelude.{◌≡◌};
-ghost use Rattle.zf_base.specs.EvenValues.{evens_format};
+ghost use Rattle.zf_array_tests.specs.EvenValues.{evens_format};
 ghost use Rattle.zf_cache.specs.Standing.{Fits};
 
+use crate::counted::Counted;
 use std::alloc::Global;
 use std::process::Abort;
 use std::test::Fail;
 use zf_base::{Lane, Reading, Shape};
 use zf_cache::laws::empty_caches_fit;
-use zf_cache::{Cache, Counted, default_lines, raised};
+use zf_cache::{Cache, default_lines, raised};
 use zf_script::Stats;
 
 fn stats(hits: u64, misses: u64, writes: u64) -> Stats {

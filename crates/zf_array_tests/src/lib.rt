@@ -7,6 +7,10 @@ mod cache;
 #[cfg(test)]
 mod const_array;
 #[cfg(test)]
+mod counted;
+#[cfg(test)]
+mod evens;
+#[cfg(test)]
 mod lines;
 #[cfg(test)]
 mod opening;

@@ -1,16 +1,16 @@
 //! Two views over one list of codes that rounds to even numbers, each of a block of four values.
 
 ghost use Rattle.std.specs.Prelude.{◌≡◌, ℕ, ◌<◌, [], ◌∷◌, IfOk};
-ghost use Rattle.zf_base.specs.EvenValues.{evens_format};
+ghost use Rattle.zf_array_tests.specs.EvenValues.{evens_format};
 ghost use Rattle.zf_base.specs.Positions.{IsPosition};
 ghost use Rattle.zf_private.specs.Standing.{Own, block_at};
 ghost use Rattle.zf_private.specs.Several.{IsReady};
 
+use crate::counted::Counted;
 use std::alloc::Global;
 use std::process::Abort;
 use std::test::Fail;
 use zf_base::{Lane, Pos, Reading, Shape};
-use zf_cache::Counted;
 use zf_private::Private;
 
 // A view of one line and one block.

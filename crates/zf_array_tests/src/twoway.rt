@@ -2,14 +2,15 @@
 //! backing.
 
 ghost use Rattle.std.specs.Prelude.{◌≡◌};
-ghost use Rattle.zf_base.specs.EvenValues.{evens_format};
+ghost use Rattle.zf_array_tests.specs.EvenValues.{evens_format};
 ghost use Rattle.zf_twoway.specs.Standing.{Fits};
 
+use crate::counted::Counted;
 use std::alloc::Global;
 use std::process::Abort;
 use std::test::Fail;
 use zf_base::{Lane, Reading};
-use zf_cache::{Counted, raised};
+use zf_cache::raised;
 use zf_twoway::TwoWay;
 use zf_twoway::laws::{discards, empty_caches_fit};
 

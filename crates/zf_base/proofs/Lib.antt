@@ -5,5 +5,4 @@ pub mod Places
 pub mod Extents
 pub mod Values
 pub mod Formats
-pub mod RoundedDown
 pub mod Decimals

@@ -4,7 +4,6 @@
 
 mod backing;
 mod block;
-mod evens;
 mod lane;
 pub mod laws;
 mod position;
@@ -13,7 +12,6 @@ mod stats;
 
 pub use backing::{Backing, Reading};
 pub use block::block_len;
-pub use evens::Evens;
 pub use lane::{Lane, Ty};
 pub use position::{Extent, Pos};
 pub use shape::{Shape, ShapeFault};

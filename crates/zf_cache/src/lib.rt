@@ -4,13 +4,11 @@
 
 mod body;
 mod cache;
-mod counted;
 mod counts;
 pub mod laws;
 mod rule;
 
 pub use body::Body;
 pub use cache::Cache;
-pub use counted::Counted;
 pub use counts::{default_lines, raised, rows_for};
 pub use rule::Rule;

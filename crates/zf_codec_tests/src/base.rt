@@ -1,12 +1,8 @@
-//! Values from a program that was written from the definitions alone, and generic callers of `Lane` and
-//! `Backing`.
+//! Values from a program that was written from the definitions alone, and generic callers of `Lane`.
 
-ghost use Rattle.std.specs.Prelude.{◌≡◌, ◌<◌, length};
-
-use std::alloc::AllocError;
 use std::process::Abort;
 use std::test::Fail;
-use zf_base::{Backing, Evens, Extent, Lane, Pos, Reading, Shape, ShapeFault};
+use zf_base::{Extent, Lane, Pos, Shape, ShapeFault};
 
 // Two values; their sum and difference, and the double, the half and the word of the first, as numbers.
 const NARROW: [(i32, i32, [i128; 5]); 3] = [
@@ -180,27 +176,5 @@ fn positions_have_their_places(rt: HostRuntime) -> Result<(), Fail> {
         };
         assert!(rt; shape.extent(b) == extent);
     }
-    Ok(())
-}
-
-// Stores a block and loads it again.
-fn rounded<T: Lane, B: Backing<T>>(back: &mut B, b: u64, line: &mut [T])
-    requires block { b < (B.format back.old).blocks }
-    requires whole { length line.old ≡ (B.format back.old).block_len }
-    ensures format { B.format back.new ≡ B.format back.old }
-{
-    back.store(b, line);
-    back.load(b, line);
-}
-
-#[test]
-fn a_backing_rounds_what_it_stores(rt: HostRuntime) -> Result<(), AllocError> {
-    let mut back = Evens::new(rt.alloc(), 2)?;
-    assert!(rt; back.blocks() == 2 && back.block_len() == 4);
-    let mut line = [3, -3, 4, i32::MIN];
-    rounded(&mut back, 1, &mut line);
-    assert!(rt; line == [2, -4, 4, i32::MIN]);
-    back.load(0, &mut line);
-    assert!(rt; line == [0, 0, 0, 0]);
     Ok(())
 }

@@ -1,5 +1,5 @@
 use Rattle.zf_base.specs.contracts.lane.I32Lane.TheImpl.{ghosts as lane}
-use Rattle.zf_cache.specs.contracts.counted.CountedReadingI32.TheImpl.{ghosts as counted}
+use Rattle.zf_array_tests.specs.contracts.counted.CountedReadingI32.TheImpl.{ghosts as counted}
 use Rattle.zf_cache.proofs.Steps.{emptied_fits, part_written}
 use Rattle.zf_array_tests.proofs.cache.goes.Goals as goal
 

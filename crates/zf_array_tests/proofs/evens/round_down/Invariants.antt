@@ -1,6 +1,6 @@
 use Rattle.std.proofs.Common.{◌≡◌, ◌++◌, map, take, drop}
-use Rattle.zf_base.specs.EvenValues.{even_below}
-use Rattle.zf_base.proofs.evens.round_down.Given as goal
+use Rattle.zf_array_tests.specs.EvenValues.{even_below}
+use Rattle.zf_array_tests.proofs.evens.round_down.Given as goal
 
 -- the values so far are rounded, and the others stay
 abbrev pub invariant-loop-value : goal.invariant-loop-value

@@ -1,9 +1,9 @@
 use Rattle.std.proofs.Common.{ap, ◌∙◌, ◌*ℤ◌, pos}
 use Rattle.zf_spec.specs.Numbers.{wrap}
 use Rattle.zf_spec.proofs.Wrapping.{wrap_value}
-use Rattle.zf_base.specs.EvenValues.{even_below}
-use Rattle.zf_base.proofs.RoundedDown.{even_below_fits}
-use Rattle.zf_base.proofs.evens.even.Goals as goal
+use Rattle.zf_array_tests.specs.EvenValues.{even_below}
+use Rattle.zf_array_tests.proofs.RoundedDown.{even_below_fits}
+use Rattle.zf_array_tests.proofs.evens.even.Goals as goal
 
 pub returns : goal.returns
 returns g c =

@@ -1,22 +1,23 @@
-//! A backing that counts its calls, for the tests of caches.
+//! A backing that counts its calls.
 
 ghost use Rattle.std.specs.Prelude.{◌≡◌, ◌*◌, ◌^◌, ◌≤◌, IfOk};
-ghost use Rattle.zf_base.specs.EvenValues.{evens_format};
+ghost use Rattle.zf_array_tests.specs.EvenValues.{evens_format};
 
+use crate::evens::Evens;
 use std::alloc::{AllocError, Global};
-use zf_base::{Backing, Evens, Reading};
+use zf_base::{Backing, Reading};
 
 /// Counts the calls of the backing that it stands for, which rounds to even numbers.
 #[derive(Drop)]
-pub struct Counted {
+pub(crate) struct Counted {
     evens: Evens,
-    pub loads: u32,
-    pub stores: u32,
+    pub(crate) loads: u32,
+    pub(crate) stores: u32,
 }
 
 impl Counted {
     /// So many blocks of zeros, and counts of 0.
-    pub fn new(alloc: Global, blocks: u32) -> Result<Counted, AllocError>
+    pub(crate) fn new(alloc: Global, blocks: u32) -> Result<Counted, AllocError>
         ensures { IfOk result (λ c. ⟦<Counted as Reading<i32>>⟧.format c ≡ evens_format blocks) }
     {
         Ok(Counted {

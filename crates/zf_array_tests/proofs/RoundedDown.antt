@@ -7,7 +7,7 @@ use Rattle.std.proofs.lemmas.Bool.{cases_eq}
 use Rattle.std.proofs.lemmas.List.{get_or-set_same, get_or-set_other}
 use Rattle.zf_spec.proofs.Counting.{map-get_or-upto}
 use Rattle.zf_base.specs.Formats.{existing_of, with_at}
-use Rattle.zf_base.specs.EvenValues.{even_below, evens_format}
+use Rattle.zf_array_tests.specs.EvenValues.{even_below, evens_format}
 use Rattle.zf_base.proofs.Formats.{with_at-same, with_at-other}
 
 -- twice the half of a value of the type is one

@@ -1,5 +1,5 @@
 use Rattle.std.proofs.Common.{◌≡◌, ℕ, ◌<◌, pos, [], replicate, get_or, vec_len}
-use Rattle.zf_base.proofs.evens.Evens.new.Given as goal
+use Rattle.zf_array_tests.proofs.evens.Evens.new.Given as goal
 
 -- so many blocks of zeros
 abbrev pub invariant-loop : goal.invariant-loop
