@@ -156,7 +156,9 @@ def cost_of_vsum(program, folder, runs, count):
             sink.write(b"".join((40 * x + 30 * y + (x * 7919 + y * 104729) % 251).to_bytes(8, "little") for x in range(SIDE)))
     with open(folder / "raw", "rb") as source, open(folder / "field", "wb") as sink:
         subprocess.run([program, "compress", "int64", f"{SIDE}x{SIDE}", "rate", "256"], stdin=source, stdout=sink, check=True)
-    words = [program, "run", folder / "field", "lines", "65536"]
+    # the name of an array is one of the current folder
+    os.chdir(folder)
+    words = [program, "run", "field", "lines", "65536"]
     measure = count_of if count else seconds_of
     least = [None, None]
     numbers = (11, 1) if count else (2001, 1)
