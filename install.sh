@@ -4,7 +4,7 @@
 #     ./install.sh [FOLDER]
 #
 # FOLDER is where bin and share are, by default ~/.local. The proofs run in a folder of their own, which goes at the end, and
-# without the planted bugs and the tests of other crates, which `rt ci` tries at the top of the repository.
+# without planted bugs and tests, which `rt ci` tries at the top of the repository.
 set -eu
 
 top=$(CDPATH='' cd -- "$(dirname -- "$0")" && pwd)

@@ -9,10 +9,13 @@ stays as it is.
 """
 
 import pathlib
+import re
 import shutil
 import sys
 
 TOP = pathlib.Path(__file__).resolve().parent.parent
+# a module of tests, in a file of its own or where it is declared
+TESTS = re.compile(r"\n*^#\[cfg\(test\)\]\nmod (\w+)(?:;\n| \{\n.*?^\}\n)", re.M | re.S)
 
 
 def crates_below():
@@ -33,6 +36,20 @@ def needed(names, below):
     return list(dict.fromkeys(found))
 
 
+def leave_out_tests(crate):
+    """Takes the modules of tests out of a copy of a crate, with their files and proofs."""
+    for file in sorted((crate / "src").rglob("*.rt")):
+        if not file.exists():
+            continue
+        text = file.read_text()
+        for name in TESTS.findall(text):
+            beside = file.parent if file.stem in ("lib", "main") else file.with_suffix("")
+            (beside / f"{name}.rt").unlink(missing_ok=True)
+            shutil.rmtree(beside / name, ignore_errors=True)
+            shutil.rmtree(crate / "proofs" / beside.relative_to(crate / "src") / name, ignore_errors=True)
+        file.write_text(TESTS.sub("\n", text))
+
+
 def main():
     folder, *names = sys.argv[1:]
     below = crates_below()
@@ -40,6 +57,7 @@ def main():
         there = pathlib.Path(folder) / "crates" / name
         if not there.exists():
             shutil.copytree(TOP / "crates" / name, there, ignore=shutil.ignore_patterns("out", "must-fail"))
+            leave_out_tests(there)
             with open(pathlib.Path(folder) / "crates.txt", "a") as lines:
                 lines.write(f"{name}: {' '.join(below[name])}\n")
             print(name)
