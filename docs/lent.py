@@ -19,8 +19,8 @@ CRATE = "crates/zfpi_uses"
 # as `fill_first` there, but with a call between the loan and its use
 KEEPS = """
 fn keep_first(view: &mut View<'_, i32, 1>, v: i32) {
-    let run = view.run_mut(FIRST);
-    view.set(FIRST, v);
+    let run = view.run_mut(Pos::new([0]));
+    view.set(Pos::new([0]), v);
     run.fill(v);
 }
 """
