@@ -3,13 +3,14 @@
 
     python3 crates/zf_planes/tables.py [TABLE]
 
-With the name of a table, such as PAIRS, it prints the entries. Else it compares each table with the one in src/, and says which are the same. A table stands
-in a file of its own there, with the rule of its entries above it; `rt fmt` lays the lines out.
+With the name of a table, such as PAIRS, it prints its rows. Else it compares each table with the one in src/, and says which are the same. A table stands
+in a file of its own there, with the rule of its entries above it.
 """
 
 import pathlib
 import re
 import sys
+import textwrap
 
 HERE = pathlib.Path(__file__).resolve().parent
 
@@ -153,16 +154,37 @@ def tails():
 TABLES = {"DOUBLED": doubled, "PAIRS": pairs, "LANES": lanes, "ENDS": ends, "SPREAD": spread, "TAILS": tails}
 
 
+def laid_out(entries, indent):
+    """Entries as lines of at most 110 columns."""
+    return textwrap.fill(" ".join(map(str, entries)), 110, initial_indent=indent, subsequent_indent=indent)
+
+
+def rows_of(name):
+    """The rows of a table as they stand in src/. In that of the tails the first four rows of 256 entries repeat some of them."""
+    entries = list(TABLES[name]())
+    if name != "TAILS":
+        return laid_out(entries, "    ")
+    rows = []
+    for most in range(1, 5):
+        row, period = entries[256 * (most - 1) : 256 * most], 64 if most == 4 else 16
+        inner = " ".join(map(str, row[:period]))
+        if most == 4:
+            inner = "\n" + laid_out(row[:period], " " * 8) + "\n   "
+        rows.append(f"    {256 // period} times {{ {inner.lstrip(' ')} }}".replace("{ \n", "{\n"))
+    rows.append("    1 time {\n" + laid_out(entries[1024:], " " * 8) + "\n    }")
+    return "\n".join(["    []", *rows])
+
+
 def in_source(name):
     text = (HERE / "src" / f"{name.lower()}_table.rt").read_text()
-    return [int(entry) for entry in re.search(rf"static {name}: .*? = \[(.*?)\];", text, re.S)[1].replace(",", " ").split()]
+    return re.search(rf"static {name}: .*? = table! \{{\n(.*?)\n\}};", text, re.S)[1]
 
 
 def main():
     if len(sys.argv) > 1:
-        print(", ".join(map(str, TABLES[sys.argv[1]]())))
+        print(rows_of(sys.argv[1]))
         return 0
-    others = [name for name, made in TABLES.items() if list(made()) != in_source(name)]
+    others = [name for name in TABLES if rows_of(name) != in_source(name)]
     for name in TABLES:
         print(f"{name}: {'another' if name in others else 'the same'}")
     return 1 if others else 0

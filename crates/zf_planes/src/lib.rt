@@ -1,6 +1,19 @@
 //! The embedded code of bit planes.
 #![tactic(auto)]
 
+// A table by its entries, or by rows of them that stand once or several times.
+macro_rules! table {
+    ($($entry:literal)*) => { [$($entry),*] };
+    ([$($done:tt)*]) => { [$($done),*] };
+    ([$($done:tt)*] 1 time { $($row:tt)* } $($rest:tt)*) => { table!([$($done)* $($row)*] $($rest)*) };
+    ([$($done:tt)*] 4 times { $($row:tt)* } $($rest:tt)*) => {
+        table!([$($done)* $($row)* $($row)* $($row)* $($row)*] $($rest)*)
+    };
+    ([$($done:tt)*] 16 times { $($row:tt)* } $($rest:tt)*) => {
+        table!([$($done)*] 4 times { $($row)* $($row)* $($row)* $($row)* } $($rest)*)
+    };
+}
+
 mod cursor;
 mod decoding;
 mod doubled_table;
