@@ -59,27 +59,6 @@ def plane_in(above, bits, size=4):
     return None
 
 
-def cut_plane(above, bits, size=4):
-    """The plane that the last bits of a budget stand for, too few for a whole code: a run that is cut has a one where it is cut."""
-    first = bits[:above]
-    digits = first + [0] * (above - len(first))
-    rest = bits[above:]
-    while len(digits) < size and rest and rest[0]:
-        rest = rest[1:]
-        while True:
-            last = len(digits) == size - 1
-            if not rest and not last or last:
-                digits.append(1)
-                break
-            digit, rest = rest[0], rest[1:]
-            digits.append(digit)
-            if digit:
-                break
-        if not rest:
-            break
-    return digits + [0] * (size - len(digits))
-
-
 def in_lanes(planes):
     """The digits of up to four planes in four lanes of four bits, a lane for each rank, those of the last plane lowest."""
     lanes = 0
@@ -106,31 +85,15 @@ def pairs():
             yield number_of(code) + (len(code) << 14) + (max(between, reach(second)) << 18)
 
 
-def planes_in(above, bits, at_end):
-    """Up to four planes whose codes are whole in these bits, and at the end of a budget the one that it cuts; the entry of both tables."""
-    planes, taken = [], 0
-    while len(planes) < 4 and taken < len(bits):
-        found = plane_in(above, bits[taken:])
-        if found is None and not at_end:
-            break
-        digits, count = found or (cut_plane(above, bits[taken:]), len(bits) - taken)
-        planes.append(digits)
-        above = max(above, reach(digits))
-        taken += count
-    return in_lanes(planes) + (taken << 16) + (len(planes) << 20) + (above << 23)
-
-
 def lanes():
     for above in range(3):
         for number in range(256):
-            yield planes_in(above, digits_of(number, 8), False)
-
-
-def ends():
-    for above in range(3):
-        for number in range(256):
-            count = max(number.bit_length() - 1, 0)
-            yield 0 if count == 0 else planes_in(above, digits_of(number - (1 << count), count), True)
+            bits, planes, taken, reached = digits_of(number, 8), [], 0, above
+            while len(planes) < 4 and (found := plane_in(reached, bits[taken:])):
+                planes.append(found[0])
+                taken += found[1]
+                reached = max(reached, reach(found[0]))
+            yield in_lanes(planes) + (taken << 16) + (len(planes) << 20) + (reached << 23)
 
 
 def spread():
@@ -151,7 +114,7 @@ def tails():
             yield known
 
 
-TABLES = {"DOUBLED": doubled, "PAIRS": pairs, "LANES": lanes, "ENDS": ends, "SPREAD": spread, "TAILS": tails}
+TABLES = {"DOUBLED": doubled, "PAIRS": pairs, "LANES": lanes, "SPREAD": spread, "TAILS": tails}
 
 
 def laid_out(entries, indent):

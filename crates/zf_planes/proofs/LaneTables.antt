@@ -1,5 +1,5 @@
 -- Tables of planes of four digits in lanes, each entry of which is what the definitions say, by computation.
-use Rattle.std.proofs.Common.{◌≡◌, ℕ, suc, ◌+◌, ◌*◌, ◌/◌, ◌%◌, ◌^◌, ◌-◌, ◌<◌, max, Bool, true, false, ◌&&◌, eqb, ltb, List, [], ◌∷◌, get_or, refl, sym, ap, ◌∙◌, arith}
+use Rattle.std.proofs.Common.{◌≡◌, ℕ, suc, ◌+◌, ◌*◌, ◌/◌, ◌%◌, ◌^◌, ◌-◌, ◌<◌, min, max, Bool, true, false, ◌&&◌, eqb, ltb, List, [], ◌∷◌, get_or, refl, sym, ap, ◌∙◌, arith}
 use lib.Bits.{bit_and}
 use Rattle.std.proofs.lemmas.Nat.{shr_high, mod_low, mul-add-lt}
 use Rattle.std.proofs.lemmas.Bool.{false≢true, and_parts, eqb-true, ltb-true}
@@ -9,7 +9,6 @@ use Rattle.zf_planes.specs.Decoding.{planes_ahead, planes_bits}
 use Rattle.zf_planes.specs.Lanes.{low_planes, lanes_in, lanes_apart, AreBelow}
 use Rattle.zf_planes.proofs.Tables.{same_digits, same_digits-true, each_below, each_below-true}
 use Rattle.zf_planes.specs.declared.lanes_table.TheConstants.{LANES}
-use Rattle.zf_planes.specs.declared.ends_table.TheConstants.{ENDS}
 
 -- ---- tests that compute
 
@@ -105,11 +104,15 @@ test_last n left bits v l c a =
     && (are_below c (lanes_in 4 v) && (ltb 0 c && (ltb c 5 && (ltb 0 l && (eqb a (max n (reach_of_all (low_planes c (lanes_in 4 v)))) && ltb a 5))))))
 
 abbrev test_end : ℕ → ℕ → ℕ → ℕ → Bool
-test_end n left bits e = test_last n left bits (lanes_apart (e % 65536)) (e / 65536 % 16) (e / 1048576 % 8) (e / 8388608)
+test_end n left bits e = test_last n left bits (lanes_apart (e % 65536)) (min (e / 65536 % 16) left) (e / 1048576 % 8) (e / 8388608)
+
+-- the entry where zeros follow, or that where a one and zeros follow: the less of both
+abbrev pub end_entry : ℕ → ℕ → ℕ → ℕ
+end_entry n p bits = min (get_or LANES (256 * n + bits) 0) (get_or LANES (256 * n + (p + bits)) 0)
 
 -- of as many bits, each entry
 abbrev test_ends : ℕ → Bool
-test_ends left = each_below (λ i. test_end (i / 2 ^ left) left (i % 2 ^ left) (get_or ENDS (256 * (i / 2 ^ left) + (2 ^ left + i % 2 ^ left)) 0)) (3 * 2 ^ left)
+test_ends left = each_below (λ i. test_end (i / 2 ^ left) left (i % 2 ^ left) (end_entry (i / 2 ^ left) (2 ^ left) (i % 2 ^ left))) (3 * 2 ^ left)
 
 test_all_ends : each_below (λ k. test_ends (suc k)) 7 ≡ true
 unfolding low_planes lanes_in planes_ahead planes_bits
@@ -146,24 +149,24 @@ last_tested n left bits v l c a test =
     }
 
 -- the entry of so many bits
-end_at : (n left bits p i e : ℕ) → p ≡ 2 ^ left → test_ends left ≡ true → n < 3 → bits < p → i ≡ n * p + bits → i / p ≡ n → i % p ≡ bits → i < 3 * p → e ≡ get_or ENDS (256 * n + (p + bits)) 0 → test_end n left bits e ≡ true
+end_at : (n left bits p i e : ℕ) → p ≡ 2 ^ left → test_ends left ≡ true → n < 3 → bits < p → i ≡ n * p + bits → i / p ≡ n → i % p ≡ bits → i < 3 * p → e ≡ end_entry n p bits → test_end n left bits e ≡ true
 end_at n left bits p i e power tests in_plane small place prefix low below is =
     let high : i / 2 ^ left ≡ n = ap (λ q. i / q) (sym power) ∙ prefix in
     let back : i % 2 ^ left ≡ bits = ap (λ q. i % q) (sym power) ∙ low in
-    let here = each_below-true (λ j. test_end (j / 2 ^ left) left (j % 2 ^ left) (get_or ENDS (256 * (j / 2 ^ left) + (2 ^ left + j % 2 ^ left)) 0)) (3 * 2 ^ left) i tests (omega arith) in
-    ap (test_end n left bits) (is ∙ ap (λ q. get_or ENDS (256 * n + (q + bits)) 0) power)
-    ∙ ap (λ k. test_end n left k (get_or ENDS (256 * n + (2 ^ left + k)) 0)) (sym back)
-    ∙ ap (λ k. test_end k left (i % 2 ^ left) (get_or ENDS (256 * k + (2 ^ left + i % 2 ^ left)) 0)) (sym high)
+    let here = each_below-true (λ j. test_end (j / 2 ^ left) left (j % 2 ^ left) (end_entry (j / 2 ^ left) (2 ^ left) (j % 2 ^ left))) (3 * 2 ^ left) i tests (omega arith) in
+    ap (test_end n left bits) (is ∙ ap (λ q. end_entry n q bits) power)
+    ∙ ap (λ k. test_end n left k (end_entry n (2 ^ left) k)) (sym back)
+    ∙ ap (λ k. test_end k left (i % 2 ^ left) (end_entry k (2 ^ left) (i % 2 ^ left))) (sym high)
     ∙ here
 
-pub last_of_entry : (n left bits e : ℕ) → n < 3 → 0 < left → left < 8 → bits < 2 ^ left → e ≡ get_or ENDS (256 * n + (2 ^ left + bits)) 0
-    → AreLast n left bits (lanes_apart (e % 65536)) (e / 65536 % 16) (e / 1048576 % 8) (e / 8388608)
+pub last_of_entry : (n left bits e : ℕ) → n < 3 → 0 < left → left < 8 → bits < 2 ^ left → e ≡ end_entry n (2 ^ left) bits
+    → AreLast n left bits (lanes_apart (e % 65536)) (min (e / 65536 % 16) left) (e / 1048576 % 8) (e / 8388608)
 last_of_entry n left bits e in_plane some few small is =
     let p = 2 ^ left in
     let next : suc (left - 1) ≡ left = omega arith in
     let tests : test_ends left ≡ true = ap test_ends (sym next) ∙ each_below-true (λ k. test_ends (suc k)) 7 (left - 1) test_all_ends (omega arith) in
     let below : n * p + bits < p * 3 = mul-add-lt n p bits 3 (omega arith) small in
-    last_tested n left bits (lanes_apart (e % 65536)) (e / 65536 % 16) (e / 1048576 % 8) (e / 8388608)
+    last_tested n left bits (lanes_apart (e % 65536)) (min (e / 65536 % 16) left) (e / 1048576 % 8) (e / 8388608)
     (end_at n left bits p (n * p + bits) e refl tests in_plane small refl (shr_high n left bits small) (mod_low n left bits small) (omega arith) is)
 
 -- ---- one plane

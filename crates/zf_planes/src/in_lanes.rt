@@ -7,7 +7,6 @@ ghost use Rattle.zf_planes.specs.Decoding.{planes_ahead, planes_bits};
 ghost use Rattle.zf_planes.specs.Fours.{string_planes};
 ghost use Rattle.zf_planes.specs.Lanes.{low_planes, lanes_in, lanes_apart, AreBelow};
 
-use crate::ends_table::entry_of_end;
 use crate::lanes_table::entry_of_lanes;
 
 /// The digits of a plane of four, each in a lane.
@@ -98,12 +97,16 @@ pub(crate) fn planes_at_end(n: usize, left: u64, bits: u64) -> PlanesInLanes
     ensures len { result.len ≤ left }
     ensures above { result.above ≡ max n (reach_of_all (low_planes result.count (lanes_in 4 result.lanes))) }
 {
+    // As if zeros followed, or a one and zeros. A run that is cut has its one where it is cut: with zeros its
+    // one would be the last, and the ones reach farther. Where none is cut, another one makes the entry greater.
     let first = 1 << left;
-    let entry = entry_of_end(n, first + bits % first);
+    let zeros = entry_of_lanes(n, bits % first);
+    let one = entry_of_lanes(n, first + bits % first);
+    let entry = zeros.min(one);
     PlanesInLanes {
         lanes: apart(u64::from(entry % 65536)),
         count: entry / 1048576 % 8,
-        len: u64::from(entry / 65536 % 16),
+        len: u64::from(entry / 65536 % 16).min(left),
         above: (entry / 8388608) as usize,
     }
 }
