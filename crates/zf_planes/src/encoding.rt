@@ -109,49 +109,6 @@ fn write_plane<P: Plane>(
     write_tail(left, n, size, end, plane, out)
 }
 
-/// Appends the code of the top `prec` planes, or its first `budget` bits where it is longer. The top `zeros`
-/// planes have no one.
-#[inline(always)]
-fn write_sized<P: Plane>(
-    zeros: u32,
-    budget: u64,
-    prec: u32,
-    size: usize,
-    planes: &[P],
-    out: &mut BitWriter,
-) -> u64
-    requires within { zeros ≤ prec }
-    requires in_word { zeros ≤ 64 }
-    requires some { (zeros ≡ 0) ⊎ (0 < size) }
-    requires zeros { take zeros (planes_held size (map P.words planes.now))
-        ≡ replicate zeros (replicate size false) }
-    requires words { size ≤ 64 * P.word_count }
-    requires planes { prec ≤ length planes.now }
-    requires fits { min budget (size * prec + size) ≤ out.old.room }
-    ensures bits { Appends out.old out.new (take budget
-        (code (take prec (planes_held size (map P.words planes.now))))) }
-    ensures count { result ≡ min budget (length (code
-        (take prec (planes_held size (map P.words planes.now))))) }
-{
-    let count = budget.min(u64::from(zeros));
-    out.write_reserved(0, count as u32);
-    if size == 16 || size == 64 {
-        return budget
-            - write_planes_of_word(budget - count, zeros as usize, prec, size, planes, out);
-    }
-    let mut left = budget - count;
-    let mut above = 0;
-    let mut i = zeros as usize;
-    while i < prec as usize && left > 0 {
-        let plane = &planes[planes.len() - 1 - i];
-        let end = reach_in(plane, size);
-        left = write_plane(left, above, size, end, plane, out);
-        above = above.max(end);
-        i += 1;
-    }
-    budget - left
-}
-
 /// Appends the code of the top `prec` planes, or its first `budget` bits where it is longer. The answer is
 /// the number of bits appended. The top `zeros` planes, which may be 0, are known to have no one.
 ///
@@ -178,12 +135,26 @@ pub fn write_planes_below<P: Plane>(
     ensures count { result ≡ min budget (length (code
         (take prec (planes_held size (map P.words planes.now))))) }
 {
+    let count = budget.min(u64::from(zeros));
+    out.write_reserved(0, count as u32);
+    let mut left = budget - count;
     // A size that is known makes its own program, without the others' steps.
-    match size {
-        16 => write_sized(zeros, budget, prec, size, planes, out),
-        64 => write_sized(zeros, budget, prec, size, planes, out),
-        _ => write_sized(zeros, budget, prec, size, planes, out),
+    if size == 16 {
+        return budget - write_planes_of_word(left, zeros as usize, prec, size, planes, out);
     }
+    if size == 64 {
+        return budget - write_planes_of_word(left, zeros as usize, prec, size, planes, out);
+    }
+    let mut above = 0;
+    let mut i = zeros as usize;
+    while i < prec as usize && left > 0 {
+        let plane = &planes[planes.len() - 1 - i];
+        let end = reach_in(plane, size);
+        left = write_plane(left, above, size, end, plane, out);
+        above = above.max(end);
+        i += 1;
+    }
+    budget - left
 }
 
 /// Appends the code of the top `prec` planes, or its first `budget` bits where it is longer. The answer is

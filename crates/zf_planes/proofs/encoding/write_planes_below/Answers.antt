@@ -10,9 +10,9 @@ use Rattle.zf_spec.proofs.Fields.{field-zero}
 use Rattle.zf_bits.proofs.Appending.{Appends-same}
 use Rattle.zf_planes.proofs.Zeros.{take_zeros, zero_code}
 use Rattle.zf_planes.proofs.Unpacking.{length-top_held, code_next, each_long}
-use Rattle.zf_planes.proofs.encoding.write_sized.Given.{Over}
-use Rattle.zf_planes.proofs.encoding.write_sized.Goals as goal
-use Rattle.zf_planes.proofs.encoding.write_sized.Goals.{then-loop-i-test+else-left-gt0, else-loop-i-test}
+use Rattle.zf_planes.proofs.encoding.write_planes_below.Given.{Over}
+use Rattle.zf_planes.proofs.encoding.write_planes_below.Goals as goal
+use Rattle.zf_planes.proofs.encoding.write_planes_below.Goals.{After-write_reserved, then-loop-i-test+else-left-gt0, else-loop-i-test}
 
 -- what remains begins with the code of the next plane
 next_plane : {A : Type 0} {old now : Writer} {budget left : ℕ} {whole : List Bool} (words : A → List ℕ) (above prec size i : ℕ) (planes : List A) (plane : A)
@@ -56,44 +56,42 @@ zeros_written out words count budget prec size k bits planes long enough in_plan
     let spent : budget - length (replicate k false) ≡ budget - bits = omega (arith, is, length-replicate k false) in
     rw spent at (Remains-more (replicate k false) _ remains appends)
 
-pub loop-i-init : goal.loop-i-init
-loop-i-init g c =
+begun : (g : Over) (c : After-write_reserved g)
+    → Remains c.args.out.now c.write_reserved.new.self c.args.budget (c.args.budget - c.min-count.result) (code (take c.args.prec (planes_held c.args.size (map g.P.Plane.words c.args.planes.now))))
+    (code_from 0 (drop c.args.zeros (take c.args.prec (planes_held c.args.size (map g.P.Plane.words c.args.planes.now)))))
+begun g c =
     let k = c.args.zeros in
     let zeros = c.requires in
     let count : c.min-count.result ≡ min c.args.budget k = omega (arith, c.min-count.ensures, c.from.ensures) in
-    let remains = zeros_written c.args.out.now g.P.Plane.words _ c.args.budget c.args.prec c.args.size k c.min-count.result c.args.planes.now g.met.P.Plane.long c.requires.words c.requires.planes c.requires.fits
-    zeros.some zeros.within zeros.zeros count c.write_reserved.ensures.bits in
-    record { remains = remains; above = omega arith }
+    zeros_written c.args.out.now g.P.Plane.words _ c.args.budget c.args.prec c.args.size k c.min-count.result c.args.planes.now g.met.P.Plane.long c.requires.words c.requires.planes c.requires.fits
+    zeros.some zeros.within zeros.zeros count c.write_reserved.ensures.bits
+
+pub loop-i-init : goal.loop-i-init
+loop-i-init g c = record { remains = begun g c.before.before; above = omega arith }
 
 -- ---- planes in one word each
 
 pub write_planes_of_word-requires-clause-fits : goal.write_planes_of_word-requires-clause-fits
-write_planes_of_word-requires-clause-fits g c =
-    let k = c.args.zeros in
-    let zeros = c.requires in
-    let count : c.min-count.result ≡ min c.args.budget k = omega (arith, c.min-count.ensures, c.from.ensures) in
-    let remains = zeros_written c.args.out.now g.P.Plane.words _ c.args.budget c.args.prec c.args.size k c.min-count.result c.args.planes.now g.met.P.Plane.long c.requires.words c.requires.planes c.requires.fits
-    zeros.some zeros.within zeros.zeros count c.write_reserved.ensures.bits in
-    omega (arith, remains.fits)
+write_planes_of_word-requires-clause-fits g c = omega (arith, (begun g c.before.before).fits)
+
+pub write_planes_of_word-requires-then-size-eq64-clause-fits : goal.write_planes_of_word-requires-then-size-eq64-clause-fits
+write_planes_of_word-requires-then-size-eq64-clause-fits g c = omega (arith, (begun g c.before.before.before).fits)
+
+-- the code of all planes was written, as far as the budget reaches
+all_written : {old now new : Writer} {budget left : ℕ} {whole rest : List Bool} → Remains old now budget left whole rest → Appends now new (take left rest) → Appends old new (take budget whole)
+all_written {rest = rest} remains appends = Remains-end (Remains-more rest [] (Remains-same remains (sym (append-nil rest))) appends) (omega arith)
 
 pub returns-then-size-eq16-clause-bits : goal.returns-then-size-eq16-clause-bits
-returns-then-size-eq16-clause-bits g c =
-    let k = c.args.zeros in
-    let zeros = c.requires in
-    let count : c.min-count.result ≡ min c.args.budget k = omega (arith, c.min-count.ensures, c.from.ensures) in
-    let remains = zeros_written c.args.out.now g.P.Plane.words _ c.args.budget c.args.prec c.args.size k c.min-count.result c.args.planes.now g.met.P.Plane.long c.requires.words c.requires.planes c.requires.fits
-    zeros.some zeros.within zeros.zeros count c.write_reserved.ensures.bits in
-    let rest = code_from 0 (drop k (take c.args.prec (planes_held c.args.size (map g.P.Plane.words c.args.planes.now)))) in
-    Remains-end (Remains-more rest [] (Remains-same remains (sym (append-nil rest))) c.write_planes_of_word.ensures.bits) (omega arith)
+returns-then-size-eq16-clause-bits g c = all_written (begun g c.before.before.before) c.write_planes_of_word.ensures.bits
 
 pub returns-then-size-eq16-clause-count : goal.returns-then-size-eq16-clause-count
-returns-then-size-eq16-clause-count g c =
-    let k = c.args.zeros in
-    let zeros = c.requires in
-    let count : c.min-count.result ≡ min c.args.budget k = omega (arith, c.min-count.ensures, c.from.ensures) in
-    let remains = zeros_written c.args.out.now g.P.Plane.words _ c.args.budget c.args.prec c.args.size k c.min-count.result c.args.planes.now g.met.P.Plane.long c.requires.words c.requires.planes c.requires.fits
-    zeros.some zeros.within zeros.zeros count c.write_reserved.ensures.bits in
-    omega (arith, remains.spent, remains.within, c.write_planes_of_word.ensures.left)
+returns-then-size-eq16-clause-count g c = let remains = begun g c.before.before.before in omega (arith, remains.spent, remains.within, c.write_planes_of_word.ensures.left)
+
+pub returns-then-size-eq64-clause-bits : goal.returns-then-size-eq64-clause-bits
+returns-then-size-eq64-clause-bits g c = all_written (begun g c.before.before.before.before) c.write_planes_of_word-then-size-eq64.ensures.bits
+
+pub returns-then-size-eq64-clause-count : goal.returns-then-size-eq64-clause-count
+returns-then-size-eq64-clause-count g c = let remains = begun g c.before.before.before.before in omega (arith, remains.spent, remains.within, c.write_planes_of_word-then-size-eq64.ensures.left)
 
 -- ---- other planes
 
