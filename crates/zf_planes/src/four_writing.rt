@@ -9,10 +9,43 @@ ghost use Rattle.zf_planes.specs.Fours.{string_planes, IsAsGood};
 ghost use Rattle.zf_planes.specs.Spread.{top_digit, top_planes, spread, lone_planes, lone_code};
 
 use crate::doubling::{Part, join, write_part};
-use crate::four::{PlanesCode, code_of_4};
 use crate::pairs_table::entry_of_pair;
 use crate::spread_table::spread_entry;
 use zf_bits::BitWriter;
+
+/// The code of planes.
+#[derive(Clone, Copy)]
+struct PlanesCode {
+    /// Its bits.
+    part: Part,
+    /// How far the ones of the planes reach, and of those above them.
+    above: usize,
+    ghost within: { above ≤ 4 },
+}
+
+/// The code of a plane of four digits in which the ranks below `n` have had a one above.
+#[inline]
+fn code_of_4(n: usize, digits: u64) -> PlanesCode
+    requires in_plane { n < 3 }
+    requires digits { digits < 16 }
+    ensures bits { field result.part.len result.part.bits ≡ plane_code n (field 4 digits) }
+    ensures small { result.part.bits < 2 ^ result.part.len }
+    ensures len { result.part.len ≤ 7 }
+    ensures above { result.above ≡ max n (reach (field 4 digits)) }
+{
+    // Without the code of a plane of zeros behind it: a digit for each rank that has had a one, and a group
+    // bit where ranks are left.
+    let entry = entry_of_pair(n, digits);
+    let above = entry / 262144;
+    let zeros = (above + 1).min(4);
+    PlanesCode {
+        part: Part {
+            bits: u64::from(entry % 16384),
+            len: u64::from(entry / 16384 % 16 - zeros),
+        },
+        above: above as usize,
+    }
+}
 
 /// The top sixteen digits of a word four bits apart, the greatest one lowest.
 #[inline(always)]

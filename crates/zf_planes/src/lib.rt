@@ -19,7 +19,6 @@ mod decoding;
 mod doubled_table;
 mod doubling;
 mod encoding;
-mod four;
 mod four_reading;
 mod four_writing;
 mod in_lanes;

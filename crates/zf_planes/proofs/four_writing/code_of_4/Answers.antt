@@ -1,7 +1,7 @@
 use Rattle.std.proofs.Common.{arith}
 use Rattle.zf_planes.proofs.Tables.{IsCode, code_of_entry}
-use Rattle.zf_planes.proofs.four.code_of_4.Goals.{After-from-2}
-use Rattle.zf_planes.proofs.four.code_of_4.Goals as goal
+use Rattle.zf_planes.proofs.four_writing.code_of_4.Goals.{After-from-2}
+use Rattle.zf_planes.proofs.four_writing.code_of_4.Goals as goal
 
 -- what the entry says
 entry : (c : After-from-2) → IsCode c.args.n c.args.digits c.entry_of_pair-entry.result
