@@ -129,11 +129,9 @@ def rows_of(name):
         return laid_out(entries, "    ")
     rows = []
     for most in range(1, 5):
-        row, period = entries[256 * (most - 1) : 256 * most], 64 if most == 4 else 16
-        inner = " ".join(map(str, row[:period]))
-        if most == 4:
-            inner = "\n" + laid_out(row[:period], " " * 8) + "\n   "
-        rows.append(f"    {256 // period} times {{ {inner.lstrip(' ')} }}".replace("{ \n", "{\n"))
+        period = 64 if most == 4 else 16
+        row = entries[256 * (most - 1) :][:period]
+        rows.append(f"    {256 // period} times {{\n{laid_out(row, ' ' * 8)}\n    }}")
     rows.append("    1 time {\n" + laid_out(entries[1024:], " " * 8) + "\n    }")
     return "\n".join(["    []", *rows])
 

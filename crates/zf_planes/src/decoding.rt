@@ -220,10 +220,8 @@ fn read_top<P: Plane>(
 
 /// Reads the code of the top `prec` planes, of which `budget` bits were written, or all of it where it is
 /// shorter. The answer is the number of its bits. `None` means that the bits end before the budget and the
-/// code do; then the reader stands where it stood, and the planes hold anything.
-///
-/// `planes[k]` holds digit k of each coefficient by rank. The planes are zero before, so that a caller that
-/// has just made them clears none twice. Embedded coding as in the zfp 1.0 documentation, chapter Algorithm.
+/// code do; then the reader stands where it stood, and the planes hold anything. They are zero before, so
+/// that a caller that has just made them clears none twice.
 pub fn read_planes<P: Plane>(
     budget: u64,
     prec: u32,
@@ -254,14 +252,7 @@ pub fn read_planes<P: Plane>(
     Some(count)
 }
 
-/// Reads the code of the top `prec` planes, of which `budget` bits were written, or all of it where it is
-/// shorter. The answer is the number of its bits. `None`: the bits end before the budget and the code do; the
-/// reader stands where it stood, and the planes hold anything. It is there for callers of the library: the
-/// program has planes of zeros at hand.
-///
-/// `size` is 4, 16, 64 or 256, and there are at least `prec` planes. `planes[k]` holds digit k of each
-/// coefficient by rank: rank r is bit `r % 64` of word `r / 64`. Embedded coding as in the zfp 1.0
-/// documentation, chapter Algorithm.
+/// [`read_planes`] into planes in four words each, whatever they hold before.
 pub fn decode(
     budget: u64,
     prec: u32,

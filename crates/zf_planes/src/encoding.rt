@@ -111,9 +111,6 @@ fn write_plane<P: Plane>(
 
 /// Appends the code of the top `prec` planes, or its first `budget` bits where it is longer. The answer is
 /// the number of bits appended. The top `zeros` planes, which may be 0, are known to have no one.
-///
-/// `planes[k]` holds digit k of each coefficient by rank, and bits from rank `size` on are not looked at.
-/// Embedded coding as in the zfp 1.0 documentation, chapter Algorithm.
 pub fn write_planes_below<P: Plane>(
     zeros: u32,
     budget: u64,
@@ -158,14 +155,7 @@ pub fn write_planes_below<P: Plane>(
 }
 
 /// Appends the code of the top `prec` planes, or its first `budget` bits where it is longer. The answer is
-/// the number of bits appended. It is there for callers of the library: the program has planes in one word
-/// each, and knows which have no one.
-///
-/// `size` is 4, 16, 64 or 256, and there are at least `prec` planes. There is room for the smaller of
-/// `budget` and `size * prec + size` bits.
-///
-/// `planes[k]` holds digit k of each coefficient by rank: rank r is bit `r % 64` of word `r / 64`, and bits
-/// from rank `size` on are not looked at. Embedded coding as in the zfp 1.0 documentation, chapter Algorithm.
+/// the number of bits appended. There is room for the smaller of `budget` and `size * prec + size` bits.
 pub fn encode(budget: u64, prec: u32, size: usize, planes: &[[u64; 4]], out: &mut BitWriter) -> u64
     requires size { IsBlockSize size }
     requires planes { prec ≤ length planes.now }

@@ -327,10 +327,7 @@ fn read_gathered(budget: u64, prec: u32, reader: &BitReader<'_>) -> Option<ReadD
 /// Reads the code of the top `prec` planes of four coefficients, of which `budget` bits were written, or all
 /// of it where it is shorter, into their digits. The answer is the number of its bits. `None` means that the
 /// bits end before the budget and the code do; then the reader stands where it stood, and the digits are
-/// anything.
-///
-/// Bit k of `digits[r]` is the digit of rank r in plane k, of `width` planes. Those below the ones read are
-/// zero. Embedded coding as in the zfp 1.0 documentation, chapter Algorithm.
+/// anything. The planes below the ones read are zero.
 pub fn read_four(
     budget: u64,
     prec: u32,

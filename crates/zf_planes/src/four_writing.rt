@@ -279,10 +279,7 @@ fn write_top(left: u64, planes: u32, words: [u64; 4], out: &mut BitWriter) -> u6
 
 /// Appends the code of the top `prec` planes of four coefficients, given by their digits, or its first
 /// `budget` bits where it is longer. The top `zeros` planes have no one. The answer is the number of bits
-/// appended.
-///
-/// Bit k of `digits[r]` is the digit of rank r in plane k, of `width` planes; bits from `width` on are not
-/// looked at. Embedded coding as in the zfp 1.0 documentation, chapter Algorithm.
+/// appended. Bits of digits from `width` on are not looked at.
 #[inline(always)]
 pub fn write_four(
     zeros: u32,

@@ -97,8 +97,8 @@ pub(crate) fn planes_at_end(n: usize, left: u64, bits: u64) -> PlanesInLanes
     ensures len { result.len ≤ left }
     ensures above { result.above ≡ max n (reach_of_all (low_planes result.count (lanes_in 4 result.lanes))) }
 {
-    // As if zeros followed, or a one and zeros. A run that is cut has its one where it is cut: with zeros its
-    // one would be the last, and the ones reach farther. Where none is cut, another one makes the entry greater.
+    // As if zeros followed, or a one and zeros. A run that is cut has a one where it is cut: with zeros it
+    // would reach to the last rank, a greater entry. Where none is cut, the one more makes it greater.
     let first = 1 << left;
     let zeros = entry_of_lanes(n, bits % first);
     let one = entry_of_lanes(n, first + bits % first);

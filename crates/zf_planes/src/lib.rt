@@ -1,4 +1,10 @@
-//! The embedded code of bit planes.
+//! The embedded code of bit planes, as in the zfp 1.0 documentation, chapter Algorithm.
+//!
+//! `planes[k]` holds digit k of each coefficient by rank: rank r is bit `r % 64` of word `r / 64`. Bits from
+//! rank `size` on are not looked at where planes are given, and are zero where they were read. Planes of four
+//! digits are given by the digits: bit k of `digits[r]` is the digit of rank r in plane k, of `width` planes.
+//! [`encode`], [`decode`] and [`code_len`] are there for callers of the library: they take planes of 4, 16,
+//! 64 or 256 digits in four words each. The program has those of up to 64 digits in one word.
 #![tactic(auto)]
 
 // A table by its entries, or by rows of them that stand once or several times.

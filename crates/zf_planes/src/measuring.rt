@@ -28,8 +28,6 @@ fn plane_len<P: Plane>(n: usize, size: usize, end: usize, plane: &P) -> usize
 }
 
 /// The number of bits of the code of the top `prec` planes without a budget.
-///
-/// `planes[k]` holds digit k of each coefficient by rank, and bits from rank `size` on are not looked at.
 pub fn planes_len<P: Plane>(prec: u32, size: usize, planes: &[P]) -> u64
     requires words { size ≤ 64 * P.word_count }
     requires planes { prec ≤ length planes.now }
@@ -47,12 +45,7 @@ pub fn planes_len<P: Plane>(prec: u32, size: usize, planes: &[P]) -> u64
     len
 }
 
-/// The number of bits of the code of the top `prec` planes without a budget. It is there for callers of the
-/// library: the program asks for no length.
-///
-/// `size` is 4, 16, 64 or 256, and there are at least `prec` planes. `planes[k]` holds digit k of each
-/// coefficient by rank: rank r is bit `r % 64` of word `r / 64`, and bits from rank `size` on are not looked
-/// at.
+/// [`planes_len`] of planes in four words each.
 pub fn code_len(prec: u32, size: usize, planes: &[[u64; 4]]) -> u64
     requires size { IsBlockSize size }
     requires planes { prec ≤ length planes.now }
@@ -63,8 +56,6 @@ pub fn code_len(prec: u32, size: usize, planes: &[[u64; 4]]) -> u64
 }
 
 /// How many planes from the top one down have codes of at most `budget` bits together, each plane whole.
-///
-/// `planes[k]` holds digit k of each coefficient by rank, and bits from rank `size` on are not looked at.
 pub fn planes_within<P: Plane>(budget: u64, size: usize, planes: &[P]) -> u32
     requires words { size ≤ 64 * P.word_count }
     requires planes { length planes.now ≤ 64 }
