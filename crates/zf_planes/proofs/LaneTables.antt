@@ -1,12 +1,13 @@
 -- Tables of planes of four digits in lanes, each entry of which is what the definitions say, by computation.
-use Rattle.std.proofs.Common.{◌≡◌, ℕ, suc, ◌+◌, ◌*◌, ◌/◌, ◌%◌, ◌^◌, ◌-◌, ◌<◌, min, max, Bool, true, false, ◌&&◌, eqb, ltb, List, [], ◌∷◌, get_or, refl, sym, ap, ◌∙◌, arith}
+use Rattle.std.proofs.Common.{◌≡◌, ℕ, suc, ◌+◌, ◌*◌, ◌/◌, ◌%◌, ◌^◌, ◌-◌, ◌<◌, ◌≤◌, min, max, Bool, true, false, ◌&&◌, eqb, ltb, List, [], ◌∷◌, get_or, refl, sym, ap, ◌∙◌, arith}
 use lib.Bits.{bit_and}
 use Rattle.std.proofs.lemmas.Nat.{shr_high, mod_low, mul-add-lt}
 use Rattle.std.proofs.lemmas.Bool.{false≢true, and_parts, eqb-true, ltb-true}
 use Rattle.zf_spec.specs.Numbers.{field}
 use Rattle.zf_spec.specs.Planes.{code_from, reach_of_all}
 use Rattle.zf_planes.specs.Decoding.{planes_ahead, planes_bits}
-use Rattle.zf_planes.specs.Lanes.{low_planes, lanes_in, lanes_apart, AreBelow}
+use Rattle.zf_planes.specs.Lanes.{low_planes, lanes_in, lanes_apart, AreBelow, AreInSight, AreAtEnd}
+use Rattle.zf_planes.proofs.LanesAhead.{planes_bits-le}
 use Rattle.zf_planes.proofs.Tables.{same_digits, same_digits-true, each_below, each_below-true}
 use Rattle.zf_planes.specs.declared.lanes_table.TheConstants.{LANES}
 
@@ -52,17 +53,7 @@ test_all_lanes : each_below (λ i. test_entry (i / 256) (i % 256) (get_or LANES 
 unfolding low_planes lanes_in
 test_all_lanes = refl
 
-pub record AreLanes (n bits v l c a : ℕ) : Type 0 where
-  pub code : code_from n (low_planes c (lanes_in 4 v)) ≡ field l bits
-  pub small : AreBelow c (lanes_in 4 v)
-  pub some : 0 < c
-  pub most : c < 5
-  pub bit : 0 < l
-  pub len : l < 9
-  pub above : a ≡ max n (reach_of_all (low_planes c (lanes_in 4 v)))
-  pub within : a < 5
-
-lanes_tested : (n bits v l c a : ℕ) → test_lanes n bits v l c a ≡ true → AreLanes n bits v l c a
+lanes_tested : (n bits v l c a : ℕ) → test_lanes n bits v l c a ≡ true → AreInSight n bits c v l a
 lanes_tested n bits v l c a test =
     let one = and_parts (same_digits (code_from n (low_planes c (lanes_in 4 v))) (field l bits)) _ test in
     let two = and_parts (are_below c (lanes_in 4 v)) _ one.1 in
@@ -71,19 +62,22 @@ lanes_tested n bits v l c a test =
     let five = and_parts (ltb 0 l) _ four.1 in
     let six = and_parts (ltb l 9) _ five.1 in
     let seven = and_parts (eqb a (max n (reach_of_all (low_planes c (lanes_in 4 v))))) _ six.1 in
+    let most : c < 5 = ltb-true _ _ four.0 in
+    let len : l < 9 = ltb-true _ _ six.0 in
+    let within : a < 5 = ltb-true _ _ seven.1 in
     record {
       code = same_digits-true _ _ one.0;
-      small = are_below-true c (lanes_in 4 v) two.0;
+      below = are_below-true c (lanes_in 4 v) two.0;
       some = ltb-true _ _ three.0;
-      most = ltb-true _ _ four.0;
+      most = omega arith;
       bit = ltb-true _ _ five.0;
-      len = ltb-true _ _ six.0;
+      len = omega arith;
       above = eqb-true _ _ seven.0;
-      within = ltb-true _ _ seven.1;
+      within = omega arith;
     }
 
 pub lanes_of_entry : (n bits e : ℕ) → n < 3 → bits < 256 → e ≡ get_or LANES (256 * n + bits) 0
-    → AreLanes n bits (lanes_apart (e % 65536)) (e / 65536 % 16) (e / 1048576 % 8) (e / 8388608)
+    → AreInSight n bits (e / 1048576 % 8) (lanes_apart (e % 65536)) (e / 65536 % 16) (e / 8388608)
 lanes_of_entry n bits e in_plane eight is =
     let i = 256 * n + bits in
     let prefix : i / 256 ≡ n = omega arith in
@@ -118,17 +112,7 @@ test_all_ends : each_below (λ k. test_ends (suc k)) 7 ≡ true
 unfolding low_planes lanes_in planes_ahead planes_bits
 test_all_ends = refl
 
-pub record AreLast (n left bits v l c a : ℕ) : Type 0 where
-  pub digits : planes_ahead left c 4 n (field left bits) ≡ low_planes c (lanes_in 4 v)
-  pub len : planes_bits left c 4 n (field left bits) ≡ l
-  pub small : AreBelow c (lanes_in 4 v)
-  pub some : 0 < c
-  pub most : c < 5
-  pub bit : 0 < l
-  pub above : a ≡ max n (reach_of_all (low_planes c (lanes_in 4 v)))
-  pub within : a < 5
-
-last_tested : (n left bits v l c a : ℕ) → test_last n left bits v l c a ≡ true → AreLast n left bits v l c a
+last_tested : (n left bits v l c a : ℕ) → test_last n left bits v l c a ≡ true → AreAtEnd n left bits c v l a
 last_tested n left bits v l c a test =
     let one = and_parts (same_planes (planes_ahead left c 4 n (field left bits)) (low_planes c (lanes_in 4 v))) _ test in
     let two = and_parts (eqb (planes_bits left c 4 n (field left bits)) l) _ one.1 in
@@ -137,15 +121,19 @@ last_tested n left bits v l c a test =
     let five = and_parts (ltb c 5) _ four.1 in
     let six = and_parts (ltb 0 l) _ five.1 in
     let seven = and_parts (eqb a (max n (reach_of_all (low_planes c (lanes_in 4 v))))) _ six.1 in
+    let is : planes_bits left c 4 n (field left bits) ≡ l = eqb-true _ _ two.0 in
+    let most : c < 5 = ltb-true _ _ five.0 in
+    let within : a < 5 = ltb-true _ _ seven.1 in
     record {
       digits = same_planes-true _ _ one.0;
-      len = eqb-true _ _ two.0;
-      small = are_below-true c (lanes_in 4 v) three.0;
+      bits = is;
+      below = are_below-true c (lanes_in 4 v) three.0;
       some = ltb-true _ _ four.0;
-      most = ltb-true _ _ five.0;
+      most = omega arith;
       bit = ltb-true _ _ six.0;
+      len = omega (arith, planes_bits-le left c 4 n (field left bits));
       above = eqb-true _ _ seven.0;
-      within = ltb-true _ _ seven.1;
+      within = omega arith;
     }
 
 -- the entry of so many bits
@@ -160,7 +148,7 @@ end_at n left bits p i e power tests in_plane small place prefix low below is =
     ∙ here
 
 pub last_of_entry : (n left bits e : ℕ) → n < 3 → 0 < left → left < 8 → bits < 2 ^ left → e ≡ end_entry n (2 ^ left) bits
-    → AreLast n left bits (lanes_apart (e % 65536)) (min (e / 65536 % 16) left) (e / 1048576 % 8) (e / 8388608)
+    → AreAtEnd n left bits (e / 1048576 % 8) (lanes_apart (e % 65536)) (min (e / 65536 % 16) left) (e / 8388608)
 last_of_entry n left bits e in_plane some few small is =
     let p = 2 ^ left in
     let next : suc (left - 1) ≡ left = omega arith in

@@ -1,6 +1,7 @@
 -- Digits of four coefficients in words, and in four lanes of one word.
-use Rattle.std.specs.Prelude.{ℕ, suc, zero, ◌≡◌, ◌+◌, ◌-◌, ◌*◌, ◌/◌, ◌%◌, ◌^◌, ◌<◌, ◌≤◌, Bool, List, [], ◌∷◌, ◌++◌, length, map}
-use Rattle.zf_spec.specs.Numbers.{is_odd}
+use Rattle.std.specs.Prelude.{ℕ, suc, zero, ◌≡◌, ◌+◌, ◌-◌, ◌*◌, ◌/◌, ◌%◌, ◌^◌, ◌<◌, ◌≤◌, max, Bool, List, [], ◌∷◌, ◌++◌, length, map}
+use Rattle.zf_spec.specs.Numbers.{is_odd, field}
+use Rattle.zf_spec.specs.Planes.{code_from, reach_of_all}
 use Rattle.zf_bits.specs.Reader.{Reader, rest}
 use Rattle.zf_planes.specs.Decoding.{planes_ahead, planes_bits, Takes}
 
@@ -38,6 +39,43 @@ pub record IsGathered (words : List ℕ) (done lanes held : ℕ) : Type 0 where
 
 unfoldable pub gathered : List ℕ → ℕ → ℕ → ℕ → List (List Bool)
 gathered words done lanes held = low_planes done words ++ low_planes held (lanes_in 4 lanes)
+
+-- ---- planes that bits stand for: c of them in the lanes v, by l bits; their ones and those above reach to a
+
+-- the planes whose code the eight bits of b begin with, behind ranks below n that have had a one above: one at
+-- least, and four at most
+pub record AreInSight (n b c v l a : ℕ) : Type 0 where
+  pub code : code_from n (low_planes c (lanes_in 4 v)) ≡ field l b
+  pub below : AreBelow c (lanes_in 4 v)
+  pub some : 0 < c
+  pub most : c ≤ 4
+  pub bit : 0 < l
+  pub len : l ≤ 8
+  pub above : a ≡ max n (reach_of_all (low_planes c (lanes_in 4 v)))
+  pub within : a ≤ 4
+
+-- the planes that the last r bits of a budget stand for, or the first of them
+pub record AreAtEnd (n r b c v l a : ℕ) : Type 0 where
+  pub digits : planes_ahead r c 4 n (field r b) ≡ low_planes c (lanes_in 4 v)
+  pub bits : planes_bits r c 4 n (field r b) ≡ l
+  pub below : AreBelow c (lanes_in 4 v)
+  pub some : 0 < c
+  pub most : c ≤ 4
+  pub bit : 0 < l
+  pub len : l ≤ r
+  pub above : a ≡ max n (reach_of_all (low_planes c (lanes_in 4 v)))
+  pub within : a ≤ 4
+
+-- planes in which the first rank alone has ones, of at most p, and of at most twelve; b has k bits
+pub record AreLoneInSight (p b k c v l a : ℕ) : Type 0 where
+  pub code : code_from 0 (low_planes c (lanes_in 4 v)) ≡ field l b
+  pub reached : max 0 (reach_of_all (low_planes c (lanes_in 4 v))) ≡ 1
+  pub below : AreBelow c (lanes_in 4 v)
+  pub few : c ≤ 12
+  pub fits : c ≤ p
+  pub some : 0 < l
+  pub len : l ≤ k
+  pub above : a ≡ 1
 
 -- ---- planes that were read
 

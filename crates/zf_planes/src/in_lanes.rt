@@ -1,11 +1,9 @@
 //! Planes of four digits in four lanes of one word.
 
-ghost use Rattle.std.specs.Prelude.{◌≡◌, ◌+◌, ◌*◌, ◌/◌, ◌%◌, ◌^◌, ◌<◌, ◌≤◌, max, [], ◌∷◌};
+ghost use Rattle.std.specs.Prelude.{◌≡◌, ◌%◌, ◌<◌, ◌≤◌, [], ◌∷◌};
 ghost use Rattle.zf_spec.specs.Numbers.{field};
-ghost use Rattle.zf_spec.specs.Planes.{code_from, reach_of_all};
-ghost use Rattle.zf_planes.specs.Decoding.{planes_ahead, planes_bits};
 ghost use Rattle.zf_planes.specs.Fours.{string_planes};
-ghost use Rattle.zf_planes.specs.Lanes.{low_planes, lanes_in, lanes_apart, AreBelow};
+ghost use Rattle.zf_planes.specs.Lanes.{low_planes, lanes_in, lanes_apart, AreBelow, AreInSight, AreAtEnd, AreLoneInSight};
 
 use crate::lanes_table::entry_of_lanes;
 
@@ -50,13 +48,7 @@ pub(crate) struct PlanesInLanes {
 pub(crate) fn planes_in_sight(n: usize, bits: u64) -> PlanesInLanes
     requires in_plane { n < 3 }
     requires bits { bits < 256 }
-    ensures code { code_from n (low_planes result.count (lanes_in 4 result.lanes)) ≡ field result.len bits }
-    ensures below { AreBelow result.count (lanes_in 4 result.lanes) }
-    ensures some { 0 < result.count }
-    ensures most { result.count ≤ 4 }
-    ensures bit { 0 < result.len }
-    ensures len { result.len ≤ 8 }
-    ensures above { result.above ≡ max n (reach_of_all (low_planes result.count (lanes_in 4 result.lanes))) }
+    ensures { AreInSight n bits result.count result.lanes result.len result.above }
 {
     let entry = entry_of_lanes(n, bits);
     PlanesInLanes {
@@ -87,15 +79,7 @@ pub(crate) fn planes_at_end(n: usize, left: u64, bits: u64) -> PlanesInLanes
     requires in_plane { n < 3 }
     requires some { 0 < left }
     requires few { left < 8 }
-    ensures digits { planes_ahead left result.count 4 n (field left bits)
-        ≡ low_planes result.count (lanes_in 4 result.lanes) }
-    ensures bits { planes_bits left result.count 4 n (field left bits) ≡ result.len }
-    ensures below { AreBelow result.count (lanes_in 4 result.lanes) }
-    ensures some { 0 < result.count }
-    ensures most { result.count ≤ 4 }
-    ensures bit { 0 < result.len }
-    ensures len { result.len ≤ left }
-    ensures above { result.above ≡ max n (reach_of_all (low_planes result.count (lanes_in 4 result.lanes))) }
+    ensures { AreAtEnd n left bits result.count result.lanes result.len result.above }
 {
     // As if zeros followed, or a one and zeros. A run that is cut has a one where it is cut: with zeros it
     // would reach to the last rank, a greater entry. Where none is cut, the one more makes it greater.
@@ -118,14 +102,7 @@ pub(crate) fn lone_in_sight(most: u32, bits: u64, count: u64) -> PlanesInLanes
     requires some { 0 < most }
     requires there { 3 ≤ count }
     requires first { bits % 8 ≡ 3 }
-    ensures code { code_from 0 (low_planes result.count (lanes_in 4 result.lanes)) ≡ field result.len bits }
-    ensures reached { max 0 (reach_of_all (low_planes result.count (lanes_in 4 result.lanes))) ≡ 1 }
-    ensures below { AreBelow result.count (lanes_in 4 result.lanes) }
-    ensures few { result.count ≤ 12 }
-    ensures fits { result.count ≤ most }
-    ensures some { 0 < result.len }
-    ensures len { result.len ≤ count }
-    ensures above { result.above ≡ 1 }
+    ensures { AreLoneInSight most bits count result.count result.lanes result.len result.above }
 {
     let limit = most.min(12);
     let mut lanes = 1;
