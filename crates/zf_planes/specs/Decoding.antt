@@ -1,5 +1,5 @@
 -- What the decoder makes of the bits that are left, of which only as many count as the budget has.
-use Rattle.std.specs.Prelude.{ℕ, ◌≡◌, ◌+◌, ◌<◌, ◌≤◌, ◌-◌, min, max, All, Bool, false, List, ◌++◌, length, take, replicate}
+use Rattle.std.specs.Prelude.{ℕ, ◌≡◌, ◌+◌, ◌<◌, ◌≤◌, ◌-◌, min, max, All, Bool, true, false, List, ◌∷◌, ◌++◌, length, take, replicate}
 use Rattle.zf_spec.specs.Planes.{tail, code_from_run, plane_code, code, code_from, reach}
 use Rattle.zf_spec.specs.Kept.{kept_tail, kept_run, kept_plane, kept_planes_from}
 use Rattle.zf_spec.specs.ReadPlanes.{tail_in, run_in, plane_in, planes_in_from, planes_in}
@@ -58,6 +58,22 @@ pub record Takes (old new : Reader) (before after count : ℕ) : Type 0 where
 pub record Lacks (old new : Reader) (count : ℕ) : Type 0 where
   pub few : length (rest old) < count
   pub all : new.all ≡ old.all
+
+-- of a run of at most m digits, so many zeros and the one behind them were read; its tail is to come
+pub record ReadsRun (m : ℕ) (old new : Reader) (left after zeros : ℕ) : Type 0 where
+  pub within : zeros < m
+  pub taken : Takes old new left after (left - after)
+  pub bits : run_bits left m (rest old) ≡ left - after + tail_bits after (m - zeros - 1) (rest new)
+  pub digits : run_ahead left m (rest old) ≡ replicate zeros false
+      ++ true ∷ tail_ahead after (m - zeros - 1) (rest new)
+
+-- the same of a run with the group bit before it
+pub record ReadsGroup (m : ℕ) (old new : Reader) (left after zeros : ℕ) : Type 0 where
+  pub within : zeros < m
+  pub taken : Takes old new left after (left - after)
+  pub bits : tail_bits left m (rest old) ≡ left - after + tail_bits after (m - zeros - 1) (rest new)
+  pub digits : tail_ahead left m (rest old) ≡ replicate zeros false
+      ++ true ∷ tail_ahead after (m - zeros - 1) (rest new)
 
 -- the tail of a plane was read behind the digits below rank n, which others have, and so far do the ones of
 -- both reach

@@ -1,6 +1,7 @@
 -- Planes of four digits in one number.
-use Rattle.std.specs.Prelude.{ℕ, suc, zero, ◌≡◌, ◌/◌, min, Bool, List, [], ◌∷◌}
+use Rattle.std.specs.Prelude.{ℕ, suc, zero, ◌≡◌, ◌^◌, ◌/◌, ◌%◌, ◌<◌, ◌≤◌, min, max, Bool, List, [], ◌∷◌, ◌++◌}
 use Rattle.zf_spec.specs.Numbers.{field}
+use Rattle.zf_spec.specs.Planes.{plane_code, reach}
 
 -- k planes, four bits each, the first plane lowest
 unfoldable pub string_planes : ℕ → ℕ → List (List Bool)
@@ -11,3 +12,19 @@ string_planes (suc k) digits = field 4 digits ∷ string_planes k (digits / 16)
 -- plane is its own code
 abbrev pub IsAsGood : ℕ → ℕ → Type 0
 IsAsGood m n = min 3 m ≡ min 3 n
+
+-- the l bits of v are the code of the plane of these digits, behind ranks below n that have had a one above,
+-- and so far do the ones of both reach
+pub record IsCodeOfOne (n digits l v a : ℕ) : Type 0 where
+  pub bits : field l v ≡ plane_code n (field 4 digits)
+  pub small : v < 2 ^ l
+  pub len : l ≤ 7
+  pub above : a ≡ max n (reach (field 4 digits))
+
+-- the same of the first two planes of a string
+pub record IsCodeOfTwo (n string l v a : ℕ) : Type 0 where
+  pub bits : field l v ≡ plane_code n (field 4 (string % 16))
+      ++ plane_code (max n (reach (field 4 (string % 16)))) (field 4 (string / 16 % 16))
+  pub small : v < 2 ^ l
+  pub len : l ≤ 14
+  pub above : a ≡ max (max n (reach (field 4 (string % 16)))) (reach (field 4 (string / 16 % 16)))

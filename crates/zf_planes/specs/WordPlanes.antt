@@ -1,5 +1,5 @@
 -- Planes of up to 64 digits by the bits of their code.
-use Rattle.std.specs.Prelude.{ℕ, ◌≡◌, ◌^◌, ◌<◌, max}
+use Rattle.std.specs.Prelude.{ℕ, ◌≡◌, ◌+◌, ◌^◌, ◌<◌, ◌≤◌, max}
 use Rattle.zf_spec.specs.Numbers.{field}
 use Rattle.zf_spec.specs.Planes.{plane_code, reach}
 
@@ -9,3 +9,12 @@ pub record IsReadAs (n size bits digits len above : ℕ) : Type 0 where
   pub code : plane_code n (field size digits) ≡ field len bits
   pub small : digits < 2 ^ size
   pub reached : above ≡ max n (reach (field size digits))
+
+-- these bits are the whole code of the plane, whose ones reach no farther than those above
+pub record IsPlainCode (n size digits l bits : ℕ) : Type 0 where
+  pub code : plane_code n (field size digits) ≡ field l bits
+  pub small : bits < 2 ^ l
+  pub some : 0 < l
+  pub len : l ≤ 64
+  pub shorter : n < size → l ≡ n + 1
+  pub same : max n (reach (field size digits)) ≡ n

@@ -10,7 +10,7 @@ ghost use Rattle.zf_spec.specs.Planes.{reach};
 ghost use Rattle.zf_bits.specs.Reader.{rest, Reads};
 ghost use Rattle.zf_planes.specs.Moves.{Moves, LacksPlane, MovesOverPlane};
 ghost use Rattle.zf_planes.specs.Sizes.{HasBlanks};
-ghost use Rattle.zf_planes.specs.Decoding.{coded, coded_bits, tail_ahead, tail_bits, run_ahead, run_bits, planes_bits, Takes, Lacks, ReadsTail, ReadsTop};
+ghost use Rattle.zf_planes.specs.Decoding.{coded, coded_bits, tail_ahead, tail_bits, run_ahead, run_bits, planes_bits, Takes, Lacks, ReadsRun, ReadsGroup, ReadsTail, ReadsTop};
 
 use crate::cursor::Cursor;
 use crate::word_reading::read_by_kinds;
@@ -63,12 +63,7 @@ struct Run {
 fn read_run(left: u64, most: usize, reader: &mut BitReader<'_>) -> Option<Run>
     requires { 0 < most }
     ensures short { IfNone result (Lacks reader.old reader.new (run_bits left most (rest reader.old))) }
-    ensures within { IfSome result (λ run. run.zeros < most) }
-    ensures taken { IfSome result (λ run. Takes reader.old reader.new left run.left (left - run.left)) }
-    ensures bits { IfSome result (λ run. run_bits left most (rest reader.old)
-        ≡ left - run.left + tail_bits run.left (most - run.zeros - 1) (rest reader.new)) }
-    ensures digits { IfSome result (λ run. run_ahead left most (rest reader.old) ≡ replicate run.zeros false
-        ++ true ∷ tail_ahead run.left (most - run.zeros - 1) (rest reader.new)) }
+    ensures read { IfSome result (λ run. ReadsRun most reader.old reader.new left run.left run.zeros) }
 {
     let mut left = left;
     let mut zeros = 0;
@@ -106,14 +101,8 @@ fn read_group(most: usize, cursor: &mut Cursor<'_>) -> Option<usize>
     requires one { cursor.old.bits % 2 ≡ 1 }
     ensures short { IfNone result (Lacks cursor.old.reader cursor.new.reader
         (tail_bits cursor.old.left most (rest cursor.old.reader))) }
-    ensures within { IfSome result (λ zeros. zeros < most) }
-    ensures taken { OnSome result (Moves cursor.old cursor.new (cursor.old.left - cursor.new.left)) }
-    ensures bits { IfSome result (λ zeros. tail_bits cursor.old.left most (rest cursor.old.reader)
-        ≡ cursor.old.left - cursor.new.left + tail_bits cursor.new.left (most - zeros - 1)
-        (rest cursor.new.reader)) }
-    ensures digits { IfSome result (λ zeros. tail_ahead cursor.old.left most (rest cursor.old.reader)
-        ≡ replicate zeros false ++ true ∷ tail_ahead cursor.new.left (most - zeros - 1)
-        (rest cursor.new.reader)) }
+    ensures read { IfSome result (λ zeros. ReadsGroup most cursor.old.reader cursor.new.reader cursor.old.left
+        cursor.new.left zeros) }
 {
     let zeros = ((cursor.bits >> 1).trailing_zeros() as usize).min(most - 1);
     // The one of the last digit has no bit.

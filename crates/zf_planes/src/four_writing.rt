@@ -5,7 +5,7 @@ ghost use Rattle.zf_spec.specs.Numbers.{field, is_odd};
 ghost use Rattle.zf_spec.specs.Grid.{upto};
 ghost use Rattle.zf_spec.specs.Planes.{planes_of, plane_code, code, code_from, reach, reach_of_all};
 ghost use Rattle.zf_bits.specs.Writer.{Appends};
-ghost use Rattle.zf_planes.specs.Fours.{string_planes, IsAsGood};
+ghost use Rattle.zf_planes.specs.Fours.{string_planes, IsAsGood, IsCodeOfOne, IsCodeOfTwo};
 ghost use Rattle.zf_planes.specs.Spread.{top_digit, top_planes, spread, lone_planes, lone_code};
 
 use crate::doubling::{Part, join, write_part};
@@ -28,10 +28,7 @@ struct PlanesCode {
 fn code_of_4(n: usize, digits: u64) -> PlanesCode
     requires in_plane { n < 3 }
     requires digits { digits < 16 }
-    ensures bits { field result.part.len result.part.bits ≡ plane_code n (field 4 digits) }
-    ensures small { result.part.bits < 2 ^ result.part.len }
-    ensures len { result.part.len ≤ 7 }
-    ensures above { result.above ≡ max n (reach (field 4 digits)) }
+    ensures { IsCodeOfOne n digits result.part.len result.part.bits result.above }
 {
     // Without the code of a plane of zeros behind it: a digit for each rank that has had a one, and a group
     // bit where ranks are left.
@@ -142,13 +139,7 @@ fn below_top(count: u32, words: &[u64; 4]) -> [u64; 4]
 #[inline(always)]
 fn code_of_two(n: usize, string: u64) -> PlanesCode
     requires in_plane { n < 3 }
-    ensures bits { field result.part.len result.part.bits
-        ≡ plane_code n (field 4 (string % 16)) ++ plane_code (max n (reach (field 4 (string % 16))))
-        (field 4 (string / 16 % 16)) }
-    ensures small { result.part.bits < 2 ^ result.part.len }
-    ensures len { result.part.len ≤ 14 }
-    ensures above { result.above ≡ max (max n (reach (field 4 (string % 16))))
-        (reach (field 4 (string / 16 % 16))) }
+    ensures { IsCodeOfTwo n string result.part.len result.part.bits result.above }
 {
     let entry = entry_of_pair(n, string % 256);
     PlanesCode {

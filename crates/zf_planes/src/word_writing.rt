@@ -6,6 +6,7 @@ ghost use Rattle.zf_spec.specs.Planes.{plane_code, code_from, reach};
 ghost use Rattle.zf_spec.specs.HeldPlanes.{planes_held};
 ghost use Rattle.zf_bits.specs.Writer.{Appends};
 ghost use Rattle.zf_planes.specs.Sizes.{IsWordSize};
+ghost use Rattle.zf_planes.specs.WordPlanes.{IsPlainCode};
 
 use crate::doubling::{Part, join, write_part, write_with};
 use crate::words::{first_word, reach_in};
@@ -29,12 +30,7 @@ fn plain_plane(n: u64, size: u64, digits: u64) -> Part
     requires in_plane { n ≤ size }
     requires digits { digits < 2 ^ size }
     requires plain { (n ≡ size) ⊎ (digits / 2 ^ n ≡ 0) }
-    ensures code { plane_code n (field size digits) ≡ field result.len result.bits }
-    ensures small { result.bits < 2 ^ result.len }
-    ensures some { 0 < result.len }
-    ensures len { result.len ≤ 64 }
-    ensures shorter { n < size → result.len ≡ n + 1 }
-    ensures same { max n (reach (field size digits)) ≡ n }
+    ensures { IsPlainCode n size digits result.len result.bits }
 {
     Part {
         bits: digits,

@@ -8,23 +8,20 @@ use Rattle.zf_planes.proofs.decoding.read_group.Goals as goal
 
 -- ---- the run lies among the bits that were looked at
 
-pub returns-then-bits-cursor-clause-bits : goal.returns-then-bits-cursor-clause-bits
-returns-then-bits-cursor-clause-bits c =
+pub returns-then-bits-cursor-clause-read : goal.returns-then-bits-cursor-clause-read
+returns-then-bits-cursor-clause-read c =
     let now = c.args.cursor.now in
     let here = group_ahead (rest now.reader) now.left now.bits now.count c.args.most c.min-zeros.result c.min-bits.result now.window (omega arith) c.requires.one c.requires.some c.requires.there c.min-zeros.ensures c.min-bits.ensures
     c.if-bits-cursor.true in
     let passed = c.pass.ensures.taken in
     let spent : c.pass.new.self.left ≡ now.left - c.min-bits.result = omega (arith, passed.spent) in
-    rw (spent, Takes-rest passed) (omega (arith, here.bits, passed.spent))
-
-pub returns-then-bits-cursor-clause-digits : goal.returns-then-bits-cursor-clause-digits
-returns-then-bits-cursor-clause-digits c =
-    let now = c.args.cursor.now in
-    let here = group_ahead (rest now.reader) now.left now.bits now.count c.args.most c.min-zeros.result c.min-bits.result now.window (omega arith) c.requires.one c.requires.some c.requires.there c.min-zeros.ensures c.min-bits.ensures
-    c.if-bits-cursor.true in
-    let passed = c.pass.ensures.taken in
-    let spent : c.pass.new.self.left ≡ now.left - c.min-bits.result = omega (arith, passed.spent) in
-    rw (spent, Takes-rest passed) here.digits
+    let count : now.left - c.pass.new.self.left ≡ c.min-bits.result = omega (arith, passed.spent) in
+    record {
+      within = omega (arith, c.min-zeros.ensures, c.requires.some);
+      taken = rw count passed;
+      bits = rw (spent, Takes-rest passed) (omega (arith, here.bits, passed.spent));
+      digits = rw (spent, Takes-rest passed) here.digits;
+    }
 
 -- ---- it goes on behind them
 
@@ -47,22 +44,17 @@ returns-in_err-run-clause-short c =
     let short : Lacks now.reader c.pass-2.new.self.reader (tail_bits now.left c.args.most (rest now.reader)) = record { few = (Passes-lacks passes lacks (omega arith)).few; all = c.pass-2.ensures.taken.all } in
     if_none _ short
 
-pub returns-clause-taken : goal.returns-clause-taken
-returns-clause-taken c =
+pub returns-clause-read : goal.returns-clause-read
+returns-clause-read c =
+    let now = c.args.cursor.now in
+    let group = behind_group now.bits now.count c.args.most now.window c.requires.there c.requires.one c.requires.some c.pass-2.ensures.taken in
     let first = c.pass-2.ensures.taken in
-    let run = rw c.another-place.ensures at c.in_ok-run.ensures.taken in
-    rw (c.new.ensures.left, c.new.ensures.reader) (Takes-sum _ _ first (omega (arith, first.spent, run.spent)) run)
-
-pub returns-clause-bits : goal.returns-clause-bits
-returns-clause-bits c =
-    let now = c.args.cursor.now in
-    let group = behind_group now.bits now.count c.args.most now.window c.requires.there c.requires.one c.requires.some c.pass-2.ensures.taken in
-    let bits = rw c.another-place.ensures at c.in_ok-run.ensures.bits in
-    rw (c.new.ensures.left, c.new.ensures.reader) (omega (arith, group.0, bits, c.pass-2.ensures.taken.spent, c.in_ok-run.ensures.taken.spent))
-
-pub returns-clause-digits : goal.returns-clause-digits
-returns-clause-digits c =
-    let now = c.args.cursor.now in
-    let group = behind_group now.bits now.count c.args.most now.window c.requires.there c.requires.one c.requires.some c.pass-2.ensures.taken in
-    let digits = rw c.another-place.ensures at c.in_ok-run.ensures.digits in
-    rw (c.new.ensures.left, c.new.ensures.reader) (group.1 ∙ digits)
+    let run = rw c.another-place.ensures at c.in_ok-run.ensures.read.taken in
+    let bits = rw c.another-place.ensures at c.in_ok-run.ensures.read.bits in
+    let digits = rw c.another-place.ensures at c.in_ok-run.ensures.read.digits in
+    record {
+      within = c.in_ok-run.ensures.read.within;
+      taken = rw (c.new.ensures.left, c.new.ensures.reader) (Takes-sum _ _ first (omega (arith, first.spent, run.spent)) run);
+      bits = rw (c.new.ensures.left, c.new.ensures.reader) (omega (arith, group.0, bits, first.spent, run.spent));
+      digits = rw (c.new.ensures.left, c.new.ensures.reader) (group.1 ∙ digits);
+    }

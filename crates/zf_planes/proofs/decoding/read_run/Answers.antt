@@ -1,7 +1,7 @@
-use Rattle.std.proofs.Common.{◌≡◌, ◌+◌, ◌-◌, ◌<◌, ◌≤◌, inl, inr, Bool, true, false, List, [], ◌∷◌, ◌++◌, length, drop, replicate, refl, sym, ap, ◌∙◌, arith}
-use Rattle.zf_bits.specs.Reader.{rest}
-use Rattle.zf_planes.specs.Decoding.{run_ahead, run_bits, tail_ahead, tail_bits}
-use Rattle.zf_planes.proofs.Passing.{Passes-part, Passes-lacks, Takes-rest}
+use Rattle.std.proofs.Common.{◌≡◌, ℕ, ◌+◌, ◌-◌, ◌<◌, ◌≤◌, inl, inr, Bool, true, false, List, [], ◌∷◌, ◌++◌, length, drop, replicate, refl, sym, ap, ◌∙◌, arith}
+use Rattle.zf_bits.specs.Reader.{Reader, rest}
+use Rattle.zf_planes.specs.Decoding.{Takes, run_ahead, run_bits, tail_ahead, tail_bits}
+use Rattle.zf_planes.proofs.Passing.{Passes, Passes-part, Passes-lacks, Takes-rest}
 use Rattle.zf_planes.proofs.Peeking.{peeked, zeros_ahead, one_ahead, run_zeros, zeros_and_one, replicate_both, Takes-skip}
 use Rattle.zf_planes.proofs.Steps.{run_stands, run_short}
 use Rattle.zf_planes.proofs.decoding.read_run.Goals as goal
@@ -21,24 +21,12 @@ returns-then-ahead-eq0-clause-short c =
 
 -- ---- the one
 
-pub returns-then-count-ahead-clause-bits : goal.returns-then-count-ahead-clause-bits
-returns-then-count-ahead-clause-bits c =
-    let z = c.loop-zeros.zeros in
-    let left = c.loop-zeros.left in
-    let k = c.min-count.result in
-    let s = rest c.loop-zeros.reader in
-    let window = peeked s c.peek.result c.min-ahead.result c.peek.ensures (omega (arith, c.min-ahead.ensures)) (omega (arith, c.min-ahead.ensures, c.min-in-loop-zeros.ensures, c.min.ensures, c.left.ensures.count)) in
-    let split = one_ahead s c.peek.result c.min-ahead.result k window c.peek.type_inv (omega (arith, c.min-count.ensures, c.from.ensures, c.if-count-ahead.true)) c.if-count-ahead.true (omega (arith, c.min-ahead.ensures)) in
-    let both = zeros_and_one k left (c.args.most - z) s (omega (arith, c.if-count-ahead.true, c.min-ahead.ensures, c.min-in-loop-zeros.ensures, c.min.ensures))
-    (omega (arith, c.if-count-ahead.true, c.min-ahead.ensures, c.min-in-loop-zeros.ensures)) split in
-    let passed = Takes-skip left (k + 1) (omega (arith, c.if-count-ahead.true, c.min-ahead.ensures, c.min-in-loop-zeros.ensures, c.min.ensures))
-    (omega (arith, c.if-count-ahead.true, c.min-ahead.ensures, c.min-in-loop-zeros.ensures, c.min.ensures, c.left.ensures.count)) c.skip.ensures in
-    let place : c.args.most - z - k - 1 ≡ c.args.most - (z + k) - 1 = omega arith in
-    let same = ap (λ n. tail_bits (left - k - 1) n (drop (k + 1) s)) place ∙ ap (tail_bits (left - k - 1) (c.args.most - (z + k) - 1)) (sym (Takes-rest passed)) in
-    omega (arith, both.0, same, c.loop-zeros.invariant.passes.sum, c.loop-zeros.invariant.passes.within, passed.spent)
+-- what was passed
+taken_of : {old now : Reader} {budget left more needed : ℕ} → Passes old now budget left more needed → Takes old now budget left (budget - left)
+taken_of passes = record { enough = passes.enough; place = passes.place; all = passes.all; spent = omega (arith, passes.within) }
 
-pub returns-then-count-ahead-clause-digits : goal.returns-then-count-ahead-clause-digits
-returns-then-count-ahead-clause-digits c =
+pub returns-then-count-ahead-clause-read : goal.returns-then-count-ahead-clause-read
+returns-then-count-ahead-clause-read c =
     let z = c.loop-zeros.zeros in
     let left = c.loop-zeros.left in
     let k = c.min-count.result in
@@ -50,10 +38,18 @@ returns-then-count-ahead-clause-digits c =
     let passed = Takes-skip left (k + 1) (omega (arith, c.if-count-ahead.true, c.min-ahead.ensures, c.min-in-loop-zeros.ensures, c.min.ensures))
     (omega (arith, c.if-count-ahead.true, c.min-ahead.ensures, c.min-in-loop-zeros.ensures, c.min.ensures, c.left.ensures.count)) c.skip.ensures in
     let place : c.args.most - z - k - 1 ≡ c.args.most - (z + k) - 1 = omega arith in
-    let same = ap (λ n. tail_ahead (left - k - 1) n (drop (k + 1) s)) place ∙ ap (tail_ahead (left - k - 1) (c.args.most - (z + k) - 1)) (sym (Takes-rest passed)) in
-    c.loop-zeros.invariant.digits
-    ∙ ap (λ (ds : List Bool). replicate z false ++ ds) (both.1 ∙ ap (λ (ds : List Bool). replicate k false ++ true ∷ ds) same)
-    ∙ replicate_both z k (true ∷ tail_ahead (left - k - 1) (c.args.most - (z + k) - 1) (rest c.skip.new.self))
+    let after : left - (k + 1) ≡ left - k - 1 = omega arith in
+    let bits = ap (λ n. tail_bits (left - k - 1) n (drop (k + 1) s)) place ∙ ap (tail_bits (left - k - 1) (c.args.most - (z + k) - 1)) (sym (Takes-rest passed)) in
+    let digits = ap (λ n. tail_ahead (left - k - 1) n (drop (k + 1) s)) place ∙ ap (tail_ahead (left - k - 1) (c.args.most - (z + k) - 1)) (sym (Takes-rest passed)) in
+    record {
+      within = omega (arith, c.if-count-ahead.true, c.min-ahead.ensures, c.min-in-loop-zeros.ensures);
+      taken = taken_of (Passes-part (tail_bits (left - k - 1) (c.args.most - (z + k) - 1) (rest c.skip.new.self)) c.loop-zeros.invariant.passes (omega (arith, both.0, bits, passed.spent)) (rw after at passed));
+      bits = omega (arith, both.0, bits, c.loop-zeros.invariant.passes.sum, c.loop-zeros.invariant.passes.within, passed.spent);
+      digits =
+          c.loop-zeros.invariant.digits
+          ∙ ap (λ (ds : List Bool). replicate z false ++ ds) (both.1 ∙ ap (λ (ds : List Bool). replicate k false ++ true ∷ ds) digits)
+          ∙ replicate_both z k (true ∷ tail_ahead (left - k - 1) (c.args.most - (z + k) - 1) (rest c.skip.new.self));
+    }
 
 -- ---- only zeros
 
@@ -87,22 +83,22 @@ loop-zeros-preserved c =
 
 -- ---- the one has no bit
 
-pub returns-else-left-gt0-clause-bits : goal.returns-else-left-gt0-clause-bits
-returns-else-left-gt0-clause-bits c =
+pub returns-else-left-gt0-clause-read : goal.returns-else-left-gt0-clause-read
+returns-else-left-gt0-clause-read c =
     let stands = run_stands c.loop-zeros.left (c.args.most - c.loop-zeros.zeros) (rest c.loop-zeros.reader) (omega (arith, c.loop-zeros.invariant.within)) (inl (omega (arith, c.if-left-gt0.false))) in
-    omega (arith, stands.0, c.loop-zeros.invariant.passes.sum)
+    record {
+      within = c.loop-zeros.invariant.within;
+      taken = taken_of c.loop-zeros.invariant.passes;
+      bits = omega (arith, stands.0, c.loop-zeros.invariant.passes.sum);
+      digits = c.loop-zeros.invariant.digits ∙ ap (λ (ds : List Bool). replicate c.loop-zeros.zeros false ++ ds) stands.1;
+    }
 
-pub returns-else-left-gt0-clause-digits : goal.returns-else-left-gt0-clause-digits
-returns-else-left-gt0-clause-digits c =
-    let stands = run_stands c.loop-zeros.left (c.args.most - c.loop-zeros.zeros) (rest c.loop-zeros.reader) (omega (arith, c.loop-zeros.invariant.within)) (inl (omega (arith, c.if-left-gt0.false))) in
-    c.loop-zeros.invariant.digits ∙ ap (λ (ds : List Bool). replicate c.loop-zeros.zeros false ++ ds) stands.1
-
-pub returns-after-loop-zeros-clause-bits : goal.returns-after-loop-zeros-clause-bits
-returns-after-loop-zeros-clause-bits c =
+pub returns-after-loop-zeros-clause-read : goal.returns-after-loop-zeros-clause-read
+returns-after-loop-zeros-clause-read c =
     let stands = run_stands c.loop-zeros.left (c.args.most - c.loop-zeros.zeros) (rest c.loop-zeros.reader) (omega (arith, c.loop-zeros.invariant.within)) (inr (omega (arith, c.loop-zeros-test.false, c.loop-zeros.invariant.within))) in
-    omega (arith, stands.0, c.loop-zeros.invariant.passes.sum)
-
-pub returns-after-loop-zeros-clause-digits : goal.returns-after-loop-zeros-clause-digits
-returns-after-loop-zeros-clause-digits c =
-    let stands = run_stands c.loop-zeros.left (c.args.most - c.loop-zeros.zeros) (rest c.loop-zeros.reader) (omega (arith, c.loop-zeros.invariant.within)) (inr (omega (arith, c.loop-zeros-test.false, c.loop-zeros.invariant.within))) in
-    c.loop-zeros.invariant.digits ∙ ap (λ (ds : List Bool). replicate c.loop-zeros.zeros false ++ ds) stands.1
+    record {
+      within = c.loop-zeros.invariant.within;
+      taken = taken_of c.loop-zeros.invariant.passes;
+      bits = omega (arith, stands.0, c.loop-zeros.invariant.passes.sum);
+      digits = c.loop-zeros.invariant.digits ∙ ap (λ (ds : List Bool). replicate c.loop-zeros.zeros false ++ ds) stands.1;
+    }

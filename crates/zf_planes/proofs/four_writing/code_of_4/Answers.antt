@@ -12,17 +12,13 @@ overflow_sub-entry c =
     let found = code_of_entry c.args.n c.args.digits c.entry_of_pair-entry.result c.requires.in_plane c.requires.digits c.entry_of_pair-entry.ensures in
     omega (arith, c.min-zeros.ensures, found.some)
 
-pub returns-clause-bits : goal.returns-clause-bits
-returns-clause-bits c = rw (c.from.ensures, c.from-2.ensures, c.min-zeros.ensures) (entry c.before).bits
-
-pub returns-clause-small : goal.returns-clause-small
-returns-clause-small c = rw (c.from.ensures, c.from-2.ensures, c.min-zeros.ensures) (entry c.before).small
-
-pub returns-clause-len : goal.returns-clause-len
-returns-clause-len c = omega (arith, c.from-2.ensures, c.min-zeros.ensures, (entry c.before).len)
-
-pub returns-clause-above : goal.returns-clause-above
-returns-clause-above c = (entry c.before).above
+pub returns : goal.returns
+returns c = rw (c.from.ensures, c.from-2.ensures, c.min-zeros.ensures) (record {
+  bits = (entry c.before).bits;
+  small = (entry c.before).small;
+  len = omega (arith, (entry c.before).len);
+  above = (entry c.before).above;
+})
 
 pub invariant_of-result : goal.invariant_of-result
 invariant_of-result c = record { within = omega (arith, (entry c).within) }

@@ -10,17 +10,13 @@ entry c =
     let place : 256 * c.args.n + c.args.string % 256 ≡ 256 * c.args.n + (c.args.string % 16 + 16 * (c.args.string / 16 % 16)) = omega arith in
     pair_of_entry c.args.n (c.args.string % 16) (c.args.string / 16 % 16) c.entry_of_pair-entry.result c.requires.in_plane (omega arith) (omega arith) (c.entry_of_pair-entry.ensures ∙ ap (λ i. get_or PAIRS i 0) place)
 
-pub returns-clause-bits : goal.returns-clause-bits
-returns-clause-bits c = rw (c.from.ensures, c.from-2.ensures) (entry c.before).bits
-
-pub returns-clause-small : goal.returns-clause-small
-returns-clause-small c = rw (c.from.ensures, c.from-2.ensures) (entry c.before).small
-
-pub returns-clause-len : goal.returns-clause-len
-returns-clause-len c = omega (arith, c.from-2.ensures, (entry c.before).len)
-
-pub returns-clause-above : goal.returns-clause-above
-returns-clause-above c = (entry c.before).above
+pub returns : goal.returns
+returns c = rw (c.from.ensures, c.from-2.ensures) (record {
+  bits = (entry c.before).bits;
+  small = (entry c.before).small;
+  len = omega (arith, (entry c.before).len);
+  above = (entry c.before).above;
+})
 
 pub invariant_of-result : goal.invariant_of-result
 invariant_of-result c = record { within = omega (arith, (entry c).within) }
