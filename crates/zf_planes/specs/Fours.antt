@@ -1,7 +1,8 @@
 -- Planes of four digits in one number.
-use Rattle.std.specs.Prelude.{ℕ, suc, zero, ◌≡◌, ◌^◌, ◌/◌, ◌%◌, ◌<◌, ◌≤◌, min, max, Bool, List, [], ◌∷◌, ◌++◌}
+use Rattle.std.specs.Prelude.{ℕ, suc, zero, ◌≡◌, ◌-◌, ◌^◌, ◌/◌, ◌%◌, ◌<◌, ◌≤◌, min, max, Bool, List, [], ◌∷◌, ◌++◌, length, take}
 use Rattle.zf_spec.specs.Numbers.{field}
-use Rattle.zf_spec.specs.Planes.{plane_code, reach}
+use Rattle.zf_spec.specs.Planes.{plane_code, code_from, reach, reach_of_all}
+use Rattle.zf_bits.specs.Writer.{Writer, Appends}
 
 -- k planes, four bits each, the first plane lowest
 unfoldable pub string_planes : ℕ → ℕ → List (List Bool)
@@ -28,3 +29,17 @@ pub record IsCodeOfTwo (n string l v a : ℕ) : Type 0 where
   pub small : v < 2 ^ l
   pub len : l ≤ 14
   pub above : a ≡ max (max n (reach (field 4 (string % 16)))) (reach (field 4 (string / 16 % 16)))
+
+-- the code of planes is the l bits of v and then that of the others, with ones above that reach to a
+pub record GoesOnBehind (n : ℕ) (planes : List (List Bool)) (l v a : ℕ) (rest : List (List Bool)) : Type 0 where
+  pub bits : code_from n planes ≡ field l v ++ code_from a rest
+  pub reached : max n (reach_of_all planes) ≡ max a (reach_of_all rest)
+  pub len : l ≤ 64
+
+-- the code of planes was written, as far as `left` bits reach, of which `after` are left; if there are any, the
+-- ones reach to a, where three stands for four too
+pub record WritesPlanes (left after n a : ℕ) (old new : Writer) (planes : List (List Bool)) : Type 0 where
+  pub bits : Appends old new (take left (code_from n planes))
+  pub left_over : after ≡ left - length (code_from n planes)
+  pub within : a ≤ 4
+  pub reached : 0 < after → IsAsGood a (max n (reach_of_all planes))

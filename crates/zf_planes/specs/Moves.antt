@@ -1,10 +1,11 @@
 -- What was read between two cursors.
-use Rattle.std.specs.Prelude.{ℕ, ◌≡◌, max, List, [], ◌∷◌}
+use Rattle.std.specs.Prelude.{ℕ, ◌≡◌, ◌+◌, ◌-◌, max, All, false, List, [], ◌∷◌, ◌++◌, length, take, drop, replicate}
 use Rattle.zf_spec.specs.Planes.{reach}
+use Rattle.zf_spec.specs.HeldPlanes.{planes_held, IsClearFrom}
 use Rattle.zf_bits.specs.Reader.{rest}
 use Rattle.zf_planes.specs.declared.cursor.Cursor.{Cursor}
 use Rattle.zf_planes.specs.declared.in_lanes.PlanesInLanes.{PlanesInLanes}
-use Rattle.zf_planes.specs.Decoding.{plane_ahead, plane_bits, planes_bits, Takes, Lacks, ReadsPlane}
+use Rattle.zf_planes.specs.Decoding.{plane_ahead, plane_bits, planes_ahead, planes_bits, Takes, Lacks, ReadsPlane}
 use Rattle.zf_planes.specs.Lanes.{low_planes, lanes_in, AreBelow, ReadsPlanes, ReadsSome}
 
 -- so many bits were passed
@@ -24,6 +25,17 @@ LacksPlanes count size n old new = Lacks old.reader new.reader
 abbrev pub MovesOverPlane : ℕ → ℕ → Cursor → Cursor → List ℕ → ℕ → Type 0
 MovesOverPlane size n old new words above = ReadsPlane size n old.reader new.reader old.left new.left words
     above
+
+-- planes were read from the one of number `from` on and before that of number i, where those before the p-th
+-- are wanted and no rank from n on has a one; the planes of words before are the planes after with these
+pub record MovesOverSame (size n from p i : ℕ) (old new : Cursor) (before after : List (List ℕ)) : Type 0 where
+  pub taken : Moves old new (old.left - new.left)
+  pub bits : planes_bits old.left (p - from) size n (rest old.reader)
+      ≡ old.left - new.left + planes_bits new.left (p - i) size n (rest new.reader)
+  pub digits : take from (planes_held size before) ++ planes_ahead old.left (p - from) size n (rest old.reader)
+      ≡ take i (planes_held size after) ++ planes_ahead new.left (p - i) size n (rest new.reader)
+  pub behind : drop i (planes_held size after) ≡ replicate (length after - i) (replicate size false)
+  pub clear : All (IsClearFrom size) after
 
 -- the code of one plane of four digits was read, where the ranks below n have had a one above
 pub record MovesOverOne (n : ℕ) (old new : Cursor) (one : PlanesInLanes) : Type 0 where

@@ -5,7 +5,7 @@ ghost use Rattle.zf_spec.specs.Numbers.{field, is_odd};
 ghost use Rattle.zf_spec.specs.Grid.{upto};
 ghost use Rattle.zf_spec.specs.Planes.{planes_of, plane_code, code, code_from, reach, reach_of_all};
 ghost use Rattle.zf_bits.specs.Writer.{Appends};
-ghost use Rattle.zf_planes.specs.Fours.{string_planes, IsAsGood, IsCodeOfOne, IsCodeOfTwo};
+ghost use Rattle.zf_planes.specs.Fours.{string_planes, IsAsGood, IsCodeOfOne, IsCodeOfTwo, GoesOnBehind, WritesPlanes};
 ghost use Rattle.zf_planes.specs.Spread.{top_digit, top_planes, spread, lone_planes, lone_code};
 
 use crate::doubling::{Part, join, write_part};
@@ -158,12 +158,8 @@ fn code_of_two(n: usize, string: u64) -> PlanesCode
 fn next_pairs(left: u64, above: usize, planes: &mut u32, string: &mut u64) -> PlanesCode
     requires above { above ≤ 4 }
     ensures no_more { planes.new ≤ planes.old }
-    ensures len { result.part.len ≤ 64 }
-    ensures bits { code_from above (string_planes planes.old string.old)
-        ≡ field result.part.len result.part.bits ++ code_from result.above
-        (string_planes planes.new string.new) }
-    ensures reached { max above (reach_of_all (string_planes planes.old string.old))
-        ≡ max result.above (reach_of_all (string_planes planes.new string.new)) }
+    ensures rest { GoesOnBehind above (string_planes planes.old string.old) result.part.len result.part.bits
+        result.above (string_planes planes.new string.new) }
 {
     let mut part = Part { bits: 0, len: 0 };
     let mut above = above;
@@ -189,11 +185,7 @@ fn write_rest(left: u64, above: &mut usize, planes: u32, string: u64, out: &mut 
     requires above { above.old ≤ 4 }
     requires few { planes ≤ 16 }
     requires fits { min left (length (code_from above.old (string_planes planes string))) ≤ out.old.room }
-    ensures bits { Appends out.old out.new (take left (code_from above.old (string_planes planes string))) }
-    ensures left { result ≡ left - length (code_from above.old (string_planes planes string)) }
-    ensures within { above.new ≤ 4 }
-    ensures reached { 0 < result → IsAsGood above.new
-        (max above.old (reach_of_all (string_planes planes string))) }
+    ensures { WritesPlanes left result above.old above.new out.old out.new (string_planes planes string) }
 {
     let mut left = left;
     let mut planes = planes;
@@ -220,11 +212,7 @@ fn write_string(left: u64, above: &mut usize, planes: u32, string: u64, out: &mu
     requires above { above.old ≤ 4 }
     requires few { planes ≤ 16 }
     requires fits { min left (length (code_from above.old (string_planes planes string))) ≤ out.old.room }
-    ensures bits { Appends out.old out.new (take left (code_from above.old (string_planes planes string))) }
-    ensures left { result ≡ left - length (code_from above.old (string_planes planes string)) }
-    ensures within { above.new ≤ 4 }
-    ensures reached { 0 < result → IsAsGood above.new
-        (max above.old (reach_of_all (string_planes planes string))) }
+    ensures { WritesPlanes left result above.old above.new out.old out.new (string_planes planes string) }
 {
     let mut planes = planes;
     let mut string = string;

@@ -9,8 +9,8 @@ ghost use Rattle.zf_spec.specs.HeldPlanes.{planes_held, IsClearFrom};
 ghost use Rattle.zf_planes.specs.WordPlanes.{IsReadAs};
 ghost use Rattle.zf_bits.specs.Reader.{rest};
 ghost use Rattle.zf_planes.specs.Sizes.{IsWordSize, HasBlanks};
-ghost use Rattle.zf_planes.specs.Moves.{Moves, LacksPlane, MovesOverPlane};
-ghost use Rattle.zf_planes.specs.Decoding.{planes_ahead, planes_bits, ReadsTop};
+ghost use Rattle.zf_planes.specs.Moves.{LacksPlane, MovesOverPlane, MovesOverSame};
+ghost use Rattle.zf_planes.specs.Decoding.{planes_bits, ReadsTop};
 
 use crate::cursor::Cursor;
 use crate::decoding::{PlaneRead, read_by_runs};
@@ -64,17 +64,8 @@ pub(crate) fn read_same<P: Plane>(
     requires clear { All (IsClearFrom size) (map P.words planes.old) }
     ensures some { from < result }
     ensures within { result ≤ to }
-    ensures taken { Moves cursor.old cursor.new (cursor.old.left - cursor.new.left) }
-    ensures bits { planes_bits cursor.old.left (to - from) size n (rest cursor.old.reader)
-        ≡ cursor.old.left - cursor.new.left + planes_bits cursor.new.left (to - result) size n
-        (rest cursor.new.reader) }
-    ensures digits { take from (planes_held size (map P.words planes.old))
-        ++ planes_ahead cursor.old.left (to - from) size n (rest cursor.old.reader)
-        ≡ take result (planes_held size (map P.words planes.new))
-        ++ planes_ahead cursor.new.left (to - result) size n (rest cursor.new.reader) }
-    ensures behind { drop result (planes_held size (map P.words planes.new))
-        ≡ replicate (length (map P.words planes.new) - result) (replicate size false) }
-    ensures clear { All (IsClearFrom size) (map P.words planes.new) }
+    ensures read { MovesOverSame size n from to result cursor.old cursor.new (map P.words planes.old)
+        (map P.words planes.new) }
     ensures long { length planes.new ≡ length planes.old }
 {
     // Values of their own, which the loop holds in registers.

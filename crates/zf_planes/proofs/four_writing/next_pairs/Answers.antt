@@ -22,3 +22,6 @@ loop-above-preserved c =
       bits = both.code;
       reached = both.reached;
     }
+
+pub returns-clause-rest : goal.returns-clause-rest
+returns-clause-rest c = record { bits = c.loop-above.invariant.bits; reached = c.loop-above.invariant.reached; len = c.loop-above.invariant.len }

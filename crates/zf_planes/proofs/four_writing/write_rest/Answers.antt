@@ -60,23 +60,21 @@ write_part-requires-clause-fits c =
     let len = 4 * c.from.result in
     omega (arith, Remains-fits (field len c.loop-planes.string) [] (rest_is c), length-field len c.loop-planes.string)
 
-pub returns-clause-bits : goal.returns-clause-bits
-returns-clause-bits c =
+pub returns : goal.returns
+returns c =
     let len = 4 * c.from.result in
-    Remains-end (Remains-more (field len c.loop-planes.string) [] (rest_is c.before) c.write_part.ensures.bits) (omega arith)
-
-pub returns-clause-left : goal.returns-clause-left
-returns-clause-left c =
-    let len = 4 * c.from.result in
-    omega (arith, (Remains-more (field len c.loop-planes.string) [] (rest_is c.before) c.write_part.ensures.bits).spent, c.write_part.ensures.left, length-field len c.loop-planes.string)
-
-pub returns-clause-reached : goal.returns-clause-reached
-returns-clause-reached c = λ some.
     let now = c.loop-planes in
-    elim c.loop-planes-test.branch [
-      | then-loop-planes-test+then-left-gt0+else-above-lt3 w ↦ omega (arith, w.if-above-lt3.false, now.invariant.reached)
-      | then-loop-planes-test+else-left-gt0 w ↦ absurd (omega (arith, w.if-left-gt0.false, c.write_part.ensures.left))
-      | else-loop-planes-test w ↦
-          let none = string_end now.planes now.above now.string w.loop-planes-test.false in
-          omega (arith, now.invariant.reached, none.1)
-    ]
+    let all = Remains-more (field len c.loop-planes.string) [] (rest_is c.before) c.write_part.ensures.bits in
+    record {
+      bits = Remains-end all (omega arith);
+      left_over = omega (arith, all.spent, c.write_part.ensures.left, length-field len c.loop-planes.string);
+      within = now.invariant.above;
+      reached = λ some.
+          elim c.loop-planes-test.branch [
+            | then-loop-planes-test+then-left-gt0+else-above-lt3 w ↦ omega (arith, w.if-above-lt3.false, now.invariant.reached)
+            | then-loop-planes-test+else-left-gt0 w ↦ absurd (omega (arith, w.if-left-gt0.false, c.write_part.ensures.left))
+            | else-loop-planes-test w ↦
+                let none = string_end now.planes now.above now.string w.loop-planes-test.false in
+                omega (arith, now.invariant.reached, none.1)
+          ];
+    }

@@ -74,7 +74,7 @@ loop-planes-preserved c =
     let count = c.min-count.result in
     let string = c.string_of-string.result in
     let remains = next_string now.above now.planes count string now.words now.invariant.few c.min-count.ensures c.string_of-string.ensures now.invariant.remains in
-    let written = rw (← c.write_string-left.ensures.left) at (Remains-more (code_from now.above (string_planes count string)) _ remains c.write_string-left.ensures.bits) in
+    let written = rw (← c.write_string-left.ensures.left_over) at (Remains-more (code_from now.above (string_planes count string)) _ remains c.write_string-left.ensures.bits) in
     let words = rw (← c.below_top-words-in-loop-planes.ensures) at written in
     record {
       remains = Remains-above c.write_string-left.new.above (max now.above (reach_of_all (string_planes count string))) (top_planes (now.planes - count) c.below_top-words-in-loop-planes.result) c.write_string-left.ensures.reached c.write_string-left.ensures.within (omega (arith, now.invariant.above, reach_of_string-le count string)) (top_planes-sizes (now.planes - count) c.below_top-words-in-loop-planes.result (omega arith)) words;

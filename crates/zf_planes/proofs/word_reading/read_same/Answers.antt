@@ -70,10 +70,19 @@ invariant_of-cursor g c =
     let taken = Takes-skip now.left (now.count - c.loop-i.count) (omega (arith, now.window.within)) (omega (arith, window_long (rest now.reader) now.bits now.count now.window.bits)) c.skip.ensures in
     record { window = rw (Takes-rest taken) c.loop-i.invariant.window }
 
-pub returns-clause-taken : goal.returns-clause-taken
-returns-clause-taken g c =
+pub returns-clause-read : goal.returns-clause-read
+returns-clause-read g c =
     let now = c.args.cursor.now in
     let passed = now.count - c.loop-i.count in
     let taken = Takes-skip now.left passed (omega (arith, now.window.within)) (omega (arith, window_long (rest now.reader) now.bits now.count now.window.bits)) c.skip.ensures in
     let Taken : ℕ → Type 0 = λ k. Takes now.reader c.skip.new.self now.left (now.left - passed) k in
-    subst Taken (omega (arith, now.window.within)) taken
+    let count : passed ≡ now.left - (now.left - passed) = omega (arith, now.window.within) in
+    let before = c.loop-i.invariant in
+    let behind = Takes-rest taken in
+    record {
+      taken = subst Taken count taken;
+      bits = rw behind (omega (arith, before.bits, count));
+      digits = rw behind before.digits;
+      behind = before.behind;
+      clear = before.clear;
+    }
