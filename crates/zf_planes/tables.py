@@ -3,8 +3,8 @@
 
     python3 crates/zf_planes/tables.py [TABLE]
 
-With the name of a table, such as PAIRS, it prints its rows. Else it compares each table with the one in src/, and says which are the same. A table stands
-in a file of its own there, with the rule of its entries above it.
+With the name of a table, such as PAIRS, it prints its rows. Else it compares each table with the one in src/entries.rt, and says which are the same. There
+the rule of the entries stands above each.
 """
 
 import pathlib
@@ -137,7 +137,7 @@ def rows_of(name):
 
 
 def in_source(name):
-    text = (HERE / "src" / f"{name.lower()}_table.rt").read_text()
+    text = (HERE / "src" / "entries.rt").read_text()
     return re.search(rf"static {name}: .*? = table! \{{\n(.*?)\n\}};", text, re.S)[1]
 
 

@@ -13,7 +13,7 @@ use Rattle.zf_spec.proofs.Full.{tail-some}
 use Rattle.zf_bits.proofs.Fields.{take-field, drop-field, field_more}
 use Rattle.zf_spec.proofs.Reach.{has_one-zeros}
 use Rattle.zf_planes.specs.Doubled.{doubled}
-use Rattle.zf_planes.specs.declared.doubled_table.TheConstants.{DOUBLED}
+use Rattle.zf_planes.specs.declared.entries.TheConstants.{DOUBLED}
 use Rattle.zf_planes.proofs.Tables.{same_digits, same_digits-true, each_below, each_below-true}
 
 -- ---- digits of a run before others

@@ -9,7 +9,7 @@ use Rattle.zf_planes.specs.Decoding.{planes_ahead, planes_bits}
 use Rattle.zf_planes.specs.Lanes.{low_planes, lanes_in, lanes_apart, AreBelow, AreInSight, AreAtEnd}
 use Rattle.zf_planes.proofs.LanesAhead.{planes_bits-le}
 use Rattle.zf_planes.proofs.Tables.{same_digits, same_digits-true, each_below, each_below-true}
-use Rattle.zf_planes.specs.declared.lanes_table.TheConstants.{LANES}
+use Rattle.zf_planes.specs.declared.entries.TheConstants.{LANES}
 
 -- ---- tests that compute
 

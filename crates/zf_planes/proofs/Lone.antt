@@ -11,7 +11,7 @@ use Rattle.zf_spec.specs.Numbers.{field, is_odd, digit_value}
 use Rattle.zf_spec.specs.Grid.{count_from, upto}
 use Rattle.zf_spec.specs.Planes.{code_from, reach_of_all}
 use Rattle.zf_planes.specs.Spread.{top_digit, top_planes, spread, lone_planes, lone_code}
-use Rattle.zf_planes.specs.declared.spread_table.TheConstants.{SPREAD}
+use Rattle.zf_planes.specs.declared.entries.TheConstants.{SPREAD}
 use Rattle.zf_spec.proofs.Fields.{field-add, is_odd-digit_value}
 use Rattle.zf_bits.proofs.Fields.{digit_value_le}
 use Rattle.zf_planes.proofs.Tables.{each_below, each_below-true}

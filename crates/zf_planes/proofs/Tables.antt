@@ -3,7 +3,7 @@ use Rattle.std.proofs.Common.{◌≡◌, ℕ, zero, suc, ◌+◌, ◌-◌, ◌*�
 use Rattle.std.proofs.lemmas.Bool.{cases_lt, false≢true, and_parts, eqb-true, ltb-true}
 use Rattle.zf_spec.specs.Numbers.{field}
 use Rattle.zf_spec.specs.Planes.{plane_code, reach}
-use Rattle.zf_planes.specs.declared.pairs_table.TheConstants.{PAIRS}
+use Rattle.zf_planes.specs.declared.entries.TheConstants.{PAIRS}
 
 -- ---- tests that compute
 

@@ -11,7 +11,7 @@ use Rattle.zf_spec.proofs.Full.{tail-some}
 use Rattle.zf_bits.proofs.Fields as wide
 use Rattle.zf_bits.proofs.Fields.{field_more}
 use Rattle.zf_planes.specs.WordPlanes.{IsReadAs}
-use Rattle.zf_planes.specs.declared.tails_table.TheConstants.{TAILS}
+use Rattle.zf_planes.specs.declared.entries.TheConstants.{TAILS}
 use Rattle.zf_planes.proofs.Tables.{same_digits, same_digits-true, each_below, each_below-true}
 use Rattle.zf_planes.proofs.Placing.{reach_behind}
 use Rattle.zf_planes.proofs.Gathering.{bits_behind, small_behind}

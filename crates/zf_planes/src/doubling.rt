@@ -6,7 +6,7 @@ ghost use Rattle.zf_spec.specs.Planes.{code_from_run, plane_code};
 ghost use Rattle.zf_bits.specs.Writer.{Appends};
 ghost use Rattle.zf_planes.specs.Doubled.{doubled};
 
-use crate::doubled_table::doubled_entry;
+use crate::entries::doubled_entry;
 use zf_bits::BitWriter;
 
 /// Bits of a code.

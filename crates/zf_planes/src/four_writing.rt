@@ -9,8 +9,7 @@ ghost use Rattle.zf_planes.specs.Fours.{string_planes, IsAsGood, IsCodeOfOne, Is
 ghost use Rattle.zf_planes.specs.Spread.{top_digit, top_planes, spread, lone_planes, lone_code};
 
 use crate::doubling::{Part, join, write_part};
-use crate::pairs_table::entry_of_pair;
-use crate::spread_table::spread_entry;
+use crate::entries::{entry_of_pair, spread_entry};
 use zf_bits::BitWriter;
 
 /// The code of planes.

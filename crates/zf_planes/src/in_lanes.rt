@@ -5,7 +5,7 @@ ghost use Rattle.zf_spec.specs.Numbers.{field};
 ghost use Rattle.zf_planes.specs.Fours.{string_planes};
 ghost use Rattle.zf_planes.specs.Lanes.{low_planes, lanes_in, lanes_apart, AreBelow, AreInSight, AreAtEnd, AreLoneInSight};
 
-use crate::lanes_table::entry_of_lanes;
+use crate::entries::entry_of_lanes;
 
 /// The digits of a plane of four, each in a lane.
 #[inline]

@@ -5,7 +5,7 @@ ghost use Rattle.std.specs.Prelude.{◌≡◌, ◌+◌, ◌-◌, ◌*◌, ◌/�
 ghost use Rattle.zf_planes.specs.WordPlanes.{IsReadAs};
 ghost use Rattle.zf_planes.specs.Sizes.{IsWordSize};
 
-use crate::tails_table::tail_entry;
+use crate::entries::tail_entry;
 
 /// A plane in one word.
 #[derive(Clone, Copy)]

@@ -4,7 +4,7 @@ use Rattle.std.proofs.lemmas.Nat.{one_shl, pow_pos}
 use Rattle.zf_spec.specs.Numbers.{field}
 use Rattle.zf_spec.proofs.Fields.{field-mod}
 use Rattle.zf_planes.specs.Decoding.{planes_ahead, planes_bits}
-use Rattle.zf_planes.specs.declared.lanes_table.TheConstants.{LANES}
+use Rattle.zf_planes.specs.declared.entries.TheConstants.{LANES}
 use Rattle.zf_planes.specs.Lanes.{lanes_apart, AreAtEnd}
 use Rattle.zf_planes.proofs.LaneTables.{end_entry, last_of_entry}
 use Rattle.zf_planes.proofs.in_lanes.planes_at_end.Goals.{After-min}
