@@ -1,9 +1,9 @@
 -- Digits of four coefficients in words, and in four lanes of one word.
-use Rattle.std.specs.Prelude.{ℕ, suc, zero, ◌≡◌, ◌+◌, ◌-◌, ◌*◌, ◌/◌, ◌%◌, ◌^◌, ◌<◌, ◌≤◌, max, Bool, List, [], ◌∷◌, ◌++◌, length, map}
+use Rattle.std.specs.Prelude.{ℕ, suc, zero, ◌≡◌, ◌+◌, ◌-◌, ◌*◌, ◌/◌, ◌%◌, ◌^◌, ◌<◌, ◌≤◌, max, Bool, false, List, [], ◌∷◌, ◌++◌, length, map, replicate}
 use Rattle.zf_spec.specs.Numbers.{is_odd, field}
 use Rattle.zf_spec.specs.Planes.{code_from, reach_of_all}
 use Rattle.zf_bits.specs.Reader.{Reader, rest}
-use Rattle.zf_planes.specs.Decoding.{planes_ahead, planes_bits, Takes}
+use Rattle.zf_planes.specs.Decoding.{planes_ahead, planes_bits, Takes, IsSpent}
 
 -- the planes of the c lowest digits of each word, the greatest first
 unfoldable pub low_planes : ℕ → List ℕ → List (List Bool)
@@ -76,6 +76,17 @@ pub record AreLoneInSight (p b k c v l a : ℕ) : Type 0 where
   pub some : 0 < l
   pub len : l ≤ k
   pub above : a ≡ 1
+
+-- the code of the top p planes, which these bits begin with, was read: the first planes are gathered, the
+-- others are zero, and so much of the budget is left
+pub record ReadsGathered (budget p : ℕ) (s : List Bool) (after : ℕ) (words : List ℕ) (done v h : ℕ) : Type 0
+  where
+    pub bits : IsSpent budget after (planes_bits budget p 4 0 s) s
+    pub gathering : IsGathered words done v h
+    pub within : done + h ≤ p
+    pub held : h ≤ 12
+    pub digits : planes_ahead budget p 4 0 s ≡ gathered words done v h
+        ++ replicate (p - (done + h)) (replicate 4 false)
 
 -- ---- planes that were read
 

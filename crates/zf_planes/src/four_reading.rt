@@ -6,8 +6,8 @@ ghost use Rattle.zf_spec.specs.Planes.{planes_of};
 ghost use Rattle.zf_spec.specs.Kept.{kept_planes};
 ghost use Rattle.zf_bits.specs.Reader.{rest, Reads};
 ghost use Rattle.zf_planes.specs.Moves.{LacksPlane, LacksPlanes, MovesOverOne, MovesOverPlanes, MovesOverSome};
-ghost use Rattle.zf_planes.specs.Decoding.{coded, coded_bits, planes_ahead, planes_bits, IsSpent};
-ghost use Rattle.zf_planes.specs.Lanes.{low_planes, lanes_in, AreBelow, IsGathered, gathered, ReadsPlanes};
+ghost use Rattle.zf_planes.specs.Decoding.{coded, coded_bits, planes_bits};
+ghost use Rattle.zf_planes.specs.Lanes.{low_planes, lanes_in, AreBelow, IsGathered, gathered, ReadsPlanes, ReadsGathered};
 
 use crate::cursor::Cursor;
 use crate::decoding::read_by_runs;
@@ -287,15 +287,8 @@ struct ReadDigits {
 fn read_gathered(budget: u64, prec: u32, reader: &BitReader<'_>) -> Option<ReadDigits>
     requires planes { prec ≤ 64 }
     ensures short { IfNone result (length (rest reader.now) < planes_bits budget prec 4 0 (rest reader.now)) }
-    ensures bits { IfSome result (λ read. IsSpent budget read.left (planes_bits budget prec 4 0
-        (rest reader.now)) (rest reader.now)) }
-    ensures gathered { IfSome result (λ read. IsGathered read.digits.words read.digits.done read.digits.lanes
-        read.digits.held) }
-    ensures within { IfSome result (λ read. read.digits.done + read.digits.held ≤ prec) }
-    ensures held { IfSome result (λ read. read.digits.held ≤ 12) }
-    ensures digits { IfSome result (λ read. planes_ahead budget prec 4 0 (rest reader.now)
-        ≡ gathered read.digits.words read.digits.done read.digits.lanes read.digits.held
-        ++ replicate (prec - (read.digits.done + read.digits.held)) (replicate 4 false)) }
+    ensures read { IfSome result (λ read. ReadsGathered budget prec (rest reader.now) read.left
+        read.digits.words read.digits.done read.digits.lanes read.digits.held) }
 {
     let mut cursor = Cursor::new(budget, reader);
     let zeros = cursor.pass_zero_planes(prec);

@@ -11,18 +11,18 @@ use Rattle.zf_planes.proofs.four_reading.read_four.Goals as goal
 -- ---- the bits are there
 
 pub overflow_sub-count : goal.overflow_sub-count
-overflow_sub-count c = omega (arith, c.in_ok-read.ensures.bits.spent)
+overflow_sub-count c = omega (arith, c.in_ok-read.ensures.read.bits.spent)
 
 pub skip-requires : goal.skip-requires
-skip-requires c = let bits = c.in_ok-read.ensures.bits in omega (arith, bits.spent, bits.enough)
+skip-requires c = let bits = c.in_ok-read.ensures.read.bits in omega (arith, bits.spent, bits.enough)
 
 pub returns-clause-short : goal.returns-clause-short
 returns-clause-short c =
-    let enough = (spent_on _ _ c.args.prec 4 _ c.in_ok-read.ensures.bits).enough in
+    let enough = (spent_on _ _ c.args.prec 4 _ c.in_ok-read.ensures.read.bits).enough in
     (λ (no : true ≡ false). cc, λ few. absurd (omega arith))
 
 pub returns-clause-count : goal.returns-clause-count
-returns-clause-count c = omega (arith, (spent_on _ _ c.args.prec 4 _ c.in_ok-read.ensures.bits).spent)
+returns-clause-count c = omega (arith, (spent_on _ _ c.args.prec 4 _ c.in_ok-read.ensures.read.bits).spent)
 
 -- the planes that were read, and zeros down to the last one
 with_zeros : (prefix planes whole : List (List Bool)) (n prec width : ℕ) → n ≤ prec → prec ≤ width → planes ≡ prefix ++ replicate (prec - n) (replicate 4 false) → planes ≡ whole
@@ -42,7 +42,7 @@ returns-clause-digits c =
     planes_of-words c.args.width c.digits_of.result
     ∙ c.digits_of.ensures.planes
     ∙ with_zeros (gathered read.words read.done read.lanes read.held) (planes_ahead c.args.budget c.args.prec 4 0 s) (kept_planes c.args.budget (coded c.args.budget c.args.prec 4 s)) (read.done + read.held) c.args.prec c.args.width
-    c.in_ok-read.ensures.within c.requires.planes c.in_ok-read.ensures.digits (planes_are c.args.budget c.args.prec 4 s)
+    c.in_ok-read.ensures.read.within c.requires.planes c.in_ok-read.ensures.read.digits (planes_are c.args.budget c.args.prec 4 s)
 
 pub returns-clause-below : goal.returns-clause-below
 returns-clause-below c = each_below c.args.width c.digits_of.result c.digits_of.ensures.below

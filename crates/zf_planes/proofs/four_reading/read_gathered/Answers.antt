@@ -90,14 +90,14 @@ over {start} {now} {budget} {left} {prec} {above} {words} {done} {lanes} {held} 
     let taken = Passes-end read.passes none_left.0 in
     (record { enough = taken.enough; spent = taken.spent }, read.planes ∙ ap (λ (ps : List (List Bool)). gathered words done lanes held ++ ps) none_left.1)
 
-pub returns-else-cursor-gt0-clause-bits : goal.returns-else-cursor-gt0-clause-bits
-returns-else-cursor-gt0-clause-bits c = (over c.loop-digits.invariant.read (inl (omega (arith, c.if-cursor-gt0.false)))).0
+pub returns-else-cursor-gt0-clause-read : goal.returns-else-cursor-gt0-clause-read
+returns-else-cursor-gt0-clause-read c =
+    let read = c.loop-digits.invariant.read in
+    let all = over read (inl (omega (arith, c.if-cursor-gt0.false))) in
+    record { bits = all.0; gathering = read.put; within = read.within; held = read.few; digits = all.1 }
 
-pub returns-after-loop-digits-clause-bits : goal.returns-after-loop-digits-clause-bits
-returns-after-loop-digits-clause-bits c = (over c.loop-digits.invariant.read (inr (omega (arith, c.loop-digits-test.false)))).0
-
-pub returns-else-cursor-gt0-clause-digits : goal.returns-else-cursor-gt0-clause-digits
-returns-else-cursor-gt0-clause-digits c = (over c.loop-digits.invariant.read (inl (omega (arith, c.if-cursor-gt0.false)))).1
-
-pub returns-after-loop-digits-clause-digits : goal.returns-after-loop-digits-clause-digits
-returns-after-loop-digits-clause-digits c = (over c.loop-digits.invariant.read (inr (omega (arith, c.loop-digits-test.false)))).1
+pub returns-after-loop-digits-clause-read : goal.returns-after-loop-digits-clause-read
+returns-after-loop-digits-clause-read c =
+    let read = c.loop-digits.invariant.read in
+    let all = over read (inr (omega (arith, c.loop-digits-test.false))) in
+    record { bits = all.0; gathering = read.put; within = read.within; held = read.few; digits = all.1 }
