@@ -185,28 +185,6 @@ pub(crate) fn read_by_runs<P: Plane>(
     read_tail(n, size, prefix, cursor)
 }
 
-/// Reads the code of the top `prec` planes. All are zero before, and the other planes stay so. Each usual
-/// size of planes in one word has a program of its own. The answer is what is left of the budget.
-fn read_top<P: Plane>(
-    budget: u64,
-    prec: u32,
-    size: usize,
-    reader: &BitReader<'_>,
-    planes: &mut [P],
-) -> Option<u64>
-    requires planes { HasBlanks size prec P.word_count (length planes.old) (map P.words planes.old) }
-    ensures short { IfNone result (length (rest reader.now)
-        < planes_bits budget prec size 0 (rest reader.now)) }
-    ensures read { IfSome result (λ left. ReadsTop budget prec size (rest reader.now)
-        (map P.words planes.new) left) }
-{
-    match size {
-        16 => read_by_kinds(budget, prec, 16, reader, planes),
-        64 => read_by_kinds(budget, prec, 64, reader, planes),
-        _ => read_by_kinds(budget, prec, size, reader, planes),
-    }
-}
-
 /// Reads the code of the top `prec` planes, of which `budget` bits were written, or all of it where it is
 /// shorter. The answer is the number of its bits. `None` means that the bits end before the budget and the
 /// code do; then the reader stands where it stood, and the planes hold anything. They are zero before, so
@@ -235,7 +213,12 @@ pub fn read_planes<P: Plane>(
         ++ replicate (length planes.new - prec) (replicate size false)) }
     ensures clear { OnSome result (All (IsClearFrom size) (map P.words planes.new)) }
 {
-    let left = read_top(budget, prec, size, reader, planes)?;
+    // Each usual size of planes in one word has a program of its own.
+    let left = match size {
+        16 => read_by_kinds(budget, prec, 16, reader, planes)?,
+        64 => read_by_kinds(budget, prec, 64, reader, planes)?,
+        _ => read_by_kinds(budget, prec, size, reader, planes)?,
+    };
     let count = budget - left;
     reader.skip(count);
     Some(count)
