@@ -1,5 +1,5 @@
 -- Digits of words from the top: the greatest first.
-use Rattle.std.specs.Prelude.{ℕ, suc, zero, ◌+◌, ◌-◌, ◌*◌, ◌/◌, ◌^◌, Bool, false, List, [], ◌∷◌, map}
+use Rattle.std.specs.Prelude.{ℕ, suc, zero, ◌≡◌, ◌<◌, ◌≤◌, ◌+◌, ◌-◌, ◌*◌, ◌/◌, ◌^◌, Bool, true, false, List, [], ◌∷◌, map, slice_index_or}
 use Rattle.zf_spec.specs.Numbers.{is_odd, digit_value}
 use Rattle.zf_spec.specs.Grid.{upto}
 
@@ -25,3 +25,10 @@ lone_planes ds = map (λ d. d ∷ false ∷ false ∷ false ∷ []) ds
 abbrev pub lone_code : List Bool → List Bool
 lone_code [] = []
 lone_code (d ∷ ds) = d ∷ false ∷ lone_code ds
+
+-- in the top c of p planes, at most sixteen, the first rank alone has ones, and it has one in the first of them
+pub record AreLoneAtTop (p : ℕ) (words : List ℕ) (c : ℕ) : Type 0 where
+  pub most : c ≤ p
+  pub few : c ≤ 16
+  pub first : 0 < c → top_digit (slice_index_or words 0 0) 0 ≡ true
+  pub lone : top_planes c words ≡ lone_planes (map (top_digit (slice_index_or words 0 0)) (upto c))

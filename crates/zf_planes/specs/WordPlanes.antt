@@ -1,7 +1,7 @@
 -- Planes of up to 64 digits by the bits of their code.
-use Rattle.std.specs.Prelude.{ℕ, ◌≡◌, ◌+◌, ◌^◌, ◌<◌, ◌≤◌, max}
+use Rattle.std.specs.Prelude.{ℕ, ◌≡◌, ◌+◌, ◌^◌, ◌<◌, ◌≤◌, max, Bool, List, ◌++◌, drop}
 use Rattle.zf_spec.specs.Numbers.{field}
-use Rattle.zf_spec.specs.Planes.{plane_code, reach}
+use Rattle.zf_spec.specs.Planes.{plane_code, code_from, reach}
 
 -- where the ranks below n have had a one above, the code of the plane of these digits has so many bits and
 -- begins these bits, and its ones and those above reach so far
@@ -18,3 +18,12 @@ pub record IsPlainCode (n size digits l bits : ℕ) : Type 0 where
   pub len : l ≤ 64
   pub shorter : n < size → l ≡ n + 1
   pub same : max n (reach (field size digits)) ≡ n
+
+-- of p planes, the code of those from the one of number `from` on is the l bits of v, and behind them that of
+-- those from the i-th on; so far do the ones above these reach
+pub record AreBegun (from p : ℕ) (planes : List (List Bool)) (l v a i : ℕ) : Type 0 where
+  pub code : code_from 0 (drop from planes) ≡ field l v ++ code_from a (drop i planes)
+  pub small : v < 2 ^ l
+  pub len : l ≤ 64
+  pub above : a ≤ 1
+  pub next : i ≤ p

@@ -6,7 +6,7 @@ ghost use Rattle.zf_spec.specs.Grid.{upto};
 ghost use Rattle.zf_spec.specs.Planes.{planes_of, plane_code, code, code_from, reach, reach_of_all};
 ghost use Rattle.zf_bits.specs.Writer.{Appends};
 ghost use Rattle.zf_planes.specs.Fours.{string_planes, IsAsGood, IsCodeOfOne, IsCodeOfTwo, GoesOnBehind, WritesPlanes};
-ghost use Rattle.zf_planes.specs.Spread.{top_digit, top_planes, spread, lone_planes, lone_code};
+ghost use Rattle.zf_planes.specs.Spread.{top_digit, top_planes, spread, lone_code, AreLoneAtTop};
 
 use crate::doubling::{Part, join, write_part};
 use crate::entries::{entry_of_pair, spread_entry};
@@ -91,11 +91,7 @@ fn pairs_of_top(word: u64) -> u64
 /// first of them.
 #[inline(always)]
 fn count_of_lone(planes: u32, words: &[u64; 4]) -> u32
-    ensures most { result ≤ planes }
-    ensures few { result ≤ 16 }
-    ensures first { 0 < result → top_digit (slice_index_or words.now 0 0) 0 ≡ true }
-    ensures lone { top_planes result words.now ≡ lone_planes
-        (map (top_digit (slice_index_or words.now 0 0)) (upto result)) }
+    ensures { AreLoneAtTop planes words.now result }
 {
     let [first, second, third, fourth] = *words;
     if first >> 63 == 0 {

@@ -6,7 +6,7 @@ ghost use Rattle.zf_spec.specs.Planes.{plane_code, code_from, reach};
 ghost use Rattle.zf_spec.specs.HeldPlanes.{planes_held};
 ghost use Rattle.zf_bits.specs.Writer.{Appends};
 ghost use Rattle.zf_planes.specs.Sizes.{IsWordSize};
-ghost use Rattle.zf_planes.specs.WordPlanes.{IsPlainCode};
+ghost use Rattle.zf_planes.specs.WordPlanes.{IsPlainCode, AreBegun};
 
 use crate::doubling::{Part, join, write_part, write_with};
 use crate::words::{first_word, reach_in};
@@ -57,13 +57,8 @@ fn lone_planes<P: Plane>(from: usize, prec: u32, size: usize, planes: &[P]) -> B
     requires size { size ≤ 64 }
     requires planes { prec ≤ length planes.now }
     requires from { from ≤ prec }
-    ensures code { code_from 0 (drop from (take prec (planes_held size (map P.words planes.now))))
-        ≡ field result.part.len result.part.bits ++ code_from result.above
-        (drop result.next (take prec (planes_held size (map P.words planes.now)))) }
-    ensures small { result.part.bits < 2 ^ result.part.len }
-    ensures len { result.part.len ≤ 64 }
-    ensures above { result.above ≤ 1 }
-    ensures next { result.next ≤ prec }
+    ensures { AreBegun from prec (take prec (planes_held size (map P.words planes.now))) result.part.len
+        result.part.bits result.above result.next }
 {
     let none = Begun {
         part: Part { bits: 0, len: 0 },
