@@ -5,6 +5,7 @@ ghost use Rattle.zf_spec.specs.Numbers.{field};
 ghost use Rattle.zf_spec.specs.Planes.{code_from_run, plane_code};
 ghost use Rattle.zf_bits.specs.Writer.{Appends};
 ghost use Rattle.zf_planes.specs.Doubled.{doubled};
+ghost use Rattle.zf_planes.specs.Writes.{Writes};
 
 use crate::entries::doubled_entry;
 use zf_bits::BitWriter;
@@ -94,9 +95,8 @@ fn write_run(left: u64, prefix: Part, most: u64, digits: u64, out: &mut BitWrite
     requires few { prefix.len ≤ 40 }
     requires small { prefix.bits < 2 ^ prefix.len }
     requires fits { min left (prefix.len + length (code_from_run (field most digits))) ≤ out.old.room }
-    ensures bits { Appends out.old out.new (take left
-        (field prefix.len prefix.bits ++ code_from_run (field most digits))) }
-    ensures left { result ≡ left - (prefix.len + length (code_from_run (field most digits))) }
+    ensures { Writes left result out.old out.new (field prefix.len prefix.bits
+        ++ code_from_run (field most digits)) }
 {
     let mut left = left;
     let mut part = prefix;
@@ -134,9 +134,7 @@ pub(crate) fn write_with(
     requires in_word { part.len ≤ 64 }
     requires small { part.bits < 2 ^ part.len }
     requires fits { min left (part.len + length (plane_code n (field size digits))) ≤ out.old.room }
-    ensures bits { Appends out.old out.new (take left
-        (field part.len part.bits ++ plane_code n (field size digits))) }
-    ensures left { result ≡ left - (part.len + length (plane_code n (field size digits))) }
+    ensures { Writes left result out.old out.new (field part.len part.bits ++ plane_code n (field size digits)) }
 {
     let group = Part { bits: 1, len: 1 };
     let prefix = Part {

@@ -5,6 +5,7 @@ ghost use Rattle.zf_spec.specs.Grid.{IsBlockSize};
 ghost use Rattle.zf_spec.specs.Planes.{plane_code, tail, code, reach};
 ghost use Rattle.zf_bits.specs.Writer.{Appends};
 ghost use Rattle.zf_spec.specs.HeldPlanes.{digits_held, planes_held};
+ghost use Rattle.zf_planes.specs.Writes.{Writes};
 
 use crate::word_writing::write_planes_of_word;
 use crate::words::{reach_in, zeros_from};
@@ -61,9 +62,7 @@ fn write_tail<P: Plane>(
     requires end { end ≡ reach (digits_held size (P.words plane.now)) }
     requires fits { min left (length (tail (drop from (digits_held size (P.words plane.now)))))
         ≤ out.old.room }
-    ensures bits { Appends out.old out.new (take left
-        (tail (drop from (digits_held size (P.words plane.now))))) }
-    ensures left { result ≡ left - length (tail (drop from (digits_held size (P.words plane.now)))) }
+    ensures { Writes left result out.old out.new (tail (drop from (digits_held size (P.words plane.now)))) }
 {
     let mut left = left;
     let mut n = from;
@@ -102,8 +101,7 @@ fn write_plane<P: Plane>(
     requires in_plane { n ≤ size }
     requires end { end ≡ reach (digits_held size (P.words plane.now)) }
     requires fits { min left (length (plane_code n (digits_held size (P.words plane.now)))) ≤ out.old.room }
-    ensures bits { Appends out.old out.new (take left (plane_code n (digits_held size (P.words plane.now)))) }
-    ensures left { result ≡ left - length (plane_code n (digits_held size (P.words plane.now))) }
+    ensures { Writes left result out.old out.new (plane_code n (digits_held size (P.words plane.now))) }
 {
     let left = write_digits(left, 0, n, plane, out);
     write_tail(left, n, size, end, plane, out)

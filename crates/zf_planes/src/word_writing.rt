@@ -4,8 +4,8 @@ ghost use Rattle.std.specs.Prelude.{◌≡◌, ◌+◌, ◌-◌, ◌*◌, ◌/�
 ghost use Rattle.zf_spec.specs.Numbers.{field};
 ghost use Rattle.zf_spec.specs.Planes.{plane_code, code_from, reach};
 ghost use Rattle.zf_spec.specs.HeldPlanes.{planes_held};
-ghost use Rattle.zf_bits.specs.Writer.{Appends};
 ghost use Rattle.zf_planes.specs.Sizes.{IsWordSize};
+ghost use Rattle.zf_planes.specs.Writes.{Writes};
 ghost use Rattle.zf_planes.specs.WordPlanes.{IsPlainCode, AreBegun};
 
 use crate::doubling::{Part, join, write_part, write_with};
@@ -103,9 +103,7 @@ pub(crate) fn write_planes_of_word<P: Plane>(
     requires from { from ≤ prec }
     requires fits { min left (length (code_from 0 (drop from
         (take prec (planes_held size (map P.words planes.now)))))) ≤ out.old.room }
-    ensures bits { Appends out.old out.new (take left
-        (code_from 0 (drop from (take prec (planes_held size (map P.words planes.now)))))) }
-    ensures left { result ≡ left - length (code_from 0
+    ensures { Writes left result out.old out.new (code_from 0
         (drop from (take prec (planes_held size (map P.words planes.now))))) }
 {
     let begun = lone_planes(from, prec, size, planes);

@@ -82,22 +82,21 @@ write_part-requires-clause-fits c =
     let part = c.join.result in
     omega (arith, Remains-fits (field part.len part.bits) [] (all_joined c.loop-digits.most c.loop-digits.digits _ c.loop-digits.part.bits _ c.short_run.result.bits _ c.join.result.bits c.loop-digits.invariant.remains c.short_run.ensures.bits c.join.ensures.bits), length-field part.len part.bits)
 
-pub returns-clause-bits : goal.returns-clause-bits
-returns-clause-bits c =
-    let part = c.join.result in
-    Remains-end (Remains-more (field part.len part.bits) [] (all_joined c.loop-digits.most c.loop-digits.digits _ c.loop-digits.part.bits _ c.short_run.result.bits _ c.join.result.bits c.loop-digits.invariant.remains c.short_run.ensures.bits c.join.ensures.bits) c.write_part.ensures.bits) (omega arith)
-
-pub returns-clause-left : goal.returns-clause-left
-returns-clause-left c =
+pub returns : goal.returns
+returns c =
     let part = c.join.result in
     let prefix = c.args.prefix in
     let run = code_from_run (field c.args.most c.args.digits) in
-    omega (
-      arith,
-      c.write_part.ensures.left,
-      (all_joined c.loop-digits.most c.loop-digits.digits _ c.loop-digits.part.bits _ c.short_run.result.bits _ c.join.result.bits c.loop-digits.invariant.remains c.short_run.ensures.bits c.join.ensures.bits).spent,
-      length-append (field part.len part.bits) [],
-      length-field part.len part.bits,
-      length-append (field prefix.len prefix.bits) run,
-      length-field prefix.len prefix.bits,
-    )
+    let all = all_joined c.loop-digits.most c.loop-digits.digits _ c.loop-digits.part.bits _ c.short_run.result.bits _ c.join.result.bits c.loop-digits.invariant.remains c.short_run.ensures.bits c.join.ensures.bits in
+    record {
+      bits = Remains-end (Remains-more (field part.len part.bits) [] all c.write_part.ensures.bits) (omega arith);
+      left = omega (
+        arith,
+        c.write_part.ensures.left,
+        all.spent,
+        length-append (field part.len part.bits) [],
+        length-field part.len part.bits,
+        length-append (field prefix.len prefix.bits) run,
+        length-field prefix.len prefix.bits,
+      );
+    }

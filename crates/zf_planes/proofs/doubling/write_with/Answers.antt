@@ -39,16 +39,30 @@ pub write_run-requires-clause-fits : goal.write_run-requires-clause-fits
 write_run-requires-clause-fits c =
     omega (arith, c.requires.fits, with_long c.args.size c.args.n c.args.digits c.requires.in_plane c.requires.some c.requires.digits, c.join.ensures.len, c.join-then-part-n-lt40.ensures.len)
 
-pub returns-then-part-n-lt40-clause-bits : goal.returns-then-part-n-lt40-clause-bits
-returns-then-part-n-lt40-clause-bits c =
-    Appends-same c.write_run.ensures.bits
-    (ap (take c.args.left)
-    (joined c.args.size c.args.n c.args.digits c.args.part.len c.args.part.bits c.join.result.len c.join.result.bits c.join-then-part-n-lt40.result.len c.join-then-part-n-lt40.result.bits
-    c.requires.in_plane c.requires.size c.requires.some c.requires.digits c.join.ensures.bits c.join-then-part-n-lt40.ensures.bits))
-
-pub returns-then-part-n-lt40-clause-left : goal.returns-then-part-n-lt40-clause-left
-returns-then-part-n-lt40-clause-left c =
-    omega (arith, c.write_run.ensures.left, with_long c.args.size c.args.n c.args.digits c.requires.in_plane c.requires.some c.requires.digits, c.join.ensures.len, c.join-then-part-n-lt40.ensures.len)
+pub returns-then-part-n-lt40 : goal.returns-then-part-n-lt40
+returns-then-part-n-lt40 c =
+    let part = c.args.part in
+    let all = c.join-then-part-n-lt40.result in
+    let run = code_from_run (field (c.args.size - c.args.n) (c.args.digits / 2 ^ c.args.n)) in
+    let code = plane_code c.args.n (field c.args.size c.args.digits) in
+    record {
+      bits =
+          Appends-same c.write_run.ensures.bits
+          (ap (take c.args.left)
+          (joined c.args.size c.args.n c.args.digits part.len part.bits c.join.result.len c.join.result.bits all.len all.bits
+          c.requires.in_plane c.requires.size c.requires.some c.requires.digits c.join.ensures.bits c.join-then-part-n-lt40.ensures.bits));
+      left = omega (
+        arith,
+        c.write_run.ensures.left,
+        with_long c.args.size c.args.n c.args.digits c.requires.in_plane c.requires.some c.requires.digits,
+        c.join.ensures.len,
+        c.join-then-part-n-lt40.ensures.len,
+        length-append (field all.len all.bits) run,
+        length-field all.len all.bits,
+        length-append (field part.len part.bits) code,
+        length-field part.len part.bits,
+      );
+    }
 
 -- ---- one after another
 
@@ -86,21 +100,26 @@ write_run-requires-2-clause-fits c =
     let rest = begun c.args.left c.write_part-left.result c.write_part-left-2.result c.args.size n v (omega (arith, c.requires.in_plane, c.requires.size)) remains c.write_part-left-2.ensures.bits c.write_part-left-2.ensures.left in
     omega (arith, rest.fits)
 
-pub returns-clause-bits : goal.returns-clause-bits
-returns-clause-bits c =
+pub returns : goal.returns
+returns c =
     let n = c.args.n in
     let v = c.args.digits in
-    let run = true ∷ code_from_run (field (c.args.size - n) (v / 2 ^ n)) in
-    let remains = flushed c.args.left c.write_part-left.result c.args.size n v c.args.part.len c.args.part.bits c.requires.in_plane c.requires.some c.requires.digits c.requires.fits c.write_part-left.ensures.bits c.write_part-left.ensures.left in
+    let part = c.args.part in
+    let code = code_from_run (field (c.args.size - n) (v / 2 ^ n)) in
+    let run = true ∷ code in
+    let remains = flushed c.args.left c.write_part-left.result c.args.size n v part.len part.bits c.requires.in_plane c.requires.some c.requires.digits c.requires.fits c.write_part-left.ensures.bits c.write_part-left.ensures.left in
     let rest = begun c.args.left c.write_part-left.result c.write_part-left-2.result c.args.size n v (omega (arith, c.requires.in_plane, c.requires.size)) remains c.write_part-left-2.ensures.bits c.write_part-left-2.ensures.left in
-    Remains-end (Remains-more run [] (Remains-same rest (sym (append-nil run))) c.write_run-2.ensures.bits) (omega arith)
-
-pub returns-clause-left : goal.returns-clause-left
-returns-clause-left c =
-    omega (
-      arith,
-      c.write_part-left.ensures.left,
-      c.write_part-left-2.ensures.left,
-      c.write_run-2.ensures.left,
-      with_long c.args.size c.args.n c.args.digits c.requires.in_plane c.requires.some c.requires.digits,
-    )
+    record {
+      bits = Remains-end (Remains-more run [] (Remains-same rest (sym (append-nil run))) c.write_run-2.ensures.bits) (omega arith);
+      left = omega (
+        arith,
+        c.write_part-left.ensures.left,
+        c.write_part-left-2.ensures.left,
+        c.write_run-2.ensures.left,
+        length-append (field 1 1) code,
+        length-field 1 1,
+        with_long c.args.size n v c.requires.in_plane c.requires.some c.requires.digits,
+        length-append (field part.len part.bits) (plane_code n (field c.args.size v)),
+        length-field part.len part.bits,
+      );
+    }

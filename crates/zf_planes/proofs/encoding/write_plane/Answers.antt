@@ -34,8 +34,8 @@ write_tail-requires-clause-fits g c =
       c.write_digits-left.ensures.left,
     )
 
-pub returns-clause-bits : goal.returns-clause-bits
-returns-clause-bits g c =
+pub returns : goal.returns
+returns g c =
     let n = c.args.n in
     let ws = g.P.Plane.words c.args.plane.now in
     let ds = digits_held c.args.size ws in
@@ -43,17 +43,13 @@ returns-clause-bits g c =
     let spent : c.write_digits-left.result ≡ c.args.left - length (take n ds) =
     omega (arith, c.write_digits-left.ensures.left, prefix_long c.args.size n _ ws c.requires.words (g.met.P.Plane.long c.args.plane.now) c.requires.in_plane) in
     let second = rw spent at c.write_tail.ensures.bits in
-    Appends-same (Appends-append first second) (sym (take_append c.args.left (take n ds) (tail (drop n ds))))
-
-pub returns-clause-left : goal.returns-clause-left
-returns-clause-left g c =
-    let n = c.args.n in
-    let ws = g.P.Plane.words c.args.plane.now in
-    let ds = digits_held c.args.size ws in
-    omega (
-      arith,
-      c.write_digits-left.ensures.left,
-      c.write_tail.ensures.left,
-      length-append (take n ds) (tail (drop n ds)),
-      prefix_long c.args.size n _ ws c.requires.words (g.met.P.Plane.long c.args.plane.now) c.requires.in_plane,
-    )
+    record {
+      bits = Appends-same (Appends-append first second) (sym (take_append c.args.left (take n ds) (tail (drop n ds))));
+      left = omega (
+        arith,
+        c.write_digits-left.ensures.left,
+        c.write_tail.ensures.left,
+        length-append (take n ds) (tail (drop n ds)),
+        prefix_long c.args.size n _ ws c.requires.words (g.met.P.Plane.long c.args.plane.now) c.requires.in_plane,
+      );
+    }

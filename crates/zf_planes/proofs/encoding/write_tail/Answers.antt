@@ -43,19 +43,12 @@ at_end : {old now new : Writer} {budget left : ℕ} {whole : List Bool} (ds : Li
 at_end ds n remains below some past appends =
     Remains-bit false [] some (Remains-same remains (tail_none (drop n ds) (omega (arith, length-drop n ds)) (has_one-drop_none n ds past))) appends
 
-pub returns-then-n-end-clause-bits : goal.returns-then-n-end-clause-bits
-returns-then-n-end-clause-bits g c =
+pub returns-then-n-end : goal.returns-then-n-end
+returns-then-n-end g c =
     let ds = digits_held c.args.size (g.P.Plane.words c.args.plane.now) in
     let long = held_long g c.args.plane.now c.args.size c.requires.words in
     let none = at_end ds c.loop-n.n c.loop-n.invariant.remains (omega (arith, long, c.loop-n-test.true)) c.if-left-gt0.true (omega (arith, c.requires.end, c.if-n-end.true)) c.write_bit_reserved.ensures.bits in
-    Remains-end none (omega arith)
-
-pub returns-then-n-end-clause-left : goal.returns-then-n-end-clause-left
-returns-then-n-end-clause-left g c =
-    let ds = digits_held c.args.size (g.P.Plane.words c.args.plane.now) in
-    let long = held_long g c.args.plane.now c.args.size c.requires.words in
-    let none = at_end ds c.loop-n.n c.loop-n.invariant.remains (omega (arith, long, c.loop-n-test.true)) c.if-left-gt0.true (omega (arith, c.requires.end, c.if-n-end.true)) c.write_bit_reserved.ensures.bits in
-    omega (arith, none.spent)
+    record { bits = Remains-end none (omega arith); left = omega (arith, none.spent) }
 
 -- ---- a group bit of one, and the run behind it
 
@@ -177,19 +170,15 @@ loop-n-preserved g c =
 
 -- ---- no bit or no rank is left
 
-pub returns-else-left-gt0-clause-bits : goal.returns-else-left-gt0-clause-bits
-returns-else-left-gt0-clause-bits g c = Remains-end c.loop-n.invariant.remains (omega (arith, c.if-left-gt0.false))
-
-pub returns-else-left-gt0-clause-left : goal.returns-else-left-gt0-clause-left
-returns-else-left-gt0-clause-left g c = omega (arith, c.if-left-gt0.false, c.loop-n.invariant.remains.spent)
+pub returns-else-left-gt0 : goal.returns-else-left-gt0
+returns-else-left-gt0 g c = record { bits = Remains-end c.loop-n.invariant.remains (omega (arith, c.if-left-gt0.false)); left = omega (arith, c.if-left-gt0.false, c.loop-n.invariant.remains.spent) }
 
 -- behind the last rank nothing comes
 none_left : (g : Over) (c : goal.After-loop-n g) → tail (drop c.loop-n.n (digits_held c.args.size (g.P.Plane.words c.args.plane.now))) ≡ []
 none_left g c =
     ap tail (drop_all c.loop-n.n (digits_held c.args.size (g.P.Plane.words c.args.plane.now)) (omega (arith, held_long g c.args.plane.now c.args.size c.requires.words, c.loop-n-test.false)))
 
-pub returns-after-loop-n-clause-bits : goal.returns-after-loop-n-clause-bits
-returns-after-loop-n-clause-bits g c = let none = ap length (none_left g c) in Remains-end c.loop-n.invariant.remains (omega arith)
-
-pub returns-after-loop-n-clause-left : goal.returns-after-loop-n-clause-left
-returns-after-loop-n-clause-left g c = let none = ap length (none_left g c) in omega (arith, c.loop-n.invariant.remains.spent)
+pub returns-after-loop-n : goal.returns-after-loop-n
+returns-after-loop-n g c =
+    let none = ap length (none_left g c) in
+    record { bits = Remains-end c.loop-n.invariant.remains (omega arith); left = omega (arith, c.loop-n.invariant.remains.spent) }

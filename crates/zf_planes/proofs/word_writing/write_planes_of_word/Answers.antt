@@ -102,13 +102,11 @@ none_left g c = elim c.loop-i-test.branch [
 pub write_part-requires-clause-fits : goal.write_part-requires-clause-fits
 write_part-requires-clause-fits g c = omega (arith, Remains-fits (field c.loop-i.part.len c.loop-i.part.bits) _ c.loop-i.invariant.remains, length-field c.loop-i.part.len c.loop-i.part.bits)
 
-pub returns-clause-bits : goal.returns-clause-bits
-returns-clause-bits g c =
-    let part = c.loop-i.part in
-    Remains-end (Remains-more (field part.len part.bits) _ c.loop-i.invariant.remains c.write_part.ensures.bits) (omega (arith, none_left g c, length-field part.len part.bits))
-
-pub returns-clause-left : goal.returns-clause-left
-returns-clause-left g c =
+pub returns : goal.returns
+returns g c =
     let part = c.loop-i.part in
     let rest = code_from c.loop-i.above (drop c.loop-i.i (take c.args.prec (planes_held c.args.size (map g.P.Plane.words c.args.planes.now)))) in
-    omega (arith, none_left g c, c.loop-i.invariant.remains.spent, c.loop-i.invariant.remains.within, c.write_part.ensures.left, length-append (field part.len part.bits) rest, length-field part.len part.bits)
+    record {
+      bits = Remains-end (Remains-more (field part.len part.bits) _ c.loop-i.invariant.remains c.write_part.ensures.bits) (omega (arith, none_left g c, length-field part.len part.bits));
+      left = omega (arith, none_left g c, c.loop-i.invariant.remains.spent, c.loop-i.invariant.remains.within, c.write_part.ensures.left, length-append (field part.len part.bits) rest, length-field part.len part.bits);
+    }
