@@ -37,6 +37,14 @@ planes_of_both number digits mid new long few lower upper kept k r within small 
     (λ (high : 32 ≤ k). upper k r high (omega arith) within small)
     (cases_lt k 32)
 
+-- digits without a one in these planes have none to turn
+pub planes_of_none : (number from : ℕ) (digits : List ℕ) (planes : List (List ℕ))
+    → ((r k : ℕ) → from ≤ k → k < 64 → bit_of digits r k ≡ 0)
+    → ((k : ℕ) → from ≤ k → k < length planes → word_of planes number k ≡ 0) → length planes ≤ 64 → HoldsHalf number from digits planes
+unfolding HoldsHalf
+planes_of_none number from digits planes none zeros few k r lower upper within small =
+    ap (λ w. bit_at w r) (zeros k lower within) ∙ bit_at-zero r ∙ sym (none r k lower (omega arith))
+
 -- one half is enough for few planes
 pub planes_of_first : (number : ℕ) (digits : List ℕ) (planes : List (List ℕ)) → length planes ≤ 32 → HoldsHalf number 0 digits planes → HoldsGroup number digits planes
 unfolding HoldsHalf HoldsGroup
