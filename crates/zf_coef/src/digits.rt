@@ -261,7 +261,7 @@ fn take_64_of_64<P: Plane>(planes: &[P], number: usize, digits: &mut [u64])
     }
 }
 
-/// How many of the lowest 32 planes have no one, up to the first that has.
+/// How many of the lowest 32 planes have no one, up to the first eight of which one has.
 #[inline(always)]
 fn zeros_below<P: Plane>(planes: &[P], number: usize) -> usize
     requires number { number < P.word_count }
@@ -269,9 +269,9 @@ fn zeros_below<P: Plane>(planes: &[P], number: usize) -> usize
     ensures within { result ≤ 32 }
     ensures zeros { (k : ℕ) → k < result → word_of (map P.words planes.now) number k ≡ 0 }
 {
-    for k in 0..32 {
-        if planes[k].word(number) != 0 {
-            return k;
+    for eight in 0..4 {
+        if any_between(planes, 8 * eight, 8 * eight + 8, number) != 0 {
+            return 8 * eight;
         }
     }
     32
@@ -284,12 +284,21 @@ fn are_zeros<P: Plane>(planes: &[P], from: usize, number: usize) -> bool
     requires from { from ≤ length planes.now }
     ensures { IsTrue result → (k : ℕ) → from ≤ k → word_of (map P.words planes.now) number k ≡ 0 }
 {
-    for k in from..planes.len() {
-        if planes[k].word(number) != 0 {
-            return false;
-        }
+    any_between(planes, from, planes.len(), number) == 0
+}
+
+/// The ones that any of these planes has in its word of this number.
+#[inline(always)]
+pub(crate) fn any_between<P: Plane>(planes: &[P], from: usize, to: usize, number: usize) -> u64
+    requires number { number < P.word_count }
+    requires planes { to ≤ length planes.now }
+    ensures { (k : ℕ) → from ≤ k → k < to → word_of (map P.words planes.now) number k ≤ result }
+{
+    let mut any = 0;
+    for k in from..to {
+        any |= planes[k].word(number);
     }
-    true
+    any
 }
 
 /// Takes 64 digits of planes of any number.

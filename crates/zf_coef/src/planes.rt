@@ -1,7 +1,7 @@
 //! The digits of coefficients become bit planes.
 
 ghost use Rattle.std.specs.Prelude.{◌≡◌, ℕ, ◌+◌, ◌-◌, ◌*◌, ◌/◌, ◌%◌, ◌^◌, ◌<◌, ◌≤◌, ◌⊎◌, All, length, map};
-ghost use Rattle.std.specs.Prelude.{slice_index_or, []};
+ghost use Rattle.std.specs.Prelude.{slice_index_or, [], IsTrue};
 ghost use Rattle.std.specs.Int.{bit_at};
 ghost use Rattle.zf_spec.specs.Planes.{planes_of};
 ghost use Rattle.zf_spec.specs.HeldPlanes.{planes_held, IsClearFrom};
@@ -147,11 +147,21 @@ fn put_upper_half<P: Plane>(size: usize, digits: &[u64], number: usize, planes: 
     requires more { 32 ≤ length planes.old }
     ensures { PutsHalf number 32 digits.now (map P.words planes.old) (map P.words planes.new) }
 {
-    if any_digits(digits) >> 32 == 0 {
+    if are_low(digits) {
         put_none(32, number, planes);
     } else {
         put_half(size, digits, 32, number, planes);
     }
+}
+
+/// Whether no digit has a one from place 32 on. Where one has, mostly the first does, as the ranks begin with
+/// the lowest frequencies.
+#[inline(always)]
+fn are_low(digits: &[u64]) -> bool
+    requires some { 0 < length digits.now }
+    ensures { IsTrue result → (r k : ℕ) → 32 ≤ k → k < 64 → bit_of digits.now r k ≡ 0 }
+{
+    digits[0] >> 32 == 0 && any_digits(digits) >> 32 == 0
 }
 
 /// The 32 planes from `from` on.
