@@ -1,18 +1,19 @@
 -- The digits that any coefficient has, and the planes that are needed.
-use Rattle.std.proofs.Common.{◌≡◌, refl, sym, ap, ◌∙◌, ℕ, ◌-◌, ◌/◌, ◌%◌, ◌^◌, ◌*◌, ◌+◌, ◌<◌, ◌≤◌, max, ⊎_elim, Bool, true, false, ◌||◌, eqb, List, [], ◌∷◌, ◌++◌, map, get_or, get_or-take, ext_get_or, length, take, replicate, mod-lt, arith}
+use Rattle.std.proofs.Common.{◌≡◌, refl, sym, ap, ◌∙◌, ℕ, ◌-◌, ◌/◌, ◌%◌, ◌^◌, ◌*◌, ◌+◌, ◌<◌, ◌≤◌, max, ⊎_elim, Bool, true, false, true≢false, ◌||◌, eqb, List, [], ◌∷◌, ◌++◌, map, get_or, get_or-take, ext_get_or, length, take, replicate, mod-lt, arith}
 use Rattle.std.specs.Int.{bit_at, trailing_zeros, leading_zeros, w64}
 use Rattle.std.specs.Int.RustNames.{bit_or}
 use Rattle.std.specs.Int.Count.{trailing_of_zero}
 use Rattle.std.proofs.lemmas.Bool.{cases_lt, cases_eq}
-use Rattle.std.proofs.lemmas.List.{map-append, get_or_past, length-map, length-take, length-replicate, get_or-replicate}
+use Rattle.std.proofs.lemmas.List.{map-append, get_or_past, get_or-map, length-map, length-take, length-replicate, get_or-replicate}
 use Rattle.std.proofs.lemmas.Nat.Bits.{bit_at_or, bit_at-zero, bit_at-trailing_zeros, bit_at_above}
 use Rattle.std.proofs.lemmas.Nat.{leading_length, pow_pos}
 use Rattle.zf_spec.specs.Numbers.{field, is_odd}
 use Rattle.zf_spec.specs.Planes.{plane, planes_of, has_one, needed_planes}
 use Rattle.zf_spec.proofs.Fields.{get_or-field}
 use Rattle.zf_spec.proofs.PlaneDigits.{get_or-planes_of, length-planes_of}
-use Rattle.zf_spec.proofs.Reach.{used_only, zeros_from_none}
+use Rattle.zf_spec.proofs.Reach.{used_only, zeros_from_none, none_at}
 use Rattle.zf_coef.specs.HeldDigits.{digits_in}
+use Rattle.zf_coef.specs.Turned.{bit_of}
 use Rattle.zf_coef.proofs.ShiftedBits.{bit_at-mod, bit_at-shl_high}
 
 has_one-last : (ds : List Bool) (d : Bool) → has_one (ds ++ d ∷ []) ≡ (has_one ds || d)
@@ -108,3 +109,23 @@ leading_zero_planes any w r digits within is few zeros =
         let sum : leading_zeros w64 a + top.0 ≡ 64 = top.1 in
         let place : i - s ≡ w - 1 - j = omega arith in
         ap (bit_at any) (sym place) ∙ sym (bit_at-mod (any * 2 ^ s) i (omega arith) ∙ bit_at-shl_high any s i (omega arith)) ∙ bit_at_above a top.0 i top.2 (omega arith)
+
+-- where no digit is so great, none has a one from that place on
+pub none_from : (any from : ℕ) (digits : List ℕ) → IsAny any digits → any < 2 ^ from → (r k : ℕ) → from ≤ k → k < 64 → bit_of digits r k ≡ 0
+none_from any from digits is few r k past small = ⊎_elim
+    (λ (inside : r < length digits).
+    let one = plane k (digits_in 64 digits) in
+    let none : has_one one ≡ false = sym (is 64 k small) ∙ ap (λ b. eqb b 1) (bit_at_above any from k few past) in
+    let digit : get_or one r false ≡ is_odd (get_or digits r 0 / 2 ^ k) =
+    get_or-map (λ ds. get_or ds k false) (digits_in 64 digits) r [] false (omega (arith, length-map digits (field 64)))
+    ∙ ap (λ ds. get_or ds k false) (get_or-map (field 64) digits r 0 [] inside)
+    ∙ get_or-field 64 (get_or digits r 0) k false small in
+    even (get_or digits r 0 / 2 ^ k) (sym digit ∙ none_at one r none))
+    (λ (behind : length digits ≤ r). ap (λ v. bit_at v k) (get_or_past digits r 0 behind) ∙ bit_at-zero k)
+    (cases_lt r (length digits))
+  where
+    even : (n : ℕ) → is_odd n ≡ false → n % 2 ≡ 0
+    even n h = ⊎_elim
+        (λ (one : n % 2 ≡ 1). absurd (true≢false (sym (ap (λ b. eqb b 1) one) ∙ h)))
+        (λ other. omega arith)
+        (cases_eq (n % 2) 1)

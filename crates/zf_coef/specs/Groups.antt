@@ -1,5 +1,5 @@
 -- The digits of up to 64 coefficients, each a word, and the words of planes that have one digit of each.
-use Rattle.std.specs.Prelude.{ℕ, ◌+◌, ◌-◌, ◌%◌, ◌≡◌, ◌≢◌, ◌<◌, ◌≤◌, List, [], length, slice_index_or}
+use Rattle.std.specs.Prelude.{ℕ, ◌+◌, ◌-◌, ◌%◌, ◌≡◌, ◌≢◌, ◌<◌, ◌≤◌, ◌⊎◌, List, [], length, slice_index_or}
 use Rattle.std.specs.Int.{bit_at}
 use Rattle.zf_coef.specs.Turned.{bit_of, folded_bit}
 
@@ -33,6 +33,10 @@ HasWord number count planes = (number < count) × (length planes ≤ 64)
 -- the 32 planes from `from` on are a half of 64, and begin among the planes or at their end
 abbrev pub IsHalfAt : {P : Type 0} → ℕ → List P → Type 0
 IsHalfAt from planes = (from ≤ length planes) × (from ≤ 32)
+
+-- a group of digits that is turned whole is one of these sizes
+abbrev pub IsGroupSize : ℕ → Type 0
+IsGroupSize size = (size ≡ 16) ⊎ (size ≡ 64)
 
 -- ---- the way there
 

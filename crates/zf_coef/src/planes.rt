@@ -1,15 +1,17 @@
 //! The digits of coefficients become bit planes.
 
 ghost use Rattle.std.specs.Prelude.{◌≡◌, ℕ, ◌+◌, ◌-◌, ◌*◌, ◌/◌, ◌%◌, ◌^◌, ◌<◌, ◌≤◌, ◌⊎◌, All, length, map};
-ghost use Rattle.std.specs.Prelude.{slice_index_or, []};
+ghost use Rattle.std.specs.Prelude.{slice_index_or, [], IsTrue};
 ghost use Rattle.std.specs.Int.{bit_at};
 ghost use Rattle.zf_spec.specs.Planes.{planes_of};
 ghost use Rattle.zf_spec.specs.HeldPlanes.{planes_held, IsClearFrom};
 ghost use Rattle.zf_coef.specs.HeldDigits.{digits_in};
-ghost use Rattle.zf_coef.specs.Groups.{word_of, HasWord, IsHalfAt, PutsGroup, PutsHalf, KeepsOthers};
+ghost use Rattle.zf_coef.specs.Groups.{word_of, HasWord, IsHalfAt, IsGroupSize, PutsGroup, PutsHalf};
+ghost use Rattle.zf_coef.specs.Groups.{KeepsOthers};
 ghost use Rattle.zf_coef.specs.Groups.{HoldsFrom, HoldsFolded};
 ghost use Rattle.zf_coef.specs.Turned.{bit_of};
 
+use crate::needed::any_digits;
 use crate::turning::{turn_32, turn_folded};
 use zf_bits::Plane;
 
@@ -64,20 +66,25 @@ fn put_group<P: Plane>(digits: &[u64], number: usize, planes: &mut [P])
     ensures { PutsGroup number digits.now (map P.words planes.old) (map P.words planes.new) }
 {
     match digits.len() {
-        0 => put_none(number, planes),
+        0 => put_none(0, number, planes),
         16 => put_16(digits, number, planes),
         64 => put_64(digits, number, planes),
         _ => put_64(&padded(digits), number, planes),
     }
 }
 
-/// The words of no digits, which are zero.
-fn put_none<P: Plane>(number: usize, planes: &mut [P])
+/// The words of the planes from `from` on where no digit has a one there, which are zero.
+#[inline(always)]
+fn put_none<P: Plane>(from: usize, number: usize, planes: &mut [P])
     requires word { HasWord number P.word_count planes.old }
-    ensures words { (k : ℕ) → k < length planes.new → word_of (map P.words planes.new) number k ≡ 0 }
+    requires from { from ≤ length planes.old }
+    ensures words { (k : ℕ) → from ≤ k → k < length planes.new
+        → word_of (map P.words planes.new) number k ≡ 0 }
+    ensures below { (k : ℕ) → k < from → word_of (map P.words planes.new) number k
+        ≡ word_of (map P.words planes.old) number k }
     ensures others { KeepsOthers number (map P.words planes.old) (map P.words planes.new) }
 {
-    put_words(&[0; WORD_BITS], planes.len(), 0, number, planes);
+    put_words(&[0; WORD_BITS], planes.len() - from, from, number, planes);
 }
 
 /// 64 digits, of which those past the given ones are zero.
@@ -101,26 +108,79 @@ fn put_16<P: Plane>(digits: &[u64], number: usize, planes: &mut [P])
 {
     // A number of planes that is known needs no loop.
     match planes.len() {
-        32 => put_halves_of_16(digits, number, planes),
-        64 => put_halves_of_16(digits, number, planes),
-        _ => put_halves_of_16(digits, number, planes),
+        32 => put_halves(16, digits, number, planes),
+        64 => put_halves(16, digits, number, planes),
+        _ => put_halves(16, digits, number, planes),
     }
 }
 
-/// Puts sixteen digits, 32 planes at a time.
-#[inline(always)]
-fn put_halves_of_16<P: Plane>(digits: &[u64], number: usize, planes: &mut [P])
+/// Puts 64 digits.
+#[inline(never)]
+fn put_64<P: Plane>(digits: &[u64], number: usize, planes: &mut [P])
     requires word { HasWord number P.word_count planes.old }
-    requires digits { length digits.now ≡ 16 }
+    requires digits { length digits.now ≡ 64 }
     ensures { PutsGroup number digits.now (map P.words planes.old) (map P.words planes.new) }
 {
-    put_half_of_16(digits, 0, number, planes);
+    put_halves(64, digits, number, planes);
+}
+
+/// Puts so many digits, 32 planes at a time.
+#[inline(always)]
+fn put_halves<P: Plane>(size: usize, digits: &[u64], number: usize, planes: &mut [P])
+    requires word { HasWord number P.word_count planes.old }
+    requires size { IsGroupSize size }
+    requires digits { length digits.now ≡ size }
+    ensures { PutsGroup number digits.now (map P.words planes.old) (map P.words planes.new) }
+{
+    put_half(size, digits, 0, number, planes);
     if planes.len() > 32 {
-        put_half_of_16(digits, 32, number, planes);
+        put_upper_half(size, digits, number, planes);
     }
+}
+
+/// The planes from plane 32 on. Values of a wide type are mostly small, and then there is nothing to turn.
+#[inline(always)]
+fn put_upper_half<P: Plane>(size: usize, digits: &[u64], number: usize, planes: &mut [P])
+    requires word { HasWord number P.word_count planes.old }
+    requires size { IsGroupSize size }
+    requires digits { length digits.now ≡ size }
+    requires more { 32 ≤ length planes.old }
+    ensures { PutsHalf number 32 digits.now (map P.words planes.old) (map P.words planes.new) }
+{
+    if are_low(digits) {
+        put_none(32, number, planes);
+    } else {
+        put_half(size, digits, 32, number, planes);
+    }
+}
+
+/// Whether no digit has a one from place 32 on. Where one has, mostly the first does, as the ranks begin with
+/// the lowest frequencies.
+#[inline(always)]
+fn are_low(digits: &[u64]) -> bool
+    requires some { 0 < length digits.now }
+    ensures { IsTrue result → (r k : ℕ) → 32 ≤ k → k < 64 → bit_of digits.now r k ≡ 0 }
+{
+    digits[0] >> 32 == 0 && any_digits(digits) >> 32 == 0
 }
 
 /// The 32 planes from `from` on.
+#[inline(always)]
+fn put_half<P: Plane>(size: usize, digits: &[u64], from: usize, number: usize, planes: &mut [P])
+    requires number { number < P.word_count }
+    requires size { IsGroupSize size }
+    requires digits { length digits.now ≡ size }
+    requires from { IsHalfAt from planes.old }
+    ensures { PutsHalf number from digits.now (map P.words planes.old) (map P.words planes.new) }
+{
+    if size == 16 {
+        put_half_of_16(digits, from, number, planes);
+    } else {
+        put_half_of_64(digits, from, number, planes);
+    }
+}
+
+/// The 32 planes from `from` on of sixteen digits.
 #[inline(always)]
 fn put_half_of_16<P: Plane>(digits: &[u64], from: usize, number: usize, planes: &mut [P])
     requires number { number < P.word_count }
@@ -217,22 +277,9 @@ fn put_words<P: Plane>(words: &[u64], count: usize, from: usize, number: usize, 
     }
 }
 
-/// Puts 64 digits, 32 planes at a time.
-#[inline(never)]
-fn put_64<P: Plane>(digits: &[u64], number: usize, planes: &mut [P])
-    requires word { HasWord number P.word_count planes.old }
-    requires digits { length digits.now ≡ 64 }
-    ensures { PutsGroup number digits.now (map P.words planes.old) (map P.words planes.new) }
-{
-    put_half(digits, 0, number, planes);
-    if planes.len() > 32 {
-        put_half(digits, 32, number, planes);
-    }
-}
-
-/// The 32 planes from `from` on.
+/// The 32 planes from `from` on of 64 digits.
 #[inline(always)]
-fn put_half<P: Plane>(digits: &[u64], from: usize, number: usize, planes: &mut [P])
+fn put_half_of_64<P: Plane>(digits: &[u64], from: usize, number: usize, planes: &mut [P])
     requires number { number < P.word_count }
     requires digits { length digits.now ≡ 64 }
     requires from { IsHalfAt from planes.old }

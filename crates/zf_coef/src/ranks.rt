@@ -27,8 +27,26 @@ pub fn ranked<T: Lane>(d: u8, block: &[T], digits: &mut [u64])
         rank(d, 16, 32, block, digits);
         rank(d, 32, 48, block, digits);
         rank(d, 48, 64, block, digits);
+    } else if d == 4 {
+        rank_sixteens(d, block, digits);
     } else {
         rank(d, 0, block.len(), block, digits);
+    }
+}
+
+/// Writes the digits of 256 ranks, sixteen at a time: the loop's own steps are few then, and its places are
+/// too many to be known each.
+#[inline(always)]
+fn rank_sixteens<T: Lane>(d: u8, block: &[T], digits: &mut [u64])
+    requires four { 4 ^ d ≡ 256 }
+    requires block { IsBlockOf d block.now }
+    requires digits { length digits.old ≡ 4 ^ d }
+    ensures filled { take 256 (digits_in (bits T.width) digits.new)
+        ≡ take 256 (ranked_digits T.width d (map T.value block.now)) }
+    ensures below { AllWithin (λ u. u < 2 ^ T.WIDTH) digits.new 0 256 }
+{
+    for sixteen in 0..16 {
+        rank(d, 16 * sixteen, 16 * sixteen + 16, block, digits);
     }
 }
 
@@ -65,6 +83,8 @@ pub fn unranked<T: Lane>(d: u8, digits: &[u64], block: &mut [T])
         unrank(d, 16, 32, digits, block);
         unrank(d, 32, 48, digits, block);
         unrank(d, 48, 64, digits, block);
+    } else if d == 4 {
+        unrank_sixteens(d, digits, block);
     } else {
         unrank(d, 0, digits.len(), digits, block);
     }
@@ -85,5 +105,19 @@ fn unrank<T: Lane>(d: u8, from: usize, to: usize, digits: &[u64], block: &mut [T
     let places = order(d);
     for rank in from..to {
         block[places[rank] as usize] = from_digits(digits[rank]);
+    }
+}
+
+/// Writes the coefficients of 256 ranks, sixteen at a time.
+#[inline(always)]
+fn unrank_sixteens<T: Lane>(d: u8, digits: &[u64], block: &mut [T])
+    requires four { 4 ^ d ≡ 256 }
+    requires digits { length digits.now ≡ 4 ^ d }
+    requires block { IsBlockOf d block.old }
+    ensures { HasRanks d 256
+        (map (value_of T.width) (digits_in (bits T.width) digits.now)) (map T.value block.new) }
+{
+    for sixteen in 0..16 {
+        unrank(d, 16 * sixteen, 16 * sixteen + 16, digits, block);
     }
 }

@@ -16,11 +16,21 @@ returns-then-d-eq3 g c =
     ranks_all c.args.d block values (omega (arith, length-map new g.T.Lane.value))
     (subst (λ r. HasRanks c.args.d r values block) all c.unrank-then-d-eq3-3.ensures)
 
-pub returns-else-d-eq3 : goal.returns-else-d-eq3
-returns-else-d-eq3 g c =
+pub returns-else-d-eq4 : goal.returns-else-d-eq4
+returns-else-d-eq4 g c =
     let w = g.T.Lane.width in
     let values = map (value_of w) (digits_in (bits w) c.args.digits.now) in
-    let new = c.unrank-else-d-eq3.new.block in
+    let new = c.unrank-else-d-eq4.new.block in
     let block = map g.T.Lane.value new in
     ranks_all c.args.d block values (omega (arith, length-map new g.T.Lane.value))
-    (subst (λ r. HasRanks c.args.d r values block) c.requires.digits c.unrank-else-d-eq3.ensures)
+    (subst (λ r. HasRanks c.args.d r values block) c.requires.digits c.unrank-else-d-eq4.ensures)
+
+pub returns-then-d-eq4 : goal.returns-then-d-eq4
+returns-then-d-eq4 g c =
+    let w = g.T.Lane.width in
+    let values = map (value_of w) (digits_in (bits w) c.args.digits.now) in
+    let new = c.unrank_sixteens.new.block in
+    let block = map g.T.Lane.value new in
+    let all : 256 ≡ 4 ^ c.args.d = ap (λ d. 4 ^ d) (sym c.if-d-eq4.true) in
+    ranks_all c.args.d block values (omega (arith, length-map new g.T.Lane.value))
+    (subst (λ r. HasRanks c.args.d r values block) all c.unrank_sixteens.ensures)

@@ -1,6 +1,6 @@
 use Rattle.std.proofs.Common.{map, arith}
 use Rattle.zf_coef.proofs.Halves.{planes_of_half}
-use Rattle.zf_coef.proofs.planes.put_half.Goals as goal
+use Rattle.zf_coef.proofs.planes.put_half_of_64.Goals as goal
 
 pub returns : goal.returns
 returns g c =

@@ -1,0 +1,13 @@
+use Rattle.std.proofs.Common.{◌≡◌, ◌*◌, ◌^◌, ◌<◌, map, take}
+use Rattle.std.specs.List.{AllWithin}
+use mir.Val.{bits}
+use Rattle.zf_coef.specs.HeldDigits.{digits_in, ranked_digits}
+use Rattle.zf_coef.proofs.ranks.rank_sixteens.Given as goal
+
+abbrev pub invariant-loop-sixteen : goal.invariant-loop-sixteen
+invariant-loop-sixteen g l =
+    let w = g.T.Lane.width in
+    record {
+      filled : take (16 * l.sixteen) (digits_in (bits w) l.digits) ≡ take (16 * l.sixteen) (ranked_digits w l.d (map g.T.Lane.value l.block));
+      below : AllWithin (λ u. u < 2 ^ g.T.Lane.WIDTH) l.digits 0 (16 * l.sixteen);
+    }
