@@ -9,7 +9,7 @@ use Rattle.zf_base.specs.declared.position.Pos.{Pos}
 use Rattle.zf_base.specs.Positions.{axes, used_axes, with_unused, IsPosition}
 use Rattle.zf_base.proofs.Sizes.{axes-with_unused}
 use Rattle.zf_base.proofs.Extents.{length-used_axes, same_from_axes}
-use Rattle.zf_cached.specs.Windows.{Window, LiesIn, stepped, mapped, sliced, has_place, none_zero, lies_in}
+use Rattle.zf_cached.specs.Windows.{LiesIn, stepped, mapped, sliced, has_place, none_zero, lies_in}
 use Rattle.zf_cached.proofs.Windows.{mapped_inside, length-mapped, LiesIn-sliced}
 use Rattle.zf_window.specs.WindowFields.{window_of, largest, IsWindowOf}
 use Rattle.zf_window.proofs.Axes.{stepped-axes}
@@ -29,9 +29,6 @@ all_with_zeros [] (suc k) all = (omega arith, all_with_zeros [] k tt)
 all_with_zeros (p ∷ ps) k all = (all.0, all_with_zeros ps k all.1)
 
 module _ (d : ℕ) (o s t : Pos) (w : IsWindowOf d o s t) (p : Pos) (at : IsPosition (used_axes d s) p) where
-  the_window : Window
-  the_window = window_of d o s t
-
   long : length (used_axes d s) ≡ d
   long = length-used_axes d s w.four_at_most
 
