@@ -6,12 +6,10 @@ use Rattle.zf_window.proofs.window.Window.map.Goals as goal
 
 pub stepped-requires : goal.stepped-requires
 stepped-requires c =
-    let w = c.self.inside in
-    mapped_small w.dims w.origin w.size w.step c.self.invariant c.args.p (subst (λ part. IsPosition part.size c.args.p) (sym c.self.view_is) c.requires)
+    mapped_small _ _ _ _ c.self.invariant c.args.p (subst (λ part. IsPosition part.size c.args.p) (sym c.self.view_is) c.requires)
 
 pub returns : goal.returns
 returns c =
-    let w = c.self.inside in
     let at = subst (λ part. IsPosition part.size c.args.p) (sym c.self.view_is) c.requires in
-    mapped_is w.dims w.origin w.size w.step c.self.invariant c.args.p at c.stepped.result c.stepped.ensures
+    mapped_is _ _ _ _ c.self.invariant c.args.p at c.stepped.result c.stepped.ensures
     ∙ ap (λ part. with_unused 0 (mapped part (used_axes (length part.size) c.args.p))) c.self.view_is
