@@ -30,15 +30,10 @@ zeros xs = map (λ x. pos 0) xs
 
 get_or-zeros : {X : Type 0} (xs : List X) (k : ℕ) → get_or (zeros xs) k (pos 0) ≡ pos 0
 unfolding zeros
-get_or-zeros [] k = refl
-get_or-zeros (x ∷ xs) zero = refl
 get_or-zeros (x ∷ xs) (suc k) = get_or-zeros xs k
+get_or-zeros x k = refl
 
 -- ---- planes of zeros
-
--- a plane of no one, and p of them
-blank : ℕ → List Bool
-blank size = replicate size false
 
 plane_code-blank : (k : ℕ) → plane_code 0 (replicate (suc k) false) ≡ false ∷ []
 plane_code-blank k = tail-zeros k
@@ -123,10 +118,7 @@ coefficients-blanks w d p size =
 unlift_line-zeros : (w : Width) → unlift_line w (pos 0) (pos 0) (pos 0) (pos 0) ≡ pos 0 ∷ pos 0 ∷ pos 0 ∷ pos 0 ∷ []
 unfolding int_wrap
 unlift_line-zeros w8 = refl
-unlift_line-zeros w16 = refl
-unlift_line-zeros w32 = refl
-unlift_line-zeros w64 = refl
-unlift_line-zeros w128 = refl
+unlift_line-zeros w = refl
 
 at_line : (f : ℤ → ℤ → ℤ → ℤ → List ℤ) (a b c d : ℤ) (i : ℕ) → a ≡ pos 0 → b ≡ pos 0 → c ≡ pos 0 → d ≡ pos 0 → f (pos 0) (pos 0) (pos 0) (pos 0) ≡ pos 0 ∷ pos 0 ∷ pos 0 ∷ pos 0 ∷ []
     → get_or (f a b c d) i (pos 0) ≡ pos 0

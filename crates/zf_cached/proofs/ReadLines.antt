@@ -1,5 +1,5 @@
 -- The words of a command, and the only command that a line is read as.
-use Rattle.std.proofs.Common.{◌≡◌, ℕ, zero, suc, ◌<◌, ◌≤◌, ℤ, List, [], ◌∷◌, length, get_or, take, drop, Bool, true, false, not, ◌&&◌, ◌==◌, ◌↔◌, Option, Some, None, IsTrue, find, bytes_eq, refl, ap, sym, ◌∙◌, subst, arith, lit<, codes, decimal}
+use Rattle.std.proofs.Common.{◌≡◌, ℕ, zero, suc, ◌<◌, ◌≤◌, ℤ, List, [], ◌∷◌, length, get_or, take, Bool, true, false, not, ◌&&◌, ◌==◌, ◌↔◌, Option, Some, None, IsTrue, find, bytes_eq, refl, ap, sym, ◌∙◌, subst, arith, lit<, codes, decimal}
 use Rattle.std.specs.Fmt.{signed_decimal}
 use Rattle.std.specs.Str.Parse.{digits_value, signed_digits_value}
 use Rattle.std.specs.List.{AllByRecursion, list_all}
@@ -58,16 +58,16 @@ letters (b ∷ bs) ok =
 pub view_no_space : (i : ℕ) → is_number i ≡ true → HasNo space (view_word i)
 view_no_space i small = All-cons (λ b. (b == space) ≡ false) 64 (decimal i) refl (number_no_space i small)
 
+position_and_value_no_space : (d : ℕ) (p : List ℕ) (v : ℤ) → (has_axes d p && is_value v) ≡ true → AllByRecursion (HasNo space) (numbers_text comma p ∷ signed_decimal v ∷ [])
+position_and_value_no_space d p v ok =
+    let parts = and_parts (has_axes d p) (is_value v) ok in
+    (position_no_space d p parts.0, (value_no_space v parts.1, tt))
+
 words_no_space : (d : ℕ) (c : Command) → is_writable d c ≡ true → AllByRecursion (HasNo space) (words_of c)
 words_no_space d (Command.get p) ok = (letters (codes "get") refl, (position_no_space d p ok, tt))
-words_no_space d (Command.set p v) ok =
-    let parts = and_parts (has_axes d p) (is_value v) ok in
-    (letters (codes "set") refl, (position_no_space d p parts.0, (value_no_space v parts.1, tt)))
-words_no_space d (Command.add p v) ok =
-    let parts = and_parts (has_axes d p) (is_value v) ok in
-    (letters (codes "add") refl, (position_no_space d p parts.0, (value_no_space v parts.1, tt)))
+words_no_space d (Command.set p v) ok = (letters (codes "set") refl, position_and_value_no_space d p v ok)
+words_no_space d (Command.add p v) ok = (letters (codes "add") refl, position_and_value_no_space d p v ok)
 words_no_space d (Command.fill v) ok = (letters (codes "fill") refl, (value_no_space v ok, tt))
-words_no_space d Command.sum ok = (letters (codes "sum") refl, tt)
 words_no_space d (Command.view p s t) ok =
     let parts = and_parts (has_axes d p) _ ok in
     let more = and_parts (has_axes d s) (has_axes d t) parts.1 in
@@ -76,58 +76,30 @@ words_no_space d (Command.slice a i) ok =
     let parts = and_parts (is_number a) (is_number i) ok in
     (letters (codes "slice") refl, (number_no_space a parts.0, (number_no_space i parts.1, tt)))
 words_no_space d (Command.vget p) ok = (letters (codes "vget") refl, (position_no_space d p ok, tt))
-words_no_space d (Command.vset p v) ok =
-    let parts = and_parts (has_axes d p) (is_value v) ok in
-    (letters (codes "vset") refl, (position_no_space d p parts.0, (value_no_space v parts.1, tt)))
-words_no_space d Command.vsum ok = (letters (codes "vsum") refl, tt)
-words_no_space d Command.flush ok = (letters (codes "flush") refl, tt)
-words_no_space d Command.discard ok = (letters (codes "discard") refl, tt)
+words_no_space d (Command.vset p v) ok = (letters (codes "vset") refl, position_and_value_no_space d p v ok)
 words_no_space d (Command.lines l) ok = (letters (codes "lines") refl, (number_no_space l ok, tt))
 words_no_space d (Command.resize s) ok = (letters (codes "resize") refl, (sizes_no_space s (sizes-parts s ok).2, tt))
-words_no_space d Command.stats ok = (letters (codes "stats") refl, tt)
 words_no_space d (Command.split n l) ok =
     let parts = and_parts (is_number n) (is_number l) ok in
     (letters (codes "split") refl, (number_no_space n parts.0, (number_no_space l parts.1, tt)))
-words_no_space d Command.join ok = (letters (codes "join") refl, tt)
 words_no_space d (Command.pget i p) ok =
     let parts = and_parts (is_number i) (has_axes d p) ok in
     (view_no_space i parts.0, (letters (codes "get") refl, (position_no_space d p parts.1, tt)))
 words_no_space d (Command.pset i p v) ok =
     let parts = and_parts (is_number i) (has_axes d p && is_value v) ok in
-    let more = and_parts (has_axes d p) (is_value v) parts.1 in
-    (view_no_space i parts.0, (letters (codes "set") refl, (position_no_space d p more.0, (value_no_space v more.1, tt))))
+    (view_no_space i parts.0, (letters (codes "set") refl, position_and_value_no_space d p v parts.1))
 words_no_space d (Command.padd i p v) ok =
     let parts = and_parts (is_number i) (has_axes d p && is_value v) ok in
-    let more = and_parts (has_axes d p) (is_value v) parts.1 in
-    (view_no_space i parts.0, (letters (codes "add") refl, (position_no_space d p more.0, (value_no_space v more.1, tt))))
+    (view_no_space i parts.0, (letters (codes "add") refl, position_and_value_no_space d p v parts.1))
 words_no_space d (Command.pflush i) ok = (view_no_space i ok, (letters (codes "flush") refl, tt))
 words_no_space d (Command.pdiscard i) ok = (view_no_space i ok, (letters (codes "discard") refl, tt))
 words_no_space d (Command.pstats i) ok = (view_no_space i ok, (letters (codes "stats") refl, tt))
+-- a command of one word
+words_no_space d c ok = (letters (get_or (words_of c) 0 []) refl, tt)
 
 some_word : (c : Command) → 1 ≤ length (words_of c)
 some_word (Command.get p) = omega arith
-some_word (Command.set p v) = omega arith
-some_word (Command.add p v) = omega arith
-some_word (Command.fill v) = omega arith
-some_word Command.sum = omega arith
-some_word (Command.view p s t) = omega arith
-some_word (Command.slice a i) = omega arith
-some_word (Command.vget p) = omega arith
-some_word (Command.vset p v) = omega arith
-some_word Command.vsum = omega arith
-some_word Command.flush = omega arith
-some_word Command.discard = omega arith
-some_word (Command.lines l) = omega arith
-some_word (Command.resize s) = omega arith
-some_word Command.stats = omega arith
-some_word (Command.split n l) = omega arith
-some_word Command.join = omega arith
-some_word (Command.pget i p) = omega arith
-some_word (Command.pset i p v) = omega arith
-some_word (Command.padd i p v) = omega arith
-some_word (Command.pflush i) = omega arith
-some_word (Command.pdiscard i) = omega arith
-some_word (Command.pstats i) = omega arith
+some_word c = omega arith
 
 -- the text of a command is cut into its words
 pub cut_at-line_of : (d : ℕ) (c : Command) → is_writable d c ≡ true → cut_at space (line_of c) ≡ words_of c
@@ -141,18 +113,6 @@ found_at test (x ∷ cs) (suc k) c others lt same passes =
     let parts = and_parts (not (test x)) (list_all (λ other. not (test other)) (take k cs)) others in
     cond-false (test x) (Some x) (find test cs) (not-true (test x) parts.0) ∙ found_at test cs k c parts.1 (omega arith) same passes
 
--- behind candidates that it is not
-found_behind : (test : Command → Bool) (cs : List Command) (k : ℕ) (c : Command) → list_all (λ other. not (test other)) (take k cs) ≡ true → find test (drop k cs) ≡ Some c → find test cs ≡ Some c
-found_behind test [] k c others found = absurd (none k found)
-  where
-    none : (n : ℕ) → find test (drop n []) ≡ Some c → ⊥
-    none zero e = cc
-    none (suc n) e = cc
-found_behind test (x ∷ cs) zero c others found = found
-found_behind test (x ∷ cs) (suc k) c others found =
-    let parts = and_parts (not (test x)) (list_all (λ other. not (test other)) (take k cs)) others in
-    cond-false (test x) (Some x) (find test cs) (not-true (test x) parts.0) ∙ found_behind test cs k c parts.1 found
-
 -- a command's own text is it
 own_line : (d : ℕ) (c : Command) → is_writable d c ≡ true → is_line d (line_of c) c ≡ true
 own_line d c ok = and_from (bytes_eq (line_of c) (line_of c)) (is_writable d c) ((bytes_eq-Decides (line_of c) (line_of c)).1 refl) ok
@@ -165,13 +125,22 @@ position_back d p some ok =
 sizes_back : (s : List ℕ) → 1 ≤ length s → list_all is_number s ≡ true → numbers_in letter_x (numbers_text letter_x s) ≡ s
 sizes_back s some small = numbers_in-numbers_text letter_x s some small no_letter_x
 
+position_and_value_back : (d : ℕ) (p : List ℕ) (v : ℤ) → 1 ≤ d → (has_axes d p && is_value v) ≡ true → (numbers_in comma (numbers_text comma p) ≡ p) × (signed_digits_value 10 (signed_decimal v) ≡ v)
+position_and_value_back d p v some ok =
+    let parts = and_parts (has_axes d p) (is_value v) ok in
+    (position_back d p some parts.0, value-signed v parts.1)
+
 number_back : (n : ℕ) → is_number n ≡ true → digits_value 10 (decimal n) ≡ n
 number_back n small = number-decimal n (ltb-true n _ small)
 
 -- ---- the candidates on a view, which begin alike
--- a command whose second word is another has another text
-other_second : (d : ℕ) (c x : Command) → is_writable d c ≡ true → bytes_eq (get_or (words_of x) 1 []) (get_or (words_of c) 1 []) ≡ false → is_line d (line_of c) x ≡ false
-other_second d c x ok differ = by (is_line d (line_of c) x) refl
+-- words of which the first byte or the second word is another
+abbrev other : List (List ℕ) → List (List ℕ) → Bool
+other vs ws = not (bytes_eq (take 1 (get_or vs 0 [])) (take 1 (get_or ws 0 [])) && bytes_eq (get_or vs 1 []) (get_or ws 1 []))
+
+-- are those of another text
+other_line : (d : ℕ) (c x : Command) → is_writable d c ≡ true → other (words_of x) (words_of c) ≡ true → is_line d (line_of c) x ≡ false
+other_line d c x ok differ = by (is_line d (line_of c) x) refl
   where
     by : (t : Bool) → is_line d (line_of c) x ≡ t → t ≡ false
     by false e = refl
@@ -179,52 +148,20 @@ other_second d c x ok differ = by (is_line d (line_of c) x) refl
         let parts = and_parts (bytes_eq (line_of x) (line_of c)) (is_writable d x) e in
         let text : line_of x ≡ line_of c = (bytes_eq-Decides (line_of x) (line_of c)).0 parts.0 in
         let words : words_of x ≡ words_of c = sym (cut_at-line_of d x parts.1) ∙ ap (cut_at space) text ∙ cut_at-line_of d c ok in
-        let same : bytes_eq (get_or (words_of x) 1 []) (get_or (words_of c) 1 []) ≡ true =
-        (bytes_eq-Decides (get_or (words_of x) 1 []) (get_or (words_of c) 1 [])).1 (ap (λ ws. get_or ws 1 []) words) in
+        let same = λ (f : List (List ℕ) → List ℕ). (bytes_eq-Decides (f (words_of x)) (f (words_of c))).1 (ap f words) in
+        let alike : other (words_of x) (words_of c) ≡ false = ap not (and_from _ _ (same (λ ws. take 1 (get_or ws 0 []))) (same (λ ws. get_or ws 1 []))) in
         absurd (cc)
 
--- the first one, and one behind the first
-first_found : (d : ℕ) (c x : Command) (cs : List Command) → is_writable d c ≡ true → x ≡ c → find (is_line d (line_of c)) (x ∷ cs) ≡ Some c
-first_found d c x cs ok same = cond-true (is_line d (line_of c) x) (Some x) (find (is_line d (line_of c)) cs) (ap (is_line d (line_of c)) same ∙ own_line d c ok) ∙ ap Some same
+others_fail : (d : ℕ) (c : Command) (cs : List Command) → is_writable d c ≡ true → list_all (λ x. other (words_of x) (words_of c)) cs ≡ true → list_all (λ x. not (is_line d (line_of c) x)) cs ≡ true
+others_fail d c [] ok others = refl
+others_fail d c (x ∷ cs) ok others =
+    let parts = and_parts (other (words_of x) (words_of c)) (list_all (λ y. other (words_of y) (words_of c)) cs) others in
+    and_from (not (is_line d (line_of c) x)) (list_all (λ y. not (is_line d (line_of c) y)) cs) (ap not (other_line d c x ok parts.0)) (others_fail d c cs ok parts.1)
 
-next_found : (d : ℕ) (c x : Command) (cs : List Command) → is_writable d c ≡ true → bytes_eq (get_or (words_of x) 1 []) (get_or (words_of c) 1 []) ≡ false
-    → find (is_line d (line_of c)) cs ≡ Some c → find (is_line d (line_of c)) (x ∷ cs) ≡ Some c
-next_found d c x cs ok differ found = cond-false (is_line d (line_of c) x) (Some x) (find (is_line d (line_of c)) cs) (other_second d c x ok differ) ∙ found
-
--- the candidates on a view, from each of them on: its number, the position and the value could be these
-abbrev from_stats : ℕ → List Command
-from_stats i = Command.pstats i ∷ []
-
-abbrev from_discard : ℕ → List Command
-from_discard i = Command.pdiscard i ∷ from_stats i
-
-abbrev from_flush : ℕ → List Command
-from_flush i = Command.pflush i ∷ from_discard i
-
-abbrev from_add : ℕ → List ℕ → ℤ → List Command
-from_add i p v = Command.padd i p v ∷ from_flush i
-
-abbrev from_set : ℕ → List ℕ → ℤ → List Command
-from_set i p v = Command.pset i p v ∷ from_add i p v
-
-abbrev from_get : ℕ → List ℕ → ℤ → List Command
-from_get i p v = Command.pget i p ∷ from_set i p v
-
--- what is read there
-abbrev view_in : List (List ℕ) → ℕ
-view_in words = digits_value 10 (drop 1 (get_or words 0 []))
-
-abbrev position_in : List (List ℕ) → List ℕ
-position_in words = numbers_in comma (get_or words 2 [])
-
-abbrev value_in : List (List ℕ) → ℤ
-value_in words = signed_digits_value 10 (get_or words 3 [])
-
--- the candidates that are on no view have another text: theirs does not begin with `@`
-on_view : (d : ℕ) (c : Command) → list_all (λ other. not (is_line d (line_of c) other)) (take 17 (candidates (words_of c))) ≡ true
-    → find (is_line d (line_of c)) (from_get (view_in (words_of c)) (position_in (words_of c)) (value_in (words_of c))) ≡ Some c → find (is_line d (line_of c)) (candidates (words_of c)) ≡ Some c
-unfolding candidates
-on_view d c others found = found_behind (is_line d (line_of c)) (candidates (words_of c)) 17 c others found
+on_view : (d : ℕ) (c : Command) (k : ℕ) → is_writable d c ≡ true → list_all (λ x. other (words_of x) (words_of c)) (take k (candidates (words_of c))) ≡ true
+    → k < length (candidates (words_of c)) → get_or (candidates (words_of c)) k c ≡ c → find (is_line d (line_of c)) (candidates (words_of c)) ≡ Some c
+on_view d c k ok others lt same =
+    found_at (is_line d (line_of c)) (candidates (words_of c)) k c (others_fail d c (take k (candidates (words_of c))) ok others) lt same (own_line d c ok)
 
 -- ---- each command's own candidate
 candidate : (d : ℕ) (c : Command) → 1 ≤ d → is_writable d c ≡ true → find (is_line d (line_of c)) (candidates (words_of c)) ≡ Some c
@@ -232,14 +169,10 @@ unfolding candidates
 candidate d (Command.get p) some ok =
     found_at (is_line d (line_of (Command.get p))) (candidates (words_of (Command.get p))) 0 (Command.get p) refl (lit< tt) (ap Command.get (position_back d p some ok)) (own_line d (Command.get p) ok)
 candidate d (Command.set p v) some ok =
-    let parts = and_parts (has_axes d p) (is_value v) ok in
-    let position = position_back d p some parts.0 in
-    let value = value-signed v parts.1 in
+    let back = position_and_value_back d p v some ok in
     found_at (is_line d (line_of (Command.set p v))) (candidates (words_of (Command.set p v))) 1 (Command.set p v) refl (lit< tt) (cc) (own_line d (Command.set p v) ok)
 candidate d (Command.add p v) some ok =
-    let parts = and_parts (has_axes d p) (is_value v) ok in
-    let position = position_back d p some parts.0 in
-    let value = value-signed v parts.1 in
+    let back = position_and_value_back d p v some ok in
     found_at (is_line d (line_of (Command.add p v))) (candidates (words_of (Command.add p v))) 2 (Command.add p v) refl (lit< tt) (cc) (own_line d (Command.add p v) ok)
 candidate d (Command.fill v) some ok =
     found_at (is_line d (line_of (Command.fill v))) (candidates (words_of (Command.fill v))) 3 (Command.fill v) refl (lit< tt) (ap Command.fill (value-signed v ok)) (own_line d (Command.fill v) ok)
@@ -261,9 +194,7 @@ candidate d (Command.slice a i) some ok =
 candidate d (Command.vget p) some ok =
     found_at (is_line d (line_of (Command.vget p))) (candidates (words_of (Command.vget p))) 7 (Command.vget p) refl (lit< tt) (ap Command.vget (position_back d p some ok)) (own_line d (Command.vget p) ok)
 candidate d (Command.vset p v) some ok =
-    let parts = and_parts (has_axes d p) (is_value v) ok in
-    let position = position_back d p some parts.0 in
-    let value = value-signed v parts.1 in
+    let back = position_and_value_back d p v some ok in
     found_at (is_line d (line_of (Command.vset p v))) (candidates (words_of (Command.vset p v))) 8 (Command.vset p v) refl (lit< tt) (cc) (own_line d (Command.vset p v) ok)
 candidate d Command.vsum some ok =
     found_at (is_line d (line_of Command.vsum)) (candidates (words_of Command.vsum)) 9 Command.vsum refl (lit< tt) refl (own_line d Command.vsum ok)
@@ -286,57 +217,23 @@ candidate d (Command.split n l) some ok =
 candidate d Command.join some ok =
     found_at (is_line d (line_of Command.join)) (candidates (words_of Command.join)) 16 Command.join refl (lit< tt) refl (own_line d Command.join ok)
 candidate d (Command.pget i p) some ok =
-    let c = Command.pget i p in
     let parts = and_parts (is_number i) (has_axes d p) ok in
     let view = number_back i parts.0 in
     let position = position_back d p some parts.1 in
-    let j = view_in (words_of c) in
-    let q = position_in (words_of c) in
-    let u = value_in (words_of c) in
-    on_view d c refl (first_found d c (Command.pget j q) (from_set j q u) ok (cc))
+    on_view d (Command.pget i p) 17 ok refl (lit< tt) (cc)
 candidate d (Command.pset i p v) some ok =
-    let c = Command.pset i p v in
     let parts = and_parts (is_number i) (has_axes d p && is_value v) ok in
-    let more = and_parts (has_axes d p) (is_value v) parts.1 in
     let view = number_back i parts.0 in
-    let position = position_back d p some more.0 in
-    let value = value-signed v more.1 in
-    let j = view_in (words_of c) in
-    let q = position_in (words_of c) in
-    let u = value_in (words_of c) in
-    on_view d c refl (next_found d c (Command.pget j q) (from_set j q u) ok refl (first_found d c (Command.pset j q u) (from_add j q u) ok (cc)))
+    let back = position_and_value_back d p v some parts.1 in
+    on_view d (Command.pset i p v) 18 ok refl (lit< tt) (cc)
 candidate d (Command.padd i p v) some ok =
-    let c = Command.padd i p v in
     let parts = and_parts (is_number i) (has_axes d p && is_value v) ok in
-    let more = and_parts (has_axes d p) (is_value v) parts.1 in
     let view = number_back i parts.0 in
-    let position = position_back d p some more.0 in
-    let value = value-signed v more.1 in
-    let j = view_in (words_of c) in
-    let q = position_in (words_of c) in
-    let u = value_in (words_of c) in
-    on_view d c refl (next_found d c (Command.pget j q) (from_set j q u) ok refl (next_found d c (Command.pset j q u) (from_add j q u) ok refl (first_found d c (Command.padd j q u) (from_flush j) ok (cc))))
-candidate d (Command.pflush i) some ok =
-    let c = Command.pflush i in
-    let j = view_in (words_of c) in
-    let q = position_in (words_of c) in
-    let u = value_in (words_of c) in
-    on_view d c refl (next_found d c (Command.pget j q) (from_set j q u) ok refl (next_found d c (Command.pset j q u) (from_add j q u) ok refl (next_found d c (Command.padd j q u) (from_flush j) ok refl
-    (first_found d c (Command.pflush j) (from_discard j) ok (ap Command.pflush (number_back i ok))))))
-candidate d (Command.pdiscard i) some ok =
-    let c = Command.pdiscard i in
-    let j = view_in (words_of c) in
-    let q = position_in (words_of c) in
-    let u = value_in (words_of c) in
-    on_view d c refl (next_found d c (Command.pget j q) (from_set j q u) ok refl (next_found d c (Command.pset j q u) (from_add j q u) ok refl (next_found d c (Command.padd j q u) (from_flush j) ok refl
-    (next_found d c (Command.pflush j) (from_discard j) ok refl (first_found d c (Command.pdiscard j) (from_stats j) ok (ap Command.pdiscard (number_back i ok)))))))
-candidate d (Command.pstats i) some ok =
-    let c = Command.pstats i in
-    let j = view_in (words_of c) in
-    let q = position_in (words_of c) in
-    let u = value_in (words_of c) in
-    on_view d c refl (next_found d c (Command.pget j q) (from_set j q u) ok refl (next_found d c (Command.pset j q u) (from_add j q u) ok refl (next_found d c (Command.padd j q u) (from_flush j) ok refl
-    (next_found d c (Command.pflush j) (from_discard j) ok refl (next_found d c (Command.pdiscard j) (from_stats j) ok refl (first_found d c (Command.pstats j) [] ok (ap Command.pstats (number_back i ok))))))))
+    let back = position_and_value_back d p v some parts.1 in
+    on_view d (Command.padd i p v) 19 ok refl (lit< tt) (cc)
+candidate d (Command.pflush i) some ok = on_view d (Command.pflush i) 20 ok refl (lit< tt) (ap Command.pflush (number_back i ok))
+candidate d (Command.pdiscard i) some ok = on_view d (Command.pdiscard i) 21 ok refl (lit< tt) (ap Command.pdiscard (number_back i ok))
+candidate d (Command.pstats i) some ok = on_view d (Command.pstats i) 22 ok refl (lit< tt) (ap Command.pstats (number_back i ok))
 
 -- ---- the law of the grammar
 -- a writable command is read off its text

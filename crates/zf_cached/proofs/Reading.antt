@@ -75,28 +75,14 @@ module _ (line : Line) {Code : Type 0} (setting : Setting Code) (cached : IsCach
   done-stays : (s : Session Code) (c : Command) → only_reads c ≡ true → Stays s → Stays (done setting s c).0
   unfolding done
   done-stays s (Command.get ps) reads h = touched-stays s (block_number s.shape ps) h
-  done-stays s (Command.set ps v) reads h = absurd (cc)
-  done-stays s (Command.add ps v) reads h = absurd (cc)
-  done-stays s (Command.fill v) reads h = absurd (cc)
   done-stays s Command.sum reads h = summed-stays _ _ (upto (format_of setting s).blocks) s h
   done-stays s (Command.view origin size step) reads h = record { sizes = h.sizes; state = h.state; alone = h.alone }
   done-stays s (Command.slice axis at) reads h = record { sizes = h.sizes; state = h.state; alone = h.alone }
   done-stays s (Command.vget ps) reads h = touched-stays s (block_number s.shape (mapped s.window ps)) h
-  done-stays s (Command.vset ps v) reads h = absurd (cc)
   done-stays s Command.vsum reads h = summed-stays _ _ _ s h
-  done-stays s Command.flush reads h = absurd (cc)
-  done-stays s Command.discard reads h = absurd (cc)
   done-stays s (Command.lines l) reads h = record { sizes = h.sizes; state = relined-unwritten (format_of setting s) s.state _ codes values h.state; alone = h.alone }
-  done-stays s (Command.resize ns) reads h = absurd (cc)
   done-stays s Command.stats reads h = h
-  done-stays s (Command.split n l) reads h = absurd (cc)
-  done-stays s Command.join reads h = absurd (cc)
-  done-stays s (Command.pget i ps) reads h = absurd (cc)
-  done-stays s (Command.pset i ps v) reads h = absurd (cc)
-  done-stays s (Command.padd i ps v) reads h = absurd (cc)
-  done-stays s (Command.pflush i) reads h = absurd (cc)
-  done-stays s (Command.pdiscard i) reads h = absurd (cc)
-  done-stays s (Command.pstats i) reads h = absurd (cc)
+  done-stays s c reads h = absurd (cc)
 
   line-stays : (s : Session Code) (l : List ℕ) (starving : Bool) → ((c : Command) → read_line (length shape) l ≡ Some c → setting.allows c ≡ true → only_reads c ≡ true) → Stays s → Stays (line_step setting s l starving).0
   unfolding line_step read_step

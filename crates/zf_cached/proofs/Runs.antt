@@ -39,13 +39,7 @@ step-refused setting s c starving why e = step_by setting s c starving (λ r. r 
 
 refusal_memory : (p a b v t m : Bool) → first_refusal p a b v (t && m) ≡ Some Refusal.memory → (t ≡ true) × (m ≡ true) × (first_refusal p a b v (t && false) ≡ None)
 refusal_memory false false false false true true e = (refl, refl, refl)
-refusal_memory false false false false true false e = absurd (cc)
-refusal_memory false false false false false true e = absurd (cc)
-refusal_memory false false false false false false e = absurd (cc)
-refusal_memory false false false true t m e = absurd (cc)
-refusal_memory false false true v t m e = absurd (cc)
-refusal_memory false true b v t m e = absurd (cc)
-refusal_memory true a b v t m e = absurd (cc)
+refusal_memory p a b v t m e = absurd (cc)
 
 pub refusal-memory : {Code : Type 0} (setting : Setting Code) (s : Session Code) (c : Command) (starving : Bool) → refusal setting s c starving ≡ Some Refusal.memory → ((tests setting s c).memory ≡ true) × (starving ≡ true) × (refusal setting s c false ≡ None)
 unfolding refusal
@@ -53,11 +47,7 @@ refusal-memory setting s c starving e = refusal_memory (refuses_split s c) (test
 
 refusal_word : (p a b v m : Bool) → first_refusal p a b v m ≡ Some Refusal.word → ⊥
 refusal_word false false false false true e = cc
-refusal_word false false false false false e = cc
-refusal_word false false false true m e = cc
-refusal_word false false true v m e = cc
-refusal_word false true b v m e = cc
-refusal_word true a b v m e = cc
+refusal_word p a b v m e = cc
 
 pub refusal-word : {Code : Type 0} (setting : Setting Code) (s : Session Code) (c : Command) (starving : Bool) → refusal setting s c starving ≡ Some Refusal.word → ⊥
 unfolding refusal

@@ -62,9 +62,7 @@ pub record IsTaken {Code : Type 0} (setting : Setting Code) (s : Session Code) (
 
 refusal_none : (p a b v m : Bool) → first_refusal p a b v m ≡ None → (p ≡ false) × (a ≡ false) × (b ≡ false)
 refusal_none false false false v m e = (refl, refl, refl)
-refusal_none false false true v m e = absurd (cc)
-refusal_none false true b v m e = absurd (cc)
-refusal_none true a b v m e = absurd (cc)
+refusal_none p a b v m e = absurd (cc)
 
 -- a step by whether the command is refused
 pub step_by : {Code : Type 0} (setting : Setting Code) (s : Session Code) (c : Command) (starving : Bool) (P : Session Code × Option Reply → Type 0)
@@ -325,7 +323,6 @@ module _ (line : Line) (may_hold : ℕ → ℕ → ℕ → Type 0) (placing : Is
         split = λ e. let none = alone (is_split s) t.split in absurd (cc);
         views = λ i lt. absurd (no_views s.split (alone (is_split s) t.split) i lt);
       }
-  done-sound setting s Command.stats t cached h = h
   done-sound setting s (Command.split n l) t cached h = split_into-sound setting s n (raised l) (raised-some l) h
   done-sound setting s Command.join t cached h = joined-sound setting s h
   done-sound setting s (Command.pget i ps) t cached h =
@@ -344,7 +341,7 @@ module _ (line : Line) (may_hold : ℕ → ℕ → ℕ → Type 0) (placing : Is
       by_view-sound setting s i (at_position s (λ b p. Act.add b p v) ps) own.0 (own.1, own.2) h
   done-sound setting s (Command.pflush i) t cached h = by_view-sound setting s i Act.flush (ltb-true i (length (views_of s)) (not-false (has_view s i) t.range)) tt h
   done-sound setting s (Command.pdiscard i) t cached h = by_view-sound setting s i Act.discard (ltb-true i (length (views_of s)) (not-false (has_view s i) t.range)) tt h
-  done-sound setting s (Command.pstats i) t cached h = h
+  done-sound setting s x t cached h = h
 
   -- ---- steps
 

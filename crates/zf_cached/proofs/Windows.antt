@@ -11,8 +11,6 @@ use Rattle.zf_cached.specs.Windows.{Window, LiesIn, stepped, mapped, whole, slic
 stepped_inside : (ns os sizes ts ps : List ℕ) → is_inside ns (stepped os ts (map (λ n. n - 1) sizes)) ≡ true → is_inside sizes ps ≡ true → length ps ≡ length sizes
     → is_inside ns (stepped os ts ps) ≡ true
 stepped_inside [] os sizes ts ps h p l = refl
-stepped_inside (n ∷ ns) [] sizes ts ps h p l = h
-stepped_inside (n ∷ ns) (o ∷ os) sizes [] ps h p l = h
 stepped_inside (n ∷ ns) (o ∷ os) [] (t ∷ ts) ps h p l = absurd (cc)
 stepped_inside (n ∷ ns) (o ∷ os) (m ∷ sizes) (t ∷ ts) [] h p l = absurd (cc)
 stepped_inside (n ∷ ns) (o ∷ os) (m ∷ sizes) (t ∷ ts) (q ∷ ps) h p l =
@@ -24,6 +22,7 @@ stepped_inside (n ∷ ns) (o ∷ os) (m ∷ sizes) (t ∷ ts) (q ∷ ps) h p l =
     let reach : q * t ≤ (m - 1) * t = mul-le-mul_right t short in
     let fits : o + q * t < n = omega arith in
     and_from (ltb (o + q * t) n) (is_inside ns (stepped os ts ps)) (lt-ltb (o + q * t) n fits) (stepped_inside ns os sizes ts ps parts.1 both.1 (omega arith))
+stepped_inside x y sizes ts ps h p l = h
 
 module _ (ns : List ℕ) (w : Window) (h : LiesIn ns w) where
   lies : lies_in ns w ≡ true
@@ -35,10 +34,8 @@ module _ (ns : List ℕ) (w : Window) (h : LiesIn ns w) where
 
 pub length-stepped : (os ts ps : List ℕ) (n : ℕ) → length os ≡ n → length ts ≡ n → length ps ≡ n → length (stepped os ts ps) ≡ n
 length-stepped [] ts ps n o t p = o
-length-stepped (o ∷ os) [] ps n a b c = absurd (omega arith)
-length-stepped (o ∷ os) (t ∷ ts) [] n a b c = absurd (omega arith)
-length-stepped (o ∷ os) (t ∷ ts) (p ∷ ps) zero a b c = absurd (omega arith)
 length-stepped (o ∷ os) (t ∷ ts) (p ∷ ps) (suc n) a b c = ap suc (length-stepped os ts ps n (omega arith) (omega arith) (omega arith))
+length-stepped x y ps n a b c = absurd (omega arith)
 
 pub length-mapped : (ns : List ℕ) (w : Window) (ps : List ℕ) → LiesIn ns w → length ps ≡ length w.size → length (mapped w ps) ≡ length ns
 length-mapped ns w ps h same = length-stepped w.origin w.step ps (length ns) h.origins h.steps (same ∙ h.sizes)
@@ -49,10 +46,6 @@ rests m n ms ns e = cc
 -- two positions of a window are two of the array
 stepped_once : (os ts ps qs : List ℕ) → none_zero ts ≡ true → length os ≡ length ps → length ts ≡ length ps → length qs ≡ length ps → stepped os ts ps ≡ stepped os ts qs → ps ≡ qs
 stepped_once os ts [] [] h a b c e = refl
-stepped_once os ts [] (q ∷ qs) h a b c e = absurd (omega arith)
-stepped_once os ts (p ∷ ps) [] h a b c e = absurd (omega arith)
-stepped_once [] ts (p ∷ ps) (q ∷ qs) h a b c e = absurd (omega arith)
-stepped_once (o ∷ os) [] (p ∷ ps) (q ∷ qs) h a b c e = absurd (omega arith)
 stepped_once (o ∷ os) (t ∷ ts) (p ∷ ps) (q ∷ qs) h a b c e =
     let parts = and_parts (leb 1 t) (none_zero ts) h in
     let some : 1 ≤ t = leb-true 1 t parts.0 in
@@ -60,6 +53,7 @@ stepped_once (o ∷ os) (t ∷ ts) (p ∷ ps) (q ∷ qs) h a b c e =
     let products : p * t ≡ q * t = omega arith in
     let same : p ≡ q = eq_of_mul-eq-mul_right t some p q products in
     ap (λ n. n ∷ ps) same ∙ ap (λ ns. q ∷ ns) (stepped_once os ts ps qs parts.1 (omega arith) (omega arith) (omega arith) (rests (o + p * t) (o + q * t) (stepped os ts ps) (stepped os ts qs) e))
+stepped_once os ts x y h a b c e = absurd (omega arith)
 
 pub mapped_once : (ns : List ℕ) (w : Window) (ps qs : List ℕ) → LiesIn ns w → length ps ≡ length w.size → length qs ≡ length w.size → mapped w ps ≡ mapped w qs → ps ≡ qs
 mapped_once ns w ps qs h p q e =
@@ -70,9 +64,8 @@ mapped_once ns w ps qs h p q e =
 
 stepped-whole : (ns ps : List ℕ) → length ps ≡ length ns → stepped (map (λ n. 0) ns) (map (λ n. 1) ns) ps ≡ ps
 stepped-whole [] [] h = refl
-stepped-whole [] (p ∷ ps) h = absurd (omega arith)
-stepped-whole (n ∷ ns) [] h = absurd (omega arith)
 stepped-whole (n ∷ ns) (p ∷ ps) h = let e : 0 + p * 1 ≡ p = omega arith in ap (λ q. q ∷ stepped (map (λ n. 0) ns) (map (λ n. 1) ns) ps) e ∙ ap (λ qs. p ∷ qs) (stepped-whole ns ps (omega arith))
+stepped-whole x y h = absurd (omega arith)
 
 -- each position of the whole array is itself
 pub mapped-whole : (ns ps : List ℕ) → length ps ≡ length ns → mapped (whole ns) ps ≡ ps
@@ -103,9 +96,6 @@ LiesIn-whole ns h = record {
 
 slice_inside : (ns os sizes ts : List ℕ) (axis at : ℕ) → is_inside ns (stepped os ts (map (λ n. n - 1) sizes)) ≡ true → axis < length sizes → at < get_or sizes axis 0 → length os ≡ length sizes → length ts ≡ length sizes
     → is_inside ns (stepped (set os axis (get_or os axis 0 + at * get_or ts axis 0)) ts (map (λ n. n - 1) (set sizes axis 1))) ≡ true
-slice_inside ns os [] ts axis at h a b l k = absurd (omega arith)
-slice_inside ns [] (m ∷ sizes) ts axis at h a b l k = absurd (omega arith)
-slice_inside ns (o ∷ os) (m ∷ sizes) [] axis at h a b l k = absurd (omega arith)
 slice_inside [] (o ∷ os) (m ∷ sizes) (t ∷ ts) axis at h a b l k = refl
 slice_inside (n ∷ ns) (o ∷ os) (m ∷ sizes) (t ∷ ts) zero at h a b l k =
     let parts = and_parts (ltb (o + (m - 1) * t) n) (is_inside ns (stepped os ts (map (λ n. n - 1) sizes))) h in
@@ -118,6 +108,7 @@ slice_inside (n ∷ ns) (o ∷ os) (m ∷ sizes) (t ∷ ts) (suc axis) at h a b 
     let parts = and_parts (ltb (o + (m - 1) * t) n) (is_inside ns (stepped os ts (map (λ n. n - 1) sizes))) h in
     and_from (ltb (o + (m - 1) * t) n) (is_inside ns (stepped (set os axis (get_or os axis 0 + at * get_or ts axis 0)) ts (map (λ n. n - 1) (set sizes axis 1))))
     parts.0 (slice_inside ns os sizes ts axis at parts.1 (omega arith) b (omega arith) (omega arith))
+slice_inside ns os x ts axis at h a b l k = absurd (omega arith)
 
 none_zero-set : (ns : List ℕ) (axis : ℕ) → none_zero ns ≡ true → none_zero (set ns axis 1) ≡ true
 none_zero-set [] axis h = refl

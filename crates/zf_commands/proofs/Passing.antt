@@ -6,8 +6,7 @@ use Rattle.std.proofs.lemmas.Int.{ints, to_z-of_z}
 use Rattle.std.proofs.lemmas.List.{map-append}
 use Rattle.std.proofs.Math.Seq.{take-append_seam}
 use Rattle.zf_spec.specs.Grid.{IsShape, upto, count_from, is_inside, indices, extent_of}
-use Rattle.zf_spec.proofs.Counting.{count_from-add, map-upto_same}
-use Rattle.zf_spec.proofs.Counting.{count_from-below}
+use Rattle.zf_spec.proofs.Counting.{count_from-add, map-upto_same, count_from-below}
 use Rattle.zf_base.specs.Formats.{existing_of}
 use Rattle.zf_cached.specs.State.{State}
 use Rattle.zf_cached.specs.Arrays.{Coding, array_format}

@@ -63,28 +63,11 @@ sort_of d (kinds.View i cmd) = sorts.Kind.view i (view_sort d cmd)
 
 pub sorted : (d : ℕ) (k : Kind) → sorts.kind_of (command_of d (cmd_of_kind k)) ≡ sort_of d k
 sorted d (kinds.Read (reads.Get p)) = refl
-sorted d (kinds.Read reads.Sum) = refl
-sorted d (kinds.Read (reads.Lines l)) = refl
-sorted d (kinds.Read reads.Stats) = refl
 sorted d (kinds.Window (windows.View p s t)) = refl
-sorted d (kinds.Window (windows.Slice a i)) = refl
-sorted d (kinds.Window (windows.Get p)) = refl
-sorted d (kinds.Window windows.Sum) = refl
 sorted d (kinds.Write (writes.Set p v)) = refl
-sorted d (kinds.Write (writes.Add p v)) = refl
-sorted d (kinds.Write (writes.Fill v)) = refl
-sorted d (kinds.Write writes.Flush) = refl
-sorted d (kinds.Write writes.Discard) = refl
 sorted d (kinds.Array (arrays.Set p v)) = refl
-sorted d (kinds.Array (arrays.Resize count s)) = refl
-sorted d (kinds.Split n l) = refl
-sorted d kinds.Join = refl
 sorted d (kinds.View i (views.Get p)) = refl
-sorted d (kinds.View i (views.Set p v)) = refl
-sorted d (kinds.View i (views.Add p v)) = refl
-sorted d (kinds.View i views.Flush) = refl
-sorted d (kinds.View i views.Discard) = refl
-sorted d (kinds.View i views.Stats) = refl
+sorted d k = refl
 
 -- what holds of a command by its kind
 pub by_kind : {Code : Type 0} (s : Session Code) (k : Kind) (test : sorts.Kind → Bool) (t : Bool) → test (sort_of (length s.shape) k) ≡ t → test (sorts.kind_of (asked s (cmd_of_kind k))) ≡ t
@@ -97,26 +80,14 @@ same_plain s a b is plain = subst (IsPlain s) is plain
 pub not_reading : (d : ℕ) (k : Kind) → ((c : ReadCmd) → k ≡ kinds.Read c → ⊥) → ((c : WindowCmd) → k ≡ kinds.Window c → ⊥) → is_reading (sort_of d k) ≡ false
 not_reading d (kinds.Read c) read window = absurd (read c refl)
 not_reading d (kinds.Window c) read window = absurd (window c refl)
-not_reading d (kinds.Write c) read window = refl
-not_reading d (kinds.Array c) read window = refl
-not_reading d (kinds.Split n l) read window = refl
-not_reading d kinds.Join read window = refl
-not_reading d (kinds.View i c) read window = refl
+not_reading d x read window = refl
 
 pub not_windowless : (d : ℕ) (k : Kind) → ((c : ReadCmd) → k ≡ kinds.Read c → ⊥) → ((c : WriteCmd) → k ≡ kinds.Write c → ⊥) → is_windowless (sort_of d k) ≡ false
 not_windowless d (kinds.Read c) read write = absurd (read c refl)
-not_windowless d (kinds.Window c) read write = refl
 not_windowless d (kinds.Write c) read write = absurd (write c refl)
-not_windowless d (kinds.Array c) read write = refl
-not_windowless d (kinds.Split n l) read write = refl
-not_windowless d kinds.Join read write = refl
-not_windowless d (kinds.View i c) read write = refl
+not_windowless d x read write = refl
 
 pub not_of_split : (d : ℕ) (k : Kind) → (k ≡ kinds.Join → ⊥) → ((i : ℕ) (c : ViewCmd) → k ≡ kinds.View i c → ⊥) → is_of_split (sort_of d k) ≡ false
-not_of_split d (kinds.Read c) join view = refl
-not_of_split d (kinds.Window c) join view = refl
-not_of_split d (kinds.Write c) join view = refl
-not_of_split d (kinds.Array c) join view = refl
-not_of_split d (kinds.Split n l) join view = refl
 not_of_split d kinds.Join join view = absurd (join refl)
 not_of_split d (kinds.View i c) join view = absurd (view i c refl)
+not_of_split d x join view = refl

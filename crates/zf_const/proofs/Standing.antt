@@ -84,10 +84,6 @@ opens value s c n empty counts =
 -- ---- the fields of an array
 
 module _ {X : Type 0} (value : X → ℤ) (w : Width) (d : ℕ) (s : Coded) (c : Kept X) (joined : IsJoined value w d s c) where
-  pub blocks_is : (format_of s).blocks ≡ blocks s.header.shape
-  unfolding array_format
-  blocks_is = refl
-
   pub has_blocks : HasBlocks (format_of s) d
   unfolding array_format
   has_blocks = (ap (λ k. 4 ^ k) joined.dims, omega (arith, blocks_le s.header.shape joined.header.shape.not_zero, joined.header.shape.not_too_large))

@@ -92,8 +92,8 @@ impl<T: Lane, const D: usize> ConstArray<T, D> {
         ensures header { self.new.header ≡ self.old.header }
         ensures codes { self.new.codes ≡ self.old.codes }
     {
-        let (b, place) = self.codes.header().shape.place_in::<D>(p);
-        self.cache.get_read(&mut self.codes, b, place)
+        let (b, place) = self.shape().place_in::<D>(p);
+        self.value_at(b, place)
     }
 
     /// The value at place `place` of block `b`, by one touch. It is the place of a position of the array.

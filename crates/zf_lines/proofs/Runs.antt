@@ -1,6 +1,6 @@
 -- Places that all hold values, and a run of them written over.
-use Rattle.std.proofs.Common.{◌≡◌, ℕ, zero, suc, ◌+◌, ◌-◌, ◌<◌, List, [], ◌∷◌, ◌++◌, map, length, take, drop, replicate, get_or, Option, Some, None, slice_set, refl, sym, ap, ◌∙◌, arith, length-append, append-nil}
-use Rattle.std.proofs.lemmas.List.{length-replicate, take-map, drop-map, map-append, set_split}
+use Rattle.std.proofs.Common.{◌≡◌, ℕ, zero, suc, ◌+◌, ◌-◌, ◌<◌, List, [], ◌∷◌, ◌++◌, map, length, take, drop, replicate, get_or, Option, Some, None, slice_set, refl, sym, ap, ◌∙◌, arith}
+use Rattle.std.proofs.lemmas.List.{take-map, drop-map, map-append, set_split}
 use Rattle.zf_lines.specs.Places.{somes, IsHeld}
 use Rattle.zf_lines.specs.Lends.{spliced}
 use Rattle.zf_lines.proofs.Blocks.{splice}
@@ -45,29 +45,14 @@ abbrev pub filling : {X : Type 0} → ℕ → ℕ → X → List (Option X)
 filling {X} i k x = let none : Option X = None in replicate i (Some x) ++ replicate k none
 
 module _ {X : Type 0} where
-  length-filling : (i k : ℕ) (x : X) → length (filling i k x) ≡ i + k
-  length-filling i k x = let none : Option X = None in length-append (replicate i (Some x)) (replicate k none) ∙ (λ j. length-replicate i (Some x) j + length-replicate k none j)
-
-  next_empty : (i k : ℕ) (x : X) → get_or (filling i k x) i None ≡ None
-  next_empty zero zero x = refl
-  next_empty zero (suc k) x = refl
-  next_empty (suc i) k x = next_empty i k x
-
   one_more : (i k : ℕ) (x : X) → slice_set (filling i (suc k) x) i (Some x) ≡ filling (suc i) k x
   one_more zero k x = refl
   one_more (suc i) k x = ap (λ l. Some x ∷ l) (one_more i k x)
-
-  -- what a step of the loop that fills needs, and what it leaves
-  pub may_fill : (cs : List (Option X)) (i n : ℕ) (x : X) → cs ≡ filling i (n - i) x → i < n → (i < length cs) × (get_or cs i None ≡ None)
-  may_fill cs i n x e lt = (omega (arith, ap length e, length-filling i (n - i) x), ap (λ l. get_or l i None) e ∙ next_empty i (n - i) x)
 
   pub fills_more : (cs : List (Option X)) (i j n : ℕ) (x : X) → cs ≡ filling i (n - i) x → i < n → j ≡ suc i → slice_set cs i (Some x) ≡ filling j (n - j) x
   fills_more cs i j n x e lt on =
       let left : n - i ≡ suc (n - j) = omega arith in
       ap (λ l. slice_set l i (Some x)) (e ∙ ap (λ k. filling i k x) left) ∙ one_more i (n - j) x ∙ ap (λ k. filling k (n - j) x) (sym on)
-
-  pub all_filled : (cs : List (Option X)) (n : ℕ) (x : X) → cs ≡ filling n (n - n) x → cs ≡ replicate n (Some x)
-  all_filled cs n x e = let none : n - n ≡ 0 = omega arith in e ∙ ap (λ k. filling n k x) none ∙ append-nil (replicate n (Some x))
 
   pub map-replicate_lem : (n : ℕ) (x : X) → map Some (replicate n x) ≡ replicate n (Some x)
   map-replicate_lem zero x = refl

@@ -104,13 +104,18 @@ pub record Demotes (n : Narrow) (start now : Option (List ℕ)) (given owed take
   pub made : given ++ owed ≡ demoted_bytes n taken
   pub written : Appends start now given
 
-pub demotes : (n : Narrow) (start now : Option (List ℕ)) (d : Demotion) → d.narrow ≡ n → Appends start now d.given.bytes → Demotes n start now d.given.bytes (listed d.owed) d.taken.bytes (take d.held d.value)
-demotes n start now d same written = record {
+pub demotes : (n m : Narrow) (first start now : Option (List ℕ)) (d : Demotion) → d.narrow ≡ m → m ≡ n → first ≡ start → Appends first now d.given.bytes
+    → Demotes n start now d.given.bytes (listed d.owed) d.taken.bytes (take d.held d.value)
+demotes n m first start now d same narrow begins written = record {
   whole = d.whole;
   few = omega (arith, d.within, length-take d.held d.value);
-  made = d.written ∙ ap (λ m. demoted_bytes m d.taken.bytes) same;
-  written = written;
+  made = d.written ∙ ap (λ k. demoted_bytes k d.taken.bytes) (same ∙ narrow);
+  written = subst (λ (k : Option (List ℕ)). Appends k now d.given.bytes) begins written;
 }
+
+-- the same restoration, told of the same result and bytes by other names
+pub restored_as : (src now : Option (List ℕ)) {r q : Result Bool StreamFault} {xs ys zs ws : List ℕ} → r ≡ q → xs ≡ ys → zs ≡ ws → RestoredWhere I32 r src now (Some xs) (Some zs) → RestoredWhere I32 q src now (Some ys) (Some ws)
+restored_as src now e f g = subst (λ (t : Result Bool StreamFault × List ℕ × List ℕ). RestoredWhere I32 t.0 src now (Some t.1) (Some t.2)) (λ i. (e i, f i, g i))
 
 module _ (n : Narrow) {start now : Option (List ℕ)} {given owed taken part : List ℕ} (d : Demotes n start now given owed taken part) where
   -- of a prefix of the text a prefix was written

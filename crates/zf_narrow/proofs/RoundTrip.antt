@@ -7,7 +7,7 @@ use Rattle.zf_spec.specs.Stream.{raw, first_bytes, values_from}
 use Rattle.zf_spec.proofs.Bytes.{first_bytes-all}
 use Rattle.zf_spec.proofs.RawValues.{length-raw, values_from_fit, values_from-raw, raw-values_from}
 use Rattle.zf_narrow.specs.declared.narrow.Narrow.{Narrow}
-use Rattle.zf_narrow.specs.declared.narrow.Narrow.TheVariants.{I8, U8, I16, U16}
+use Rattle.zf_narrow.specs.declared.narrow.Narrow.TheVariants.{I8, U8, U16}
 use Rattle.zf_narrow.specs.Values.{IsNarrow, width_of, size_of, promoted, demoted}
 use Rattle.zf_narrow.specs.RawNarrow.{of_signed, narrow_bytes, promoted_bytes, raw_narrow, demoted_bytes}
 use Rattle.zf_narrow.proofs.OneMore.{size_is}
@@ -26,12 +26,9 @@ word_unsigned (negsuc m) fits = omega (arith, fits.sfits)
 
 -- what raw bytes say is a number of the type
 of_signed_narrow : (n : Narrow) (v : ℤ) → FitsSigned (width_of n) v → IsNarrow n (of_signed n v)
-of_signed_narrow I8 (pos m) fits = record { at_least = omega (arith, ints, fits.sfits); at_most = omega (arith, ints, fits.sfits) }
-of_signed_narrow I8 (negsuc m) fits = record { at_least = omega (arith, ints, fits.sfits); at_most = omega (arith, ints, fits.sfits) }
 of_signed_narrow U8 v fits = let below = byte_unsigned v fits in record { at_least = omega (arith, ints); at_most = omega (arith, ints) }
-of_signed_narrow I16 (pos m) fits = record { at_least = omega (arith, ints, fits.sfits); at_most = omega (arith, ints, fits.sfits) }
-of_signed_narrow I16 (negsuc m) fits = record { at_least = omega (arith, ints, fits.sfits); at_most = omega (arith, ints, fits.sfits) }
 of_signed_narrow U16 v fits = let below = word_unsigned v fits in record { at_least = omega (arith, ints); at_most = omega (arith, ints) }
+of_signed_narrow x y fits = record { at_least = omega (arith, ints, fits.sfits); at_most = omega (arith, ints, fits.sfits) }
 
 -- and has these bytes
 bytes_of_signed : (n : Narrow) (v : ℤ) → narrow_bytes n (of_signed n v) ≡ to_le_bytes (width_of n) (cast_unsigned (width_of n) v)

@@ -61,11 +61,8 @@ module _ (w : Width) where
 
   -- a line of the inverse lift
   line_fits : (a b c d : ℤ) (i : ℕ) → i < 4 → FitsSigned w (get_or (unlift_line w a b c d) i (pos 0))
-  line_fits a b c d zero lt = wrap_fits w _
-  line_fits a b c d (suc zero) lt = wrap_fits w _
-  line_fits a b c d (suc (suc zero)) lt = wrap_fits w _
-  line_fits a b c d (suc (suc (suc zero))) lt = wrap_fits w _
   line_fits a b c d (suc (suc (suc (suc i)))) lt = absurd (omega arith)
+  line_fits a b c d x lt = wrap_fits w _
 
   along_fits : (step : ℕ) (block : List ℤ) → Fit (along (unlift_line w) step block)
   unfolding along

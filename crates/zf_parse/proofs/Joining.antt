@@ -1,14 +1,12 @@
 -- The blocks of a stream, read one after another.
-use Rattle.std.proofs.Common.{◌≡◌, ℕ, zero, suc, ◌+◌, ◌-◌, ◌<◌, Bool, ℤ, List, [], ◌∷◌, ◌++◌, map, drop, Option, Some, None, Result, Ok, Err, refl, sym, ap, ◌∙◌, arith}
-use Rattle.std.proofs.lemmas.List.{map_push, drop-drop}
-use Rattle.zf_spec.specs.Grid.{blocks, extent_of, upto}
-use Rattle.zf_spec.proofs.Counting.{map-upto_same}
+use Rattle.std.proofs.Common.{◌≡◌, ℕ, zero, suc, ◌+◌, ◌-◌, ◌<◌, Bool, ℤ, List, [], ◌∷◌, ◌++◌, drop, Option, Some, None, Result, Ok, Err, refl, sym, ap, ◌∙◌, arith}
+use Rattle.std.proofs.lemmas.List.{drop-drop}
+use Rattle.zf_spec.specs.Grid.{blocks, extent_of}
 use Rattle.zf_base.specs.Widths.{width_of}
 use Rattle.zf_bits.specs.Reader.{Reader, rest, Reads}
 use Rattle.zf_header.specs.declared.header.Header.{Header}
 use Rattle.zf_parse.specs.Parsing.{read_code, read_codes}
 use Rattle.zf_parse.proofs.Steps.{read_next, with_block, read_codes-suc}
-use Rattle.zf_parse.proofs.Codes.{upto-more}
 
 -- ---- one block more
 
@@ -104,11 +102,6 @@ read_codes-cut h b n s behind blocks lt read none =
     ∙ ap (λ j. with_blocks blocks (read_codes h j (suc m) behind)) place
     ∙ ap (with_blocks blocks) (read_codes-suc h b m behind)
     ∙ ap (λ found. with_blocks blocks (read_next b behind found (read_codes h (suc b) m))) none ∙ with_blocks-cut blocks b
-
--- the blocks so far, where those before the last stay
-pub blocks-more : (f g : ℕ → List ℤ) (b : ℕ) → ((a : ℕ) → a < b → f a ≡ g a) → map f (upto b) ++ g b ∷ [] ≡ map g (upto (b + 1))
-blocks-more f g b same =
-    ap (λ (bs : List (List ℤ)). bs ++ g b ∷ []) (map-upto_same f g b same) ∙ sym (map_push g (upto b) b) ∙ ap (map g) (sym (upto-more b))
 
 -- what was read is gone from the front
 pub rest_behind : (old new : Reader) (bits : List Bool) → Reads old new bits → rest new ≡ drop (new.at - old.at) (rest old)

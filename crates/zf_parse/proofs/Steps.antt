@@ -155,16 +155,3 @@ pub behind_err : (h : Header) (all : ℕ) (s : List Bool) (e : StreamFault) → 
 behind_err h all s e is = values_err (said_behind h all s) e (values_behind h all s ∙ is)
 
 -- ---- what is said
-
--- the header is good, the codes were read and what stands behind them is good
-pub parse_coded : (bytes : List ℕ) (found : Coded) → header_fault bytes ≡ None → coded_blocks (header_of bytes) 0 (blocks (header_of bytes).shape) (code_bits bytes) ≡ Ok found
-    → fill_answer (header_of bytes) (length (to_bits bytes) - length found.1) found.1 ≡ Ok tt
-    → parse bytes ≡ Ok (record { header = header_of bytes; codes = codes_in found; values = values_of_blocks (header_of bytes).shape (blocks_in found).0 })
-unfolding parse
-parse_coded bytes found good read fill =
-    let h = header_of bytes in
-    let all = length (to_bits bytes) in
-    let said : Said = record { header = h; codes = codes_in found; values = values_of_blocks h.shape (blocks_in found).0 } in
-    ap (λ (f : Option HeaderFault). header_or f (said_behind h all (code_bits bytes))) good
-    ∙ ap (by_coded h all) read
-    ∙ ap (λ (r : Result (Unit {0}) StreamFault). result_map_both (λ g. said) (λ e. e) r) fill

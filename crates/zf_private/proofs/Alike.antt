@@ -251,10 +251,7 @@ module _ {Code : Type 0} (f : Format Code) (owned : ℕ → Type 0) where
   pub alike-answered : (s t : State Code) (a : Act) → IsWithin owned a → AreAlike owned s t → answered s a ≡ answered t a
   unfolding answered
   alike-answered s t (Act.get b p) o h = ap (λ vs. Some (get_or vs p (pos 0))) (h.values b o)
-  alike-answered s t (Act.set b p v) o h = refl
-  alike-answered s t (Act.add b p v) o h = refl
-  alike-answered s t Act.flush o h = refl
-  alike-answered s t Act.discard o h = refl
+  alike-answered s t x o h = refl
 
   pub alike-refl : (s : State Code) → AreAlike owned s s
   alike-refl s = record { lines = refl; held = refl; dirty = refl; counts = refl; values = λ b o. refl; codes = λ b o. refl }

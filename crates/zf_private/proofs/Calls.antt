@@ -20,6 +20,7 @@ use Rattle.zf_cache.specs.Kept.{Kept, HasBlocks, HasRow, IsIn, IsDirty, tag_at, 
 use Rattle.zf_cache.specs.Standing.{state_of, values_of, line_values, Fits, state_at}
 use Rattle.zf_cache.specs.Steps.{with_value, put, put_at}
 use Rattle.zf_cache.proofs.Tags.{names-dirty, named}
+use Rattle.zf_cache.specs.Backed.{BackedAt}
 use Rattle.zf_cache.specs.Loans.{StandsFor}
 use Rattle.zf_cache.proofs.Steps.{part_written}
 use Rattle.zf_cache.proofs.Sound.{values_here}
@@ -27,7 +28,7 @@ use Rattle.zf_cache.proofs.Sound as sound
 use Rattle.zf_cached.specs.Acts.{Act}
 use Rattle.zf_cached.specs.Views.{changed, acted, answered, IsWithin, HasOwn}
 use Rattle.zf_private.specs.Standing.{Held, Own, block_at, place_at, state, IsOver, HasPlaces, IsWhole}
-use Rattle.zf_private.specs.Doing.{DoesAct}
+use Rattle.zf_private.specs.Doing.{SitsOnAt, DoesAct}
 use Rattle.zf_private.proofs.Alike.{own-acted, stay-acted}
 
 module _ {X Code : Type 0} (value : X → ℤ) where
@@ -114,6 +115,19 @@ module _ {X Code : Type 0} (value : X → ℤ) (w : Width) (d : ℕ) (v now : He
         let own : HasOwn (Own now) (state_of value new h j) = subst (HasOwn (Own now)) (sym step) (own-acted f (Own now) w (state value now f k) a within own_now) in
         let back : HasOwn (Own v) (state_of value new h j) = subst (λ u. HasOwn (Own u) (state_of value new h j)) (sym is) own in
         record { dims = whole.dims; shape = whole.shape; some = whole.some; inside = whole.inside; own = back.held }
+
+-- what the cache is called with at a position of a view's own
+pub backed_at : {B X : Type 0} (R : Reading B X) (value : X → ℤ) (w : Width) (d : ℕ) (v now : Held X) (is : v ≡ now) (whole : IsWhole d v) (back : B) (p : Pos) → SitsOnAt R value now back p
+    → (b place : ℕ) → b ≡ block_at v p → place ≡ place_at v p → IsAt v.shape (used_axes (length v.shape) p) b place → BackedAt R (Fits value) d v.cache back b × (place < 4 ^ d)
+backed_at R value w d v now is whole back p sits b place block at_place at =
+    let f = R.format back in let k = R.codes back in (
+      record {
+        fits = fits_mine value w d v now is whole f k sits.fits;
+        blocks = has_blocks value w d v now is whole f k sits.blocks;
+        below = block_below value w d v now is whole f k p b place block at_place at sits.blocks;
+      },
+      place_below value w d v now is whole f k p b place block at_place at,
+    )
 
 -- a call of the cache that leaves it fitting has done an act of the view
 pub does : {B X : Type 0} (R : Reading B X) (value : X → ℤ) (w : Width) (d : ℕ) (v now : Held X) (is : v ≡ now) → IsWhole d v → (back : B) (new : Kept X) (past : B) (a : Act)

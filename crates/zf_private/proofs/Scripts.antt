@@ -385,8 +385,7 @@ module _ {Code : Type 0} (setting : Setting Code) (ns : List ℕ) (n : ℕ) (som
 module _ {Code : Type 0} (setting : Setting Code) (start : Session Code) (n lines : ℕ) (taken : refusal setting start (Command.split n lines) false ≡ None) where
   size_false : (p a b v m : Bool) → first_refusal p a b v m ≡ None → a ≡ false
   size_false false false b v m e = refl
-  size_false false true b v m e = absurd (cc)
-  size_false true a b v m e = absurd (cc)
+  size_false x a b v m e = absurd (cc)
 
   counted : is_view_count (format_of setting start).blocks n && is_line_count lines ≡ true
   unfolding refusal

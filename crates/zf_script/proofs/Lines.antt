@@ -1,5 +1,5 @@
 -- Words of lines and the commands that they are.
-use Rattle.std.proofs.Common.{◌≡◌, ◌≢◌, ℕ, suc, ◌+◌, ◌<◌, ◌≤◌, ◌^◌, ℤ, pos, negsuc, List, [], ◌∷◌, length, get_or, drop, ◌&&◌, ◌⊎◌, inl, inr, true, false, bytes_eq, Option, Some, None, Result, IsTrue, IfSome, IfNone, IfOk, IfErr, FitsSigned, refl, ap, sym, ◌∙◌, arith, codes, decimal}
+use Rattle.std.proofs.Common.{◌≡◌, ◌≢◌, ℕ, suc, ◌+◌, ◌<◌, ◌≤◌, ◌^◌, ℤ, pos, negsuc, List, [], ◌∷◌, length, get_or, drop, ◌&&◌, ◌⊎◌, inl, inr, true, false, bytes_eq, Option, Some, None, Result, IsTrue, IfSome, IfNone, IfOk, IfErr, FitsSigned, refl, ap, sym, ◌∙◌, arith, rules, codes, decimal}
 use Rattle.std.specs.Int.{w128}
 use Rattle.std.specs.Fmt.{signed_decimal}
 use Rattle.std.specs.List.{join_with_byte}
@@ -176,23 +176,13 @@ no_join d rest c ok same = other_verb (codes "join") c (cut_at space rest) refl 
 
 -- a verb that stands alone has no words behind it
 pub no_words : (d : ℕ) (verb : Verb) (rest : List ℕ) → verb ≢ verbs.Get → verb ≢ verbs.Set → verb ≢ verbs.Add → verb ≢ verbs.Fill → verb ≢ verbs.View → verb ≢ verbs.Slice → verb ≢ verbs.VGet → verb ≢ verbs.VSet → verb ≢ verbs.Lines → verb ≢ verbs.Resize → verb ≢ verbs.Split → IsNoCommand d (verb_word verb ∷ cut_at space rest)
-no_words d verbs.Get rest get set add fill view slice vget vset lines resize split = absurd (get refl)
-no_words d verbs.Set rest get set add fill view slice vget vset lines resize split = absurd (set refl)
-no_words d verbs.Add rest get set add fill view slice vget vset lines resize split = absurd (add refl)
-no_words d verbs.Fill rest get set add fill view slice vget vset lines resize split = absurd (fill refl)
-no_words d verbs.View rest get set add fill view slice vget vset lines resize split = absurd (view refl)
-no_words d verbs.Slice rest get set add fill view slice vget vset lines resize split = absurd (slice refl)
-no_words d verbs.VGet rest get set add fill view slice vget vset lines resize split = absurd (vget refl)
-no_words d verbs.VSet rest get set add fill view slice vget vset lines resize split = absurd (vset refl)
-no_words d verbs.Lines rest get set add fill view slice vget vset lines resize split = absurd (lines refl)
-no_words d verbs.Resize rest get set add fill view slice vget vset lines resize split = absurd (resize refl)
 no_words d verbs.Sum rest get set add fill view slice vget vset lines resize split = no_sum d rest
 no_words d verbs.VSum rest get set add fill view slice vget vset lines resize split = no_vsum d rest
 no_words d verbs.Flush rest get set add fill view slice vget vset lines resize split = no_flush d rest
 no_words d verbs.Discard rest get set add fill view slice vget vset lines resize split = no_discard d rest
 no_words d verbs.Stats rest get set add fill view slice vget vset lines resize split = no_stats d rest
-no_words d verbs.Split rest get set add fill view slice vget vset lines resize split = absurd (split refl)
 no_words d verbs.Join rest get set add fill view slice vget vset lines resize split = no_join d rest
+no_words d verb rest get set add fill view slice vget vset lines resize split = absurd (search rules)
 
 -- ---- words that are on a view
 -- the first word is that of a view, the second one a verb, and the others are these
@@ -255,29 +245,13 @@ pub record HasViewWord (c : Command) : Type 0 where
 
 first_word : (c : Command) → (get_or (words_of c) 0 [] ≡ verb_word (verb_of c)) ⊎ HasViewWord c
 unfolding verb_of
-first_word (Command.get p) = inl refl
-first_word (Command.set p v) = inl refl
-first_word (Command.add p v) = inl refl
-first_word (Command.fill v) = inl refl
-first_word Command.sum = inl refl
-first_word (Command.view p s t) = inl refl
-first_word (Command.slice a i) = inl refl
-first_word (Command.vget p) = inl refl
-first_word (Command.vset p v) = inl refl
-first_word Command.vsum = inl refl
-first_word Command.flush = inl refl
-first_word Command.discard = inl refl
-first_word (Command.lines l) = inl refl
-first_word (Command.resize s) = inl refl
-first_word Command.stats = inl refl
-first_word (Command.split n l) = inl refl
-first_word Command.join = inl refl
 first_word (Command.pget i p) = inr (record { at_sign = refl; more = omega arith; verb = refl })
 first_word (Command.pset i p v) = inr (record { at_sign = refl; more = omega arith; verb = refl })
 first_word (Command.padd i p v) = inr (record { at_sign = refl; more = omega arith; verb = refl })
 first_word (Command.pflush i) = inr (record { at_sign = refl; more = omega arith; verb = refl })
 first_word (Command.pdiscard i) = inr (record { at_sign = refl; more = omega arith; verb = refl })
 first_word (Command.pstats i) = inr (record { at_sign = refl; more = omega arith; verb = refl })
+first_word x = inl refl
 
 -- words whose first one is no verb, and does not begin with `@`, are no command
 pub no_verb : (d : ℕ) (word : List ℕ) (rest : List (List ℕ)) → get_or word 0 0 ≢ 64 → ((verb : Verb) → word ≢ verb_word verb) → IsNoCommand d (word ∷ rest)

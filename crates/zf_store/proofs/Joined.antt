@@ -58,9 +58,8 @@ word_of_run at len n x bits before within is_n is_x =
 
 -- one word has its bits
 pub one_word : (words : List ℕ) → length words ≡ 1 → field 64 (get_or words 0 0) ≡ word_bits words
-one_word [] one = absurd (omega arith)
 one_word (x ∷ []) one = sym (append-nil (field 64 x))
-one_word (x ∷ y ∷ words) one = absurd (omega arith)
+one_word x one = absurd (omega arith)
 
 module _ (prefix back : List Bool) (at : ℕ) where
   pub word_behind : (from : ℕ) → length prefix ≤ at → from ≡ at - length prefix → take 64 (drop from back ++ replicate 64 false) ≡ take 64 (drop at (prefix ++ back) ++ replicate 64 false)

@@ -1,7 +1,7 @@
 -- What follows from what holds of the fields of a store.
 use Rattle.std.proofs.Common.{◌≡◌, refl, sym, ap, subst, ◌∙◌, ℕ, ◌+◌, ◌-◌, ◌*◌, ◌^◌, ◌<◌, ◌≤◌, Bool, false, ℤ, List, [], ◌++◌, length, take, drop, replicate, length-drop, arith}
 use Rattle.std.specs.List.{flat_map}
-use Rattle.std.specs.Int.{Width, div_ceil}
+use Rattle.std.specs.Int.{Width}
 use Rattle.std.proofs.lemmas.List.{length-take-le, take_at, drop_at, drop-replicate}
 use Rattle.zf_spec.specs.Grid.{blocks, extent_of}
 use Rattle.zf_spec.specs.Codes.{existing_values, read_rate, rate}
@@ -14,7 +14,7 @@ use Rattle.zf_base.proofs.Extents.{length-extent_of}
 use Rattle.zf_bits.specs.Writer.{Writer}
 use Rattle.zf_bits.proofs.Packed.{flat_map-field-replicate}
 use Rattle.zf_header.specs.declared.header.Header.{Header}
-use Rattle.zf_header.specs.HeaderBits.{block_bits, header_bits, rate_bytes_of}
+use Rattle.zf_header.specs.HeaderBits.{block_bits, header_bits}
 use Rattle.zf_cached.specs.Arrays.{rate_coding, array_format}
 use Rattle.zf_cached.proofs.Arrays.{existing_of-array, meant-rate, encoded-rate}
 use Rattle.zf_header.proofs.Parts.{length-header_bits_le}
@@ -76,11 +76,6 @@ module _ (w : Width) (d : ℕ) (h : Header) (words : List ℕ) (room : ℕ) (cod
       ap (λ (bs : List Bool). to_bytes (with_fill (bs ++ take m (word_bits words)))) first
       ∙ ap (λ k. to_bytes (with_fill (header_bits h ++ take k (word_bits words)))) is_m
       ∙ ap (λ (bs : List Bool). to_bytes (with_fill (header_bits h ++ bs))) (sym (joined-codes_in (block_bits h.mode) (blocks h.shape) (word_bits words)))
-
-  pub file_size : (n m : ℕ) → n ≡ length head.bits → m ≡ all_bits h → rate_bytes_of h ≡ 8 * div_ceil (n + m) 64
-  file_size n m is_n is_m =
-      let sum : length (header_bits h) + blocks h.shape * block_bits h.mode ≡ n + m = omega (arith, ap length kept.head_is) in
-      ap (λ k. 8 * div_ceil k 64) sum
 
   pub bits_most : length head.bits + all_bits h < 2 ^ 50
   bits_most = omega (arith, ap length kept.head_is, length-header_bits_le h kept.shape, all_bits_most h kept.shape kept.rate)

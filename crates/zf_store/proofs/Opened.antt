@@ -4,7 +4,7 @@ use Rattle.std.specs.Int.{div_ceil}
 use Rattle.std.proofs.Math.Nat.{div-lt_iff_lt-mul, le-div_iff_mul-le, mul-le-mul}
 use Rattle.std.proofs.lemmas.Bool.{cases_lt}
 use Rattle.std.proofs.lemmas.List.{length-take-le, take-append-drop, take-append-le, take_at, drop-append-le, drop-drop, take_all}
-use Rattle.zf_spec.specs.Grid.{upto, blocks, extent_of}
+use Rattle.zf_spec.specs.Grid.{upto, blocks, extent_of, IsShape}
 use Rattle.zf_spec.specs.Codes.{read_rate}
 use Rattle.zf_spec.specs.Numbers.{field, number, word_bits}
 use Rattle.zf_bits.proofs.Words.{take-words}
@@ -22,7 +22,6 @@ use Rattle.zf_header.specs.HeaderBits.{IsRate, IsHeader, BeginsWith, block_bits,
 use Rattle.zf_header.proofs.Good.{good}
 use Rattle.zf_header.proofs.Modes.{mode_is_rate, rate_is_some}
 use Rattle.zf_header.proofs.Parts.{length-header_bits, length-header_bits_le}
-use Rattle.zf_spec.specs.Grid.{IsShape}
 use Rattle.zf_header.proofs.Found.{read_is_spelled, read_is_header, begins_within}
 use Rattle.zf_parse.specs.declared.fault.StreamFault.TheVariants.{Truncated, Pad, Trailing}
 use Rattle.zf_parse.specs.Parsing.{values_of_blocks, parse}

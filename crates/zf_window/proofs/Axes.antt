@@ -14,11 +14,8 @@ use Rattle.zf_window.specs.WindowFields.{window_of, AreUnused}
 
 stepped-append : (os ts ps xs ys zs : List ℕ) → length ts ≡ length os → length ps ≡ length os → stepped (os ++ xs) (ts ++ ys) (ps ++ zs) ≡ stepped os ts ps ++ stepped xs ys zs
 stepped-append [] [] [] xs ys zs a b = refl
-stepped-append [] (t ∷ ts) ps xs ys zs a b = absurd (omega arith)
-stepped-append [] [] (p ∷ ps) xs ys zs a b = absurd (omega arith)
-stepped-append (o ∷ os) [] ps xs ys zs a b = absurd (omega arith)
-stepped-append (o ∷ os) (t ∷ ts) [] xs ys zs a b = absurd (omega arith)
 stepped-append (o ∷ os) (t ∷ ts) (p ∷ ps) xs ys zs a b = ap (λ rest. (o + p * t) ∷ rest) (stepped-append os ts ps xs ys zs (omega arith) (omega arith))
+stepped-append x y ps xs ys zs a b = absurd (omega arith)
 
 stepped-unused : (k : ℕ) → stepped (replicate k 0) (replicate k 1) (replicate k 0) ≡ replicate k 0
 stepped-unused zero = refl
@@ -34,29 +31,26 @@ is_inside-ones (suc k) = is_inside-ones k
 
 is_inside-append : (ns ps : List ℕ) (k : ℕ) → length ps ≡ length ns → is_inside (ns ++ replicate k 1) (ps ++ replicate k 0) ≡ is_inside ns ps
 is_inside-append [] [] k long = is_inside-ones k
-is_inside-append [] (p ∷ ps) k long = absurd (omega arith)
-is_inside-append (n ∷ ns) [] k long = absurd (omega arith)
 is_inside-append (n ∷ ns) (p ∷ ps) k long = ap (λ b. ltb p n && b) (is_inside-append ns ps k (omega arith))
+is_inside-append x y k long = absurd (omega arith)
 
 -- inside ones are zeros alone
 zeros_inside : (k : ℕ) (ps : List ℕ) → length ps ≡ k → is_inside (replicate k 1) ps ≡ true → ps ≡ replicate k 0
 zeros_inside zero [] long inside = refl
-zeros_inside zero (p ∷ ps) long inside = absurd (omega arith)
-zeros_inside (suc k) [] long inside = absurd (omega arith)
 zeros_inside (suc k) (p ∷ ps) long inside =
     let parts = and_parts (ltb p 1) (is_inside (replicate k 1) ps) inside in
     let none : p ≡ 0 = omega (arith, ltb-true p 1 parts.0) in
     let rest = zeros_inside k ps (omega arith) parts.1 in
     cc
+zeros_inside x y long inside = absurd (omega arith)
 
 inside_parts : (ns ps qs : List ℕ) (k : ℕ) → length ps ≡ length ns → length qs ≡ k → is_inside (ns ++ replicate k 1) (ps ++ qs) ≡ true → (is_inside ns ps ≡ true) × (qs ≡ replicate k 0)
 inside_parts [] [] qs k long count inside = (refl, zeros_inside k qs count inside)
-inside_parts [] (p ∷ ps) qs k long count inside = absurd (omega arith)
-inside_parts (n ∷ ns) [] qs k long count inside = absurd (omega arith)
 inside_parts (n ∷ ns) (p ∷ ps) qs k long count inside =
     let parts = and_parts (ltb p n) (is_inside (ns ++ replicate k 1) (ps ++ qs)) inside in
     let rest = inside_parts ns ps qs k (omega arith) count parts.1 in
     (and_from (ltb p n) (is_inside ns ps) parts.0 rest.0, rest.1)
+inside_parts x y qs k long count inside = absurd (omega arith)
 
 none_zero-ones : (k : ℕ) → none_zero (replicate k 1) ≡ true
 none_zero-ones zero = refl

@@ -124,12 +124,8 @@ pub place_small : (ns : List ℕ) (b p : ℕ) (ps : List ℕ) → IsShape ns →
 place_small ns b p ps sizes at = by (length ns) sizes.four_at_most at.place_in_block
   where
     by : (d : ℕ) → d ≤ 4 → p < 4 ^ d → p < 256
-    by zero four lt = omega arith
-    by (suc zero) four lt = omega arith
-    by (suc (suc zero)) four lt = omega arith
-    by (suc (suc (suc zero))) four lt = omega arith
-    by (suc (suc (suc (suc zero)))) four lt = omega arith
     by (suc (suc (suc (suc (suc d))))) four lt = absurd (omega arith)
+    by d four lt = omega arith
 
 -- the positions that follow the one of a walk
 module _ (ns : List ℕ) (w : Window) (here : Pos) (k n : ℕ) (sizes : IsShape ns) (lies : LiesIn ns w) (here_is : here ≡ numbered w k) (below : k < product w.size) (count : n ≡ side_count w here) where

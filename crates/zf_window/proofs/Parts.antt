@@ -16,21 +16,17 @@ use Rattle.zf_window.specs.WindowFields.{window_of, largest, AreUnused, IsWindow
 
 inside_largest : (ns ms ps : List ℕ) → AllByRecursion (λ n. n ≤ 2 ^ 48) ns → length ms ≡ length ns → is_inside ns ps ≡ true → is_inside (largest ms) ps ≡ true
 inside_largest [] [] ps small same inside = refl
-inside_largest [] (m ∷ ms) ps small same inside = absurd (omega arith)
-inside_largest (n ∷ ns) [] ps small same inside = absurd (omega arith)
 inside_largest (n ∷ ns) (m ∷ ms) [] small same inside = inside
 inside_largest (n ∷ ns) (m ∷ ms) (p ∷ ps) small same inside =
     let parts = and_parts (ltb p n) (is_inside ns ps) inside in
     and_from (ltb p (2 ^ 48)) (is_inside (largest ms) ps) (lt-ltb p (2 ^ 48) (omega (arith, ltb-true p n parts.0, small.0))) (inside_largest ns ms ps small.1 (omega arith) parts.1)
+inside_largest x y ps small same inside = absurd (omega arith)
 
 -- what a field of the header holds is small
 field_small : (d : ℕ) → 1 ≤ d → d ≤ 4 → 2 ^ (48 / d) ≤ 2 ^ 48
 field_small zero a b = absurd (omega arith)
-field_small (suc zero) a b = lit≤ tt
-field_small (suc (suc zero)) a b = lit≤ tt
-field_small (suc (suc (suc zero))) a b = lit≤ tt
-field_small (suc (suc (suc (suc zero)))) a b = lit≤ tt
 field_small (suc (suc (suc (suc (suc d))))) a b = absurd (omega arith)
+field_small x a b = lit≤ tt
 
 all_small : (ns : List ℕ) (k : ℕ) → k ≤ 2 ^ 48 → AllByRecursion (λ n. n ≤ k) ns → AllByRecursion (λ n. n ≤ 2 ^ 48) ns
 all_small [] k small all = tt
@@ -66,19 +62,13 @@ IsWindowOf-lies ns o s t shape unused lies =
 
 pub window_of-whole : (ns : List ℕ) → IsShape ns → window_of (length ns) (record { x = 0; y = 0; z = 0; w = 0 }) (with_unused 1 ns) (record { x = 1; y = 1; z = 1; w = 1 }) ≡ whole ns
 window_of-whole [] shape = absurd (omega (arith, shape.some_dimension))
-window_of-whole (a ∷ []) shape = refl
-window_of-whole (a ∷ b ∷ []) shape = refl
-window_of-whole (a ∷ b ∷ c ∷ []) shape = refl
-window_of-whole (a ∷ b ∷ c ∷ d ∷ []) shape = refl
 window_of-whole (a ∷ b ∷ c ∷ d ∷ e ∷ ns) shape = absurd (omega (arith, shape.four_at_most))
+window_of-whole x shape = refl
 
 pub AreUnused-whole : (ns : List ℕ) → IsShape ns → AreUnused (length ns) (record { x = 0; y = 0; z = 0; w = 0 }) (with_unused 1 ns) (record { x = 1; y = 1; z = 1; w = 1 })
 AreUnused-whole [] shape = absurd (omega (arith, shape.some_dimension))
-AreUnused-whole (a ∷ []) shape = record { origins = refl; sizes = refl; steps = refl }
-AreUnused-whole (a ∷ b ∷ []) shape = record { origins = refl; sizes = refl; steps = refl }
-AreUnused-whole (a ∷ b ∷ c ∷ []) shape = record { origins = refl; sizes = refl; steps = refl }
-AreUnused-whole (a ∷ b ∷ c ∷ d ∷ []) shape = record { origins = refl; sizes = refl; steps = refl }
 AreUnused-whole (a ∷ b ∷ c ∷ d ∷ e ∷ ns) shape = absurd (omega (arith, shape.four_at_most))
+AreUnused-whole x shape = record { origins = refl; sizes = refl; steps = refl }
 
 -- ---- tests
 

@@ -9,19 +9,18 @@ use Rattle.zf_base.specs.declared.position.Pos.{Pos}
 use Rattle.zf_base.specs.Positions.{axes, used_axes, with_unused, IsPosition}
 use Rattle.zf_base.proofs.Sizes.{axes-with_unused}
 use Rattle.zf_base.proofs.Extents.{length-used_axes, same_from_axes}
-use Rattle.zf_cached.specs.Windows.{Window, LiesIn, stepped, mapped, sliced, has_place, none_zero, lies_in}
+use Rattle.zf_cached.specs.Windows.{LiesIn, stepped, mapped, sliced, has_place, none_zero, lies_in}
 use Rattle.zf_cached.proofs.Windows.{mapped_inside, length-mapped, LiesIn-sliced}
 use Rattle.zf_window.specs.WindowFields.{window_of, largest, IsWindowOf}
 use Rattle.zf_window.proofs.Axes.{stepped-axes}
 
 -- coordinates in the largest array are small
 all_below : (ms ps : List ℕ) → length ps ≡ length ms → is_inside (largest ms) ps ≡ true → AllByRecursion (λ c. c < 2 ^ 48) ps
-all_below [] [] same inside = tt
 all_below [] (p ∷ ps) same inside = absurd (omega arith)
-all_below (m ∷ ms) [] same inside = tt
 all_below (m ∷ ms) (p ∷ ps) same inside =
     let parts = and_parts (ltb p (2 ^ 48)) (is_inside (largest ms) ps) inside in
     (ltb-true p (2 ^ 48) parts.0, all_below ms ps (omega arith) parts.1)
+all_below x y same inside = tt
 
 all_with_zeros : (ps : List ℕ) (k : ℕ) → AllByRecursion (λ c. c < 2 ^ 48) ps → AllByRecursion (λ c. c < 2 ^ 48) (ps ++ replicate k 0)
 all_with_zeros [] zero all = tt
@@ -29,9 +28,6 @@ all_with_zeros [] (suc k) all = (omega arith, all_with_zeros [] k tt)
 all_with_zeros (p ∷ ps) k all = (all.0, all_with_zeros ps k all.1)
 
 module _ (d : ℕ) (o s t : Pos) (w : IsWindowOf d o s t) (p : Pos) (at : IsPosition (used_axes d s) p) where
-  the_window : Window
-  the_window = window_of d o s t
-
   long : length (used_axes d s) ≡ d
   long = length-used_axes d s w.four_at_most
 
@@ -74,11 +70,9 @@ get_or-prefix (x ∷ xs) ys zero lt = refl
 get_or-prefix (x ∷ xs) ys (suc k) lt = get_or-prefix xs ys k (omega arith)
 
 get_or-stepped : (os ts ps : List ℕ) (k : ℕ) → k < length os → length ts ≡ length os → length ps ≡ length os → get_or (stepped os ts ps) k 0 ≡ get_or os k 0 + get_or ps k 0 * get_or ts k 0
-get_or-stepped [] ts ps k lt a b = absurd (omega arith)
-get_or-stepped (o ∷ os) [] ps k lt a b = absurd (omega arith)
-get_or-stepped (o ∷ os) (t ∷ ts) [] k lt a b = absurd (omega arith)
 get_or-stepped (o ∷ os) (t ∷ ts) (p ∷ ps) zero lt a b = refl
 get_or-stepped (o ∷ os) (t ∷ ts) (p ∷ ps) (suc k) lt a b = get_or-stepped os ts ps k (omega arith) (omega arith) (omega arith)
+get_or-stepped x ts ps k lt a b = absurd (omega arith)
 
 below_at : (ps : List ℕ) (k : ℕ) → k < length ps → AllByRecursion (λ c. c < 2 ^ 48) ps → get_or ps k 0 < 2 ^ 48
 below_at [] k lt all = absurd (omega arith)

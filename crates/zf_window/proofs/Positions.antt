@@ -16,9 +16,8 @@ inside_long (n ∷ ns) [] inside = absurd (false≢true inside)
 inside_long (n ∷ ns) (p ∷ ps) inside = omega (arith, inside_long ns ps (and_parts (ltb p n) (is_inside ns ps) inside).1)
 
 take_at_most : (k : ℕ) (xs : List ℕ) → length (take k xs) ≤ length xs
-take_at_most zero xs = omega arith
-take_at_most (suc k) [] = omega arith
 take_at_most (suc k) (x ∷ xs) = omega (arith, take_at_most k xs)
+take_at_most x xs = omega arith
 
 -- so there are four axes at most
 pub four_axes : (ns : List ℕ) (p : Pos) → IsPosition ns p → length ns ≤ 4

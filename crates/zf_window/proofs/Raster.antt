@@ -15,9 +15,8 @@ use Rattle.zf_window.proofs.Axes.{sizes_four, IsPosition-inside}
 
 take_prefix : (xs ys : List ℕ) (n : ℕ) → length xs ≡ n → take n (xs ++ ys) ≡ xs
 take_prefix [] ys zero long = refl
-take_prefix [] ys (suc n) long = absurd (omega arith)
-take_prefix (x ∷ xs) ys zero long = absurd (omega arith)
 take_prefix (x ∷ xs) ys (suc n) long = ap (λ rest. x ∷ rest) (take_prefix xs ys n (omega arith))
+take_prefix x ys y long = absurd (omega arith)
 
 -- a box has as many positions along four axes as along the used ones
 pub product_used : (d : ℕ) (size : Pos) → d ≤ 4 → size ≡ with_unused 1 (used_axes d size) → product (axes size) ≡ product (used_axes d size)
@@ -50,10 +49,6 @@ size_below n o t s some step last = omega (arith, some, last, le-mul_of_pos_righ
 product_lists : (ns os ss ts : List ℕ) → length os ≡ length ns → length ss ≡ length ns → length ts ≡ length ns → none_zero ss ≡ true → none_zero ts ≡ true
     → is_inside ns (stepped os ts (map (λ n. n - 1) ss)) ≡ true → product ss ≤ product ns
 product_lists [] os [] ts a b c some steps inside = omega arith
-product_lists [] os (s ∷ ss) ts a b c some steps inside = absurd (omega arith)
-product_lists (n ∷ ns) [] ss ts a b c some steps inside = absurd (omega arith)
-product_lists (n ∷ ns) (o ∷ os) [] ts a b c some steps inside = absurd (omega arith)
-product_lists (n ∷ ns) (o ∷ os) (s ∷ ss) [] a b c some steps inside = absurd (omega arith)
 product_lists (n ∷ ns) (o ∷ os) (s ∷ ss) (t ∷ ts) a b c some steps inside =
     let one = and_parts (leb 1 s) (none_zero ss) some in
     let two = and_parts (leb 1 t) (none_zero ts) steps in
@@ -61,6 +56,7 @@ product_lists (n ∷ ns) (o ∷ os) (s ∷ ss) (t ∷ ts) a b c some steps insid
     let first : s ≤ n = size_below n o t s (leb-true 1 s one.0) (leb-true 1 t two.0) (ltb-true (o + (s - 1) * t) n three.0) in
     let rest : product ss ≤ product ns = product_lists ns os ss ts (omega arith) (omega arith) (omega arith) one.1 two.1 three.1 in
     omega (arith, mul-le-mul_left {m = product ss} {n = product ns} s rest, mul-le-mul_right {m = s} {n = n} (product ns) first)
+product_lists x os ss ts a b c some steps inside = absurd (omega arith)
 
 pub product_window : (ns : List ℕ) (w : Window) → LiesIn ns w → product w.size ≤ product ns
 product_window ns w lies =

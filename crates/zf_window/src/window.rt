@@ -149,12 +149,7 @@ impl Window {
         requires { IsPosition self.now.size p }
         ensures { result ≡ with_unused 0 (mapped self.now (used_axes (length self.now.size) p)) }
     {
-        Pos {
-            x: self.origin.x + p.x * self.step.x,
-            y: self.origin.y + p.y * self.step.y,
-            z: self.origin.z + p.z * self.step.z,
-            w: self.origin.w + p.w * self.step.w,
-        }
+        stepped(&self.origin, &self.step, p)
     }
 
     /// Position `number` of the window in raster order, x fastest, as a position of the array. `number` is
@@ -235,6 +230,20 @@ impl Window {
             size: with_along(&self.size, axis, 1),
             step: self.step,
         })
+    }
+}
+
+// The numbers `step` apart from `origin` on that stand at place `p`: `origin + p * step`. All are small.
+#[inline]
+fn stepped(origin: &Pos, step: &Pos, p: Pos) -> Pos
+    requires { AllByRecursion (λ n. n < 2 ^ 48) (stepped (axes origin.now) (axes step.now) (axes p)) }
+    ensures { axes result ≡ stepped (axes origin.now) (axes step.now) (axes p) }
+{
+    Pos {
+        x: origin.x + p.x * step.x,
+        y: origin.y + p.y * step.y,
+        z: origin.z + p.z * step.z,
+        w: origin.w + p.w * step.w,
     }
 }
 

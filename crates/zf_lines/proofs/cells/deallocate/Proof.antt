@@ -4,26 +4,26 @@ use Prim.Native.Nat.{ℕ, ◌*◌, ◌<◌, ◌^◌}
 use native.Mathlib.Omega.{arith}
 use mathlib.Core.List.{List, [], ◌∷◌, ◌++◌}
 use seplogic.Ra.Ura.{Ura}
-use mir.Syntax.{Fn, named, w64}
+use mir.Syntax.{Fn, named, w64, ty_unit, ty_array}
 use mir.MapTy.{inst_fn}
-use mir.Val.{Val, vptr, vint, vunit}
+use mir.Val.{Val, vptr, vint, vunit, has_ty, WT}
 use base.Logic.{SProp, ent, never, id⊢}
-use base.Fml.{Lft, Share, ftrue, froom, flft}
+use base.Fml.{Lft, Share, ftrue, froom, flft, Incl-trans}
 use prog.Wp.{Env, Calls, Loops, WpFn, Tables}
 use types.Logic.{Logic}
-use contract.Monad.{fact}
+use contract.Monad.{fact, Fun}
 use contract.Running.{tables, tables_of}
-use sound.WpLaws.{WpFn-mono}
-use types.Kit.{Item, ⋆, ‵, raw, ◌⊛◌, given, later, await, learn, at_ret, ◌$◌, ◌∵◌, !, qed, by, move, keep, use1, split, join, group, rewrite, fsplit, fsplit3, fjoin, feq_i, feq_l, suffices, done}
+use sound.WpLaws.{WpFn-mono, FmC, fm_of}
+use types.Kit.{Item, ⋆, ‵, raw, ◌⊛◌, given, later, await, learn, at_ret, ◌$◌, ◌∵◌, !, qed, by, move, keep, use1, split, join, group, rewrite, fsplit, fsplit3, fjoin, feq_i, feq_l, suffices, done, flt_l}
 use types.Part.{whole, sub}
-use types.Run.{stop, fld, unit_lit, of_opd, and_then, no_more, first, blocks, exec, returns, enter}
-use types.ByLocal.{alloc_all, pass_all, free_all, look_at, get, get_in, sets, is, env}
+use types.Run.{stop, fld, unit_lit, of_opd, and_then, no_more, first, blocks, exec, returns, enter, bin, size_word, align_word}
+use types.ByLocal.{alloc_all, pass_all, free_all, look_at, get, get_in, sets, is, env, lands_last}
 use denote.Exit.{yes, no}
 use denote.RattleType.{RattleType, owns}
 use denote.Memory.{hidden_shr}
 use denote.RawPtr.{Ptr, ptr_val, in_a_block}
 use denote.Ref.{Bor, ShrRef}
-use denote.Builtin.{RefOf}
+use denote.Builtin.{RefOf, usize}
 use denote.Signature.{plain}
 use denote.Steps.{nothing}
 use denote.Triple.Clauses.{Clauses, Ended, closing}
@@ -31,35 +31,22 @@ use denote.Triple.Entry.{on_entry}
 use denote.Triple.Spec.{Meets, triple_of}
 use denote.Triple.Table.{entered}
 use denote.Triple.Walked.{needs, Stays, stay_dropped, walk_of, ends_at, Goes-dropped, walk_Meets}
-use Rattle.core.proofs.alloc.Calls.{Goes-blank}
+use Rattle.core.proofs.alloc.Calls.{Goes-blank, Al, second, token, gives_key, Gives, at_gives, Gives-goes, Gives-Gives}
 use Rattle.std_alloc.proofs.VecSteps.Shapes.{after}
 use Rattle.std_alloc.proofs.RcSteps.{word, word-Good}
-use types.Kit.{flt_l}
-use types.Run.{bin}
-use denote.Builtin.{usize}
 use Rattle.core.proofs.mem.Param.{El, R, elτ}
 use Rattle.std_alloc.proofs.RawLayout.{as_raw}
-use Rattle.zf_lines.specs.Ownership.{cells_own}
-use Rattle.zf_lines.proofs.Memory.{Cr, Bs, sz, mark, mark_had, word_had}
-use base.Fml.{Incl-trans}
+use Rattle.zf_lines.specs.Ownership.{cells_own, deed_owns}
+use Rattle.zf_lines.proofs.Memory.{Cr, Bs, sz, mark, mark_had, word_had, to_room}
 use lib.Dec.{T}
 use lib.ListN.{length}
-use mir.Syntax.{ty_unit, ty_array}
-use mir.Val.{has_ty, WT}
 use prog.Memory.{Memory, align, capped}
 use prog.Capped.{capped_fits}
 use prog.Routine.{Routine}
-use contract.Monad.{Fun}
 use contract.BorrowLft.{◌⊑◌}
-use sound.WpLaws.{FmC, fm_of}
-use types.Run.{size_word, align_word}
-use types.ByLocal.{lands_last}
 use denote.Triple.Statement.{Triple}
 use denote.Triple.Call.{calls_at_last}
-use Rattle.core.proofs.alloc.Calls.{Al, second, token, gives_key, Gives, at_gives, Gives-goes, Gives-Gives}
 use Rattle.core.proofs.slots.Leases.{uncapped, block_ty, block_size, block_align, args, P}
-use Rattle.zf_lines.specs.Ownership.{deed_owns}
-use Rattle.zf_lines.proofs.Memory.{to_room}
 use Rattle.zf_lines.specs.contracts.cells.Deed as D-type
 use Rattle.zf_lines.specs.contracts.cells.deallocate as F
 use Rattle.zf_lines.specs.contracts.cells.deallocate.Key.{name as #self}

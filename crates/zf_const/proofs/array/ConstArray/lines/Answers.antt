@@ -7,5 +7,4 @@ use Rattle.zf_const.proofs.array.ConstArray.lines.Goals as goal
 pub returns : goal.returns
 unfolding state_at
 returns g c =
-    let s = c.self.inside in
-    c.lines.ensures.count ∙ ap (λ (u : State (List Bool)). u.lines) (sym (state_now g.T.Lane.value g.T.Lane.width g.row.D s.codes s.cache c.self.invariant c.args.self.now c.self.view_is))
+    c.lines.ensures.count ∙ ap (λ (u : State (List Bool)). u.lines) (sym (state_now _ _ _ _ _ c.self.invariant c.args.self.now c.self.view_is))

@@ -27,31 +27,21 @@ get_read-requires g c =
 
 pub invariant_of-self : goal.invariant_of-self
 invariant_of-self g c =
-    let s = c.self.inside in
-    joined_after g.T.Lane.value g.T.Lane.width g.row.D s.codes s.cache c.self.invariant c.args.self.now c.self.view_is c.get_read.new.back c.get_read.new.self c.get_read.ensures.step.kept c.get_read.ensures.step.fits c.get_read.ensures.clean
+    joined_after _ _ _ _ _ c.self.invariant c.args.self.now c.self.view_is c.get_read.new.back c.get_read.new.self c.get_read.ensures.step.kept c.get_read.ensures.step.fits c.get_read.ensures.clean
 
-pub returns-clause-state : goal.returns-clause-state
-returns-clause-state g c =
-    let s = c.self.inside in
-    step g.T.Lane.value g.T.Lane.width g.row.D s.codes s.cache c.self.invariant c.args.self.now c.self.view_is c.get_read.new.back c.get_read.new.self c.get_read.ensures.step.kept c.get_read.ensures.step.fits c.get_read.ensures.clean
-    (λ f u. touch f u c.args.b) c.get_read.ensures.step.state
-
-pub returns-clause-value : goal.returns-clause-value
+pub returns : goal.returns
 unfolding state_at
-returns-clause-value g c =
+returns g c =
     let s = c.self.inside in
-    let b = c.args.b in
-    let k = c.args.place in
-    let at = subst (λ (h : Header). IsAt h.shape c.requires.0 b k) (header_now g.T.Lane.value g.T.Lane.width g.row.D s.codes s.cache c.self.invariant c.args.self.now c.self.view_is) c.requires.1 in
-    OnTrue_at (exists_there s.codes c.requires.0 b k at) c.get_read.ensures.value
-    ∙ ap (λ (u : State (List Bool)). get_or (u.values b) k (pos 0)) (sym (state_held g.T.Lane.value c.get_read.new.back c.get_read.new.self c.get_read.ensures.step.fits c.get_read.ensures.clean))
-
-pub returns-clause-header : goal.returns-clause-header
-returns-clause-header g c =
-    let s = c.self.inside in
-    header_after g.T.Lane.value g.T.Lane.width g.row.D s.codes s.cache c.self.invariant c.args.self.now c.self.view_is c.get_read.new.back c.get_read.new.self c.get_read.ensures.step.kept c.get_read.ensures.step.fits c.get_read.ensures.clean
-
-pub returns-clause-codes : goal.returns-clause-codes
-returns-clause-codes g c =
-    let s = c.self.inside in
-    codes_after g.T.Lane.value g.T.Lane.width g.row.D s.codes s.cache c.self.invariant c.args.self.now c.self.view_is c.get_read.new.back c.get_read.new.self c.get_read.ensures.step.kept c.get_read.ensures.step.fits c.get_read.ensures.clean
+    record {
+      state = step g.T.Lane.value g.T.Lane.width g.row.D s.codes s.cache c.self.invariant c.args.self.now c.self.view_is c.get_read.new.back c.get_read.new.self c.get_read.ensures.step.kept c.get_read.ensures.step.fits c.get_read.ensures.clean
+          (λ f u. touch f u c.args.b) c.get_read.ensures.step.state;
+      value =
+          let b = c.args.b in
+          let k = c.args.place in
+          let at = subst (λ (h : Header). IsAt h.shape c.requires.0 b k) (header_now g.T.Lane.value g.T.Lane.width g.row.D s.codes s.cache c.self.invariant c.args.self.now c.self.view_is) c.requires.1 in
+          OnTrue_at (exists_there s.codes c.requires.0 b k at) c.get_read.ensures.value
+          ∙ ap (λ (u : State (List Bool)). get_or (u.values b) k (pos 0)) (sym (state_held g.T.Lane.value c.get_read.new.back c.get_read.new.self c.get_read.ensures.step.fits c.get_read.ensures.clean));
+      header = header_after g.T.Lane.value g.T.Lane.width g.row.D s.codes s.cache c.self.invariant c.args.self.now c.self.view_is c.get_read.new.back c.get_read.new.self c.get_read.ensures.step.kept c.get_read.ensures.step.fits c.get_read.ensures.clean;
+      codes = codes_after g.T.Lane.value g.T.Lane.width g.row.D s.codes s.cache c.self.invariant c.args.self.now c.self.view_is c.get_read.new.back c.get_read.new.self c.get_read.ensures.step.kept c.get_read.ensures.step.fits c.get_read.ensures.clean;
+    }

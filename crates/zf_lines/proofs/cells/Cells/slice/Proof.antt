@@ -2,7 +2,7 @@
 use mathlib.Core.Path.{◌≡◌, refl, sym, ap, subst, ◌∙◌}
 use Prim.Native.Nat.{ℕ, ◌+◌, ◌*◌, ◌<◌, ◌^◌}
 use native.Mathlib.Omega.{arith}
-use mathlib.Core.List.{List, [], ◌∷◌, ◌++◌}
+use mathlib.Core.List.{List, [], ◌∷◌, ◌++◌, map}
 use seplogic.Ra.Ura.{Ura}
 use base.Fraction.{full_share}
 use mir.Syntax.{Fn, named, w64}
@@ -15,17 +15,17 @@ use types.Logic.{Logic}
 use contract.Monad.{fact}
 use contract.Running.{tables, tables_of}
 use sound.WpLaws.{WpFn-mono}
-use types.Kit.{Item, ⋆, ‵, ◌⊛◌, at_ret, ◌$◌, ◌∵◌, !, qed, by, move, keep, drop, use1, split, join, rewrite, fsplit, fjoin, feq_i, feq_l, suffices, frame, done}
+use types.Kit.{Item, ⋆, ‵, ◌⊛◌, at_ret, ◌$◌, ◌∵◌, !, qed, by, move, keep, drop, use1, split, join, rewrite, fsplit, fjoin, feq_i, feq_l, suffices, frame, done, flt_l, flt_i}
 use types.Part.{whole, sub, agg}
-use types.Run.{stop, fld, of_opd, and_then, no_more, first, blocks, exec, returns, enter}
-use types.ByLocal.{alloc_all, pass_all, free_all, look_at, get, get_in, sets, sets_last, is, env}
+use types.Run.{stop, fld, of_opd, and_then, no_more, first, blocks, exec, returns, enter, bin, size_word}
+use types.ByLocal.{alloc_all, pass_all, free_all, look_at, get, get_in, sets, sets_last, is, env, take_at, give_at}
 use denote.Exit.{yes, no}
 use denote.RattleType.{owns}
 use denote.Memory.{hidden_shr}
 use denote.Param.{layout}
 use denote.RawPtr.{Ptr, in_a_block}
 use denote.Ref.{Bor, ShrRef}
-use denote.Builtin.{RefOf}
+use denote.Builtin.{RefOf, usize, SliceRefOf}
 use denote.Signature.{plain}
 use denote.Opens.{hide, unhide}
 use denote.Steps.{nothing}
@@ -37,13 +37,7 @@ use denote.Triple.Table.{entered, run_framed}
 use denote.Triple.Walked.{says, needs, Stays, stay_dropped, walk_of, ends_at, Goes-dropped, walk_Meets}
 use Rattle.std_alloc.proofs.VecSteps.Shapes.{after}
 use Rattle.std_alloc.proofs.RcSteps.{word, word-Good}
-use lib.ListN.{length, take, length-take, length-drop}
-use lib.ListN.{drop as drop_l}
-use mathlib.Core.List.{map}
-use types.Kit.{flt_l, flt_i}
-use types.Run.{bin}
-use types.ByLocal.{take_at, give_at}
-use denote.Builtin.{usize, SliceRefOf}
+use lib.ListN.{length, take, length-take, length-drop, drop as drop_l}
 use Rattle.std.specs.Prelude.{Some}
 use Rattle.std.proofs.lemmas.List.{length-map}
 use Rattle.core.proofs.mem.Param.{El, R, args, el_x}
@@ -52,7 +46,6 @@ use Rattle.zf_lines.specs.Places.{IsRun}
 use Rattle.zf_lines.specs.Ownership.{cells_lent}
 use Rattle.zf_lines.proofs.Memory.{Cr, Bs, sz, word_had, run_seen}
 use denote.Slice.{ShrSlice, slice_val, elements_shared}
-use types.Run.{size_word}
 use Rattle.core.proofs.slots.Leases.{uncapped}
 use Rattle.zf_lines.specs.contracts.cells.Cells.slice.Key.{name as #self}
 use Rattle.zf_lines.proofs.cells.Cells.slice.Statement as stated

@@ -2,7 +2,7 @@
 use mathlib.Core.Path.{◌≡◌, refl, sym, ap, subst, ◌∙◌}
 use Prim.Native.Nat.{ℕ, ◌+◌, ◌*◌, ◌<◌, ◌≤◌, ◌^◌}
 use native.Mathlib.Omega.{arith}
-use mathlib.Core.List.{List, [], ◌∷◌, ◌++◌}
+use mathlib.Core.List.{List, [], ◌∷◌, ◌++◌, map}
 use seplogic.Ra.Ura.{Ura}
 use base.Fraction.{full_share}
 use mir.Syntax.{Fn, named, w64}
@@ -15,18 +15,18 @@ use types.Logic.{Logic, sem}
 use contract.Monad.{fact}
 use contract.Running.{tables, tables_of}
 use sound.WpLaws.{WpFn-mono}
-use types.Kit.{Item, ⋆, ‵, raw, ◌⊛◌, some, later, await, pick, at_ret, ◌$◌, ◌∵◌, !, qed, by, move, keep, use1, use2, split, join, group, rewrite, fsplit, fsplit3, fjoin, fjoin3, fpack, feq_l, suffices, frame, done}
+use types.Kit.{Item, ⋆, ‵, raw, ◌⊛◌, some, later, await, pick, at_ret, ◌$◌, ◌∵◌, !, qed, by, move, keep, use1, use2, split, join, group, rewrite, fsplit, fsplit3, fjoin, fjoin3, fpack, feq_l, suffices, frame, done, flt_l, flt_i}
 use types.Part.{whole, sub, agg}
-use types.Run.{stop, fld, of_opd, and_then, no_more, first, blocks, exec, returns, enter}
-use types.ByLocal.{alloc_all, pass_all, free_all, look_at, get, get_in, sets, sets_last, is, env}
-use types.SemTy.{Body as Borrowed}
+use types.Run.{stop, fld, of_opd, and_then, no_more, first, blocks, exec, returns, enter, bin, size_word}
+use types.ByLocal.{alloc_all, pass_all, free_all, look_at, get, get_in, sets, sets_last, is, env, take_at, give_at}
+use types.SemTy.{Body as Borrowed, cells}
 use denote.Exit.{no}
 use denote.RattleType.{owns}
 use denote.Memory.{mem, cell_at, part_of}
 use denote.Param.{layout}
 use denote.RawPtr.{Ptr, block_ptr, in_a_block}
 use denote.Ref.{MutBor, MutRef}
-use denote.Builtin.{RefMutOf}
+use denote.Builtin.{RefMutOf, usize, SliceRefMutOf}
 use denote.Signature.{plain, mut_ref_to}
 use denote.Steps.{nothing, opens}
 use denote.Triple.Carry.{spared}
@@ -37,13 +37,7 @@ use denote.Triple.Table.{entered, run_framed}
 use denote.Triple.Walked.{says, needs, Stays, stay_dropped, walk_of, ends_at, Goes-dropped, Goes-spent_ref, walk_Meets}
 use Rattle.std_alloc.proofs.VecSteps.Shapes.{after}
 use Rattle.std_alloc.proofs.RcSteps.{word, word-Good}
-use lib.ListN.{length, take, length-take, length-drop, length-append}
-use lib.ListN.{drop as drop_l}
-use mathlib.Core.List.{map}
-use types.Kit.{flt_l, flt_i}
-use types.Run.{bin}
-use types.ByLocal.{take_at, give_at}
-use denote.Builtin.{usize, SliceRefMutOf}
+use lib.ListN.{length, take, length-take, length-drop, length-append, drop as drop_l}
 use Rattle.std.specs.Prelude.{Some}
 use Rattle.std.proofs.lemmas.List.{length-map}
 use Rattle.core.proofs.mem.Param.{El, R, args, el_x}
@@ -51,7 +45,6 @@ use Rattle.core.proofs.ptr.Rows.{times_below}
 use Rattle.zf_lines.specs.Places.{somes, IsRun}
 use Rattle.zf_lines.specs.Ownership.{slots, cells_own}
 use Rattle.zf_lines.proofs.Memory.{Cr, Bs, Mark, sz, Place, word_had, Around, run_out, run_in, to_cells, of_cells}
-use types.SemTy.{cells}
 use denote.Array.{Array}
 use denote.Slice.{MutSlice, slice_val}
 use denote.Follow.{follows}
@@ -59,7 +52,6 @@ use denote.FollowSlice.{Elements, lends_Elements}
 use lib.Seq.{take_at as take_prefix}
 use Rattle.std.specs.List.{refill}
 use Rattle.zf_lines.specs.Lends.{with_slots, spliced}
-use types.Run.{size_word}
 use Rattle.core.proofs.slots.Leases.{uncapped}
 use Rattle.zf_lines.specs.contracts.cells.Cells.slice_mut.Key.{name as #self}
 use Rattle.zf_lines.proofs.cells.Cells.slice_mut.Statement as stated

@@ -15,10 +15,10 @@ use types.Logic.{Logic, sem}
 use contract.Monad.{fact}
 use contract.Running.{tables, tables_of}
 use sound.WpLaws.{WpFn-mono}
-use types.Kit.{Item, ⋆, ‵, raw, ◌⊛◌, some, later, await, pick, at_ret, ◌$◌, ◌∵◌, !, qed, by, move, keep, use1, use2, split, join, group, rewrite, fsplit, fsplit3, fjoin, fjoin3, fpack, feq_l, suffices, frame, done}
+use types.Kit.{Item, ⋆, ‵, raw, ◌⊛◌, some, later, await, pick, at_ret, ◌$◌, ◌∵◌, !, qed, by, move, keep, use1, use2, split, join, group, rewrite, fsplit, fsplit3, fjoin, fjoin3, fpack, feq_l, suffices, frame, done, flt_l, flt_i}
 use types.Part.{whole, sub}
-use types.Run.{stop, fld, of_opd, addr, first, blocks, exec, returns, enter}
-use types.ByLocal.{alloc_all, pass_all, free_all, look_at, get, get_in, through, sets, sets_last, env}
+use types.Run.{stop, fld, of_opd, addr, first, blocks, exec, returns, enter, bin, size_lit}
+use types.ByLocal.{alloc_all, pass_all, free_all, look_at, get, get_in, through, sets, sets_last, env, take_at, give_at}
 use types.SemTy.{Body as Borrowed}
 use denote.Exit.{no}
 use denote.RattleType.{owns}
@@ -26,7 +26,7 @@ use denote.Memory.{mem, cell_at, part_of}
 use denote.Param.{layout}
 use denote.RawPtr.{Ptr, block_ptr, in_a_block}
 use denote.Ref.{MutBor, MutRef}
-use denote.Builtin.{RefMutOf}
+use denote.Builtin.{RefMutOf, usize}
 use denote.Signature.{plain, mut_ref_to}
 use denote.Steps.{nothing, opens}
 use denote.Triple.Carry.{spared}
@@ -38,10 +38,6 @@ use denote.Triple.Walked.{says, needs, Stays, stay_dropped, walk_of, ends_at, Go
 use Rattle.std_alloc.proofs.VecSteps.Shapes.{after}
 use Rattle.std_alloc.proofs.RcSteps.{word, word-Good}
 use lib.ListN.{length, set, get_or, length-set}
-use types.Kit.{flt_l, flt_i}
-use types.Run.{bin, size_lit}
-use types.ByLocal.{take_at, give_at}
-use denote.Builtin.{usize}
 use Rattle.std.specs.Prelude.{Some, None}
 use Rattle.core.proofs.mem.Param.{El, R, args, el_x}
 use Rattle.core.proofs.ptr.Rows.{times_below, one_below}

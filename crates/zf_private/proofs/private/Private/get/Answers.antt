@@ -3,26 +3,16 @@ use Rattle.std.specs.Bool.{OnTrue}
 use Rattle.zf_cached.specs.Acts.{Act}
 use Rattle.zf_private.specs.Standing.{Held, block_at, place_at, state}
 use Rattle.zf_cache.specs.Standing.{state_of, values_of}
-use Rattle.zf_private.proofs.Calls.{has_blocks, fits_mine, block_below, place_below, exists_there, answer_is, acts_at, does}
+use Rattle.zf_private.proofs.Calls.{backed_at, exists_there, answer_is, acts_at, does}
 use Rattle.zf_private.proofs.Others.{acted-get}
 use Rattle.zf_private.proofs.private.Private.get.Goals as goal
 
 pub get-requires : goal.get-requires
 get-requires g c =
-    let o = c.self.inside in
-    let v : Held g.row.T.Denot = record { cache = o.cache; shape = o.shape; first = o.first; count = o.count } in
-    let f = g.B.Reading.format c.args.back.now in let k = g.B.Reading.codes c.args.back.now in let value = g.T.Lane.value in let w = g.T.Lane.width in let d = g.row.D in
-    let now = c.args.self.now in let is = c.self.view_is in let whole = c.self.invariant in
-    let p = c.args.p in let b = c.place-b.result.0 in let place = c.place-b.result.1 in let e = c.place-b.ensures in let sits = c.requires.sits in (
+    let o = c.self.inside in let e = c.place-b.ensures in (
       lit< tt,
-      (
-        record {
-          fits = fits_mine value w d v now is whole f k sits.fits;
-          blocks = has_blocks value w d v now is whole f k sits.blocks;
-          below = block_below value w d v now is whole f k p b place e.block e.place e.at sits.blocks;
-        },
-        place_below value w d v now is whole f k p b place e.block e.place e.at,
-      ),
+      backed_at g.B.Reading g.T.Lane.value g.T.Lane.width g.row.D (record { cache = o.cache; shape = o.shape; first = o.first; count = o.count }) c.args.self.now c.self.view_is c.self.invariant c.args.back.now c.args.p c.requires.sits
+          c.place-b.result.0 c.place-b.result.1 e.block e.place e.at,
     )
 
 pub returns-clause-does : goal.returns-clause-does

@@ -11,13 +11,11 @@ use Rattle.zf_window.proofs.walk.Walk.run.Goals as goal
 
 pub beside-count-requires : goal.beside-count-requires
 beside-count-requires c =
-    let s = c.self.inside in
-    walk_inside s.window s.here s.next c.self.invariant (subst (λ (x : Walking). x.next < product x.window.size) (sym c.self.view_is) c.requires.inside)
+    walk_inside _ _ _ c.self.invariant (subst (λ (x : Walking). x.next < product x.window.size) (sym c.self.view_is) c.requires.inside)
 
 pub map-requires : goal.map-requires
 map-requires c =
-    let s = c.self.inside in
-    walk_inside s.window s.here s.next c.self.invariant (subst (λ (x : Walking). x.next < product x.window.size) (sym c.self.view_is) c.requires.inside)
+    walk_inside _ _ _ c.self.invariant (subst (λ (x : Walking). x.next < product x.window.size) (sym c.self.view_is) c.requires.inside)
 
 pub place-block-requires : goal.place-block-requires
 place-block-requires c =
