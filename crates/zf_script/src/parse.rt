@@ -111,6 +111,7 @@ fn with_words(dims: u8, verb: Verb, rest: &[u8]) -> Option<Cmd>
 }
 
 /// A position and a value.
+#[inline]
 pub(crate) fn position_and_value_in(dims: u8, words: &[u8]) -> Option<(Pos, i128)>
     requires dimension { IsDimension dims }
     ensures both { IfSome result (λ r. IsPositionAndValue dims (cut_at space words.now) r.0 r.1) }
