@@ -38,10 +38,12 @@ part_of_texts (n ∷ ns) (text ∷ prefix) part more small same =
     let rest : map decimal ns ≡ prefix ++ part ∷ more = cc in
     part_of_texts ns prefix part more (and_parts (is_number n) (list_all is_number ns) small).1 rest
 
--- each part is a number
-pub part_is_number : (byte : ℕ) (word ns : List ℕ) (prefix : List (List ℕ)) (part : List ℕ) (more : List (List ℕ)) → IsNoDigit byte → cut_at byte word ≡ prefix ++ part ∷ more → has_sizes ns ≡ true → word ≡ numbers_text byte ns → (n : ℕ) × (n < 2 ^ 64) × (part ≡ decimal n)
-part_is_number byte word ns prefix part more no_digit cut ok is =
-    part_of_texts ns prefix part more (sizes-parts ns ok).2 (sym (parts_are byte word ns no_digit ok is) ∙ cut)
+-- what is left of the parts begins with a number
+pub begins_with_number : (byte : ℕ) (word ns : List ℕ) (prefix left : List (List ℕ)) → IsNoDigit byte → 1 ≤ length left → cut_at byte word ≡ prefix ++ left → has_sizes ns ≡ true → word ≡ numbers_text byte ns → (n : ℕ) × (more : List (List ℕ)) × (n < 2 ^ 64) × (left ≡ decimal n ∷ more)
+begins_with_number byte word ns prefix [] no_digit some cut ok is = absurd (omega arith)
+begins_with_number byte word ns prefix (part ∷ more) no_digit some cut ok is =
+    let found = part_of_texts ns prefix part more (sizes-parts ns ok).2 (sym (parts_are byte word ns no_digit ok is) ∙ cut) in
+    (found.0, more, found.1, ap (λ text. text ∷ more) found.2)
 
 -- parts that are numbers make a word of them
 pub joined_parts : (byte : ℕ) (word ns : List ℕ) → cut_at byte word ≡ map decimal ns → word ≡ numbers_text byte ns

@@ -1,15 +1,14 @@
 //! Words that are numbers.
 
-ghost use Rattle.std.specs.Prelude.{◌≡◌, ◌≢◌, ℕ, ℤ, ◌+◌, ◌*◌, ◌^◌, ◌<◌, ◌≤◌, List, ◌++◌, IfSome, IfNone, IsTrue, codes, decimal};
+ghost use Rattle.std.specs.Prelude.{◌≡◌, ◌≢◌, ℕ, ℤ, ◌+◌, ◌*◌, ◌^◌, ◌<◌, ◌≤◌, List, [], ◌∷◌, ◌++◌, IfSome, IfNone, IsTrue, codes, decimal};
 ghost use Rattle.std.specs.Fmt.{signed_decimal};
 ghost use Rattle.std.specs.Char.{digit_value};
 ghost use Rattle.std.specs.Option.{SomeIff};
 ghost use Rattle.std.specs.Str.Parse.{digits_value};
 ghost use Rattle.zf_spec.specs.Grid.{IsDimension};
-ghost use Rattle.zf_cached.specs.Grammar.{numbers_text, is_value, has_axes, has_sizes, IsNoDigit};
+ghost use Rattle.zf_cached.specs.Grammar.{numbers_text, is_value, has_axes, has_sizes, cut_at, IsNoDigit};
 ghost use Rattle.zf_script.specs.NumberWords.{IsAxesWord, IsSizesWord, IsShortNumeral, IsDigitMore};
 
-use crate::words::cut;
 use zf_base::Pos;
 
 // No other digit stands behind it where it stands first.
@@ -70,6 +69,7 @@ fn negative_in(digits: &[u8]) -> Option<i128>
 
 /// One to four numbers with this byte between two of them: how many they are, and the numbers, with `unused`
 /// along the other axes.
+#[inline]
 pub(crate) fn sizes_in(byte: u8, unused: u64, word: &[u8]) -> Option<(u8, Pos)>
     requires { IsNoDigit byte }
     ensures sizes { IfSome result (λ r. IsSizesWord byte unused word.now r.0 r.1) }
@@ -78,18 +78,45 @@ pub(crate) fn sizes_in(byte: u8, unused: u64, word: &[u8]) -> Option<(u8, Pos)>
     let mut numbers = [unused; 4];
     let mut rest = word;
     for count in 0..4 {
-        let Some((first, more)) = cut(rest, byte) else {
-            numbers[count] = number_in(rest)?;
+        let (number, behind) = number_before(byte, rest)?;
+        numbers[count] = number;
+        let Some(more) = behind else {
             let [x, y, z, w] = numbers;
             return Some((count as u8 + 1, Pos { x, y, z, w }));
         };
-        numbers[count] = number_in(first)?;
         rest = more;
     }
     None
 }
 
+// The number before the first such byte and what stands behind that byte; where there is no such byte, the
+// number that the whole word is. Each byte is looked at once.
+fn number_before(byte: u8, word: &[u8]) -> Option<(u64, Option<&[u8]>)>
+    requires { IsNoDigit byte }
+    ensures number { IfSome result (λ r. r.0 < 2 ^ 64) }
+    ensures last { IfSome result (λ r. IfNone r.1 (cut_at byte word.now ≡ decimal r.0 ∷ [])) }
+    ensures first { IfSome result (λ r. IfSome r.1 (λ rest.
+        cut_at byte word.now ≡ decimal r.0 ∷ cut_at byte rest.now)) }
+    ensures none { IfNone result ((n : ℕ) (rest : List (List ℕ)) → n < 2 ^ 64
+        → cut_at byte word.now ≢ decimal n ∷ rest) }
+{
+    let first = *word.first()?;
+    let mut number = one_digit_more(0, first)?;
+    for at in 1..word.len() {
+        let next = word[at];
+        if next == byte {
+            return Some((number, Some(&word[at + 1..])));
+        }
+        if first == ZERO {
+            return None;
+        }
+        number = one_digit_more(number, next)?;
+    }
+    Some((number, None))
+}
+
 /// One number for each axis, with this byte between two of them, and `unused` along the other axes.
+#[inline]
 pub(crate) fn axes_in(dims: u8, byte: u8, unused: u64, word: &[u8]) -> Option<Pos>
     requires no_digit { IsNoDigit byte }
     requires dimension { IsDimension dims }
