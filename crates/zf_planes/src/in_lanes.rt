@@ -81,8 +81,8 @@ pub(crate) fn planes_at_end(n: usize, left: u64, bits: u64) -> PlanesInLanes
     requires few { left < 8 }
     ensures { AreAtEnd n left bits result.count result.lanes result.len result.above }
 {
-    // As if zeros followed. A run that is cut would then reach to the last rank, but has a one where it is cut:
-    // with that the ones reach less far, a smaller entry. Where none is cut, the one more makes it greater.
+    // As if zeros followed. With them a run that is cut reaches to the last rank, but it has a one where it
+    // is cut: so the ones reach less far, a smaller entry. Where none is cut, the one more makes it greater.
     let first = 1 << left;
     let last = bits % first;
     let mut entry = entry_of_lanes(n, last);
