@@ -1,5 +1,5 @@
 -- Tables of planes of four digits in lanes, each entry of which is what the definitions say, by computation.
-use Rattle.std.proofs.Common.{◌≡◌, ℕ, suc, ◌+◌, ◌*◌, ◌/◌, ◌%◌, ◌^◌, ◌-◌, ◌<◌, min, max, Bool, true, false, ◌&&◌, eqb, ltb, List, [], ◌∷◌, get_or, refl, sym, ap, ◌∙◌, arith}
+use Rattle.std.proofs.Common.{◌≡◌, ℕ, suc, ◌+◌, ◌*◌, ◌/◌, ◌%◌, ◌^◌, ◌-◌, ◌<◌, min, max, Bool, true, false, ◌&&◌, cond, eqb, ltb, List, [], ◌∷◌, get_or, refl, sym, ap, ◌∙◌, arith}
 use lib.Bits.{bit_and}
 use Rattle.std.proofs.lemmas.Nat.{shr_high, mod_low, mul-add-lt}
 use Rattle.std.proofs.lemmas.Bool.{false≢true, and_parts, eqb-true, ltb-true}
@@ -100,9 +100,12 @@ test_last n left bits v l c a =
 abbrev test_end : ℕ → ℕ → ℕ → ℕ → Bool
 test_end n left bits e = test_last n left bits (lanes_apart (e % 65536)) (min (e / 65536 % 16) left) (e / 1048576 % 8) (e / 8388608)
 
--- the entry where zeros follow, or that where a one and zeros follow: the less of both
+-- the entry where zeros follow, or where with them the ones reach to the last rank, that where a one and zeros follow, if it is less
+abbrev pub less_entry : ℕ → ℕ → ℕ
+less_entry zeros one = cond (ltb zeros 33554432) zeros (min zeros one)
+
 abbrev pub end_entry : ℕ → ℕ → ℕ → ℕ
-end_entry n p bits = min (get_or LANES (256 * n + bits) 0) (get_or LANES (256 * n + (p + bits)) 0)
+end_entry n p bits = less_entry (get_or LANES (256 * n + bits) 0) (get_or LANES (256 * n + (p + bits)) 0)
 
 -- of as many bits, each entry
 abbrev test_ends : ℕ → Bool

@@ -31,13 +31,14 @@ pub record IsCodeOfTwo (n string l v a : ℕ) : Type 0 where
   pub above : a ≡ max (max n (reach (field 4 (string % 16)))) (reach (field 4 (string / 16 % 16)))
 
 -- the code of planes is the l bits of v and then that of the others, with ones above that reach to a
-pub record GoesOnBehind (n : ℕ) (planes : List (List Bool)) (l v a : ℕ) (rest : List (List Bool)) : Type 0 where
-  pub bits : code_from n planes ≡ field l v ++ code_from a rest
-  pub reached : max n (reach_of_all planes) ≡ max a (reach_of_all rest)
-  pub len : l ≤ 64
+pub record GoesOnBehind (n : ℕ) (planes : List (List Bool)) (l v a : ℕ) (rest : List (List Bool)) : Type 0
+  where
+    pub bits : code_from n planes ≡ field l v ++ code_from a rest
+    pub reached : max n (reach_of_all planes) ≡ max a (reach_of_all rest)
+    pub len : l ≤ 64
 
--- the code of planes was written, as far as `left` bits reach, of which `after` are left; if there are any, the
--- ones reach to a, where three stands for four too
+-- the code of planes was written, as far as `left` bits reach, of which `after` are left; if there are any,
+-- the ones reach to a, where three stands for four too
 pub record WritesPlanes (left after n a : ℕ) (old new : Writer) (planes : List (List Bool)) : Type 0 where
   pub bits : Appends old new (take left (code_from n planes))
   pub left_over : after ≡ left - length (code_from n planes)

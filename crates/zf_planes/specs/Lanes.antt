@@ -42,8 +42,8 @@ gathered words done lanes held = low_planes done words ++ low_planes held (lanes
 
 -- ---- planes that bits stand for: c of them in the lanes v, by l bits; their ones and those above reach to a
 
--- the planes whose code the eight bits of b begin with, behind ranks below n that have had a one above: one at
--- least, and four at most
+-- the planes whose code the eight bits of b begin with, behind ranks below n that have had a one above: one
+-- at least, and four at most
 pub record AreInSight (n b c v l a : ℕ) : Type 0 where
   pub code : code_from n (low_planes c (lanes_in 4 v)) ≡ field l b
   pub below : AreBelow c (lanes_in 4 v)

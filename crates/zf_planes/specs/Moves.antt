@@ -26,16 +26,18 @@ abbrev pub MovesOverPlane : ℕ → ℕ → Cursor → Cursor → List ℕ → �
 MovesOverPlane size n old new words above = ReadsPlane size n old.reader new.reader old.left new.left words
     above
 
--- planes were read from the one of number `from` on and before that of number i, where those before the p-th
--- are wanted and no rank from n on has a one; the planes of words before are the planes after with these
-pub record MovesOverSame (size n from p i : ℕ) (old new : Cursor) (before after : List (List ℕ)) : Type 0 where
-  pub taken : Moves old new (old.left - new.left)
-  pub bits : planes_bits old.left (p - from) size n (rest old.reader)
-      ≡ old.left - new.left + planes_bits new.left (p - i) size n (rest new.reader)
-  pub digits : take from (planes_held size before) ++ planes_ahead old.left (p - from) size n (rest old.reader)
-      ≡ take i (planes_held size after) ++ planes_ahead new.left (p - i) size n (rest new.reader)
-  pub behind : drop i (planes_held size after) ≡ replicate (length after - i) (replicate size false)
-  pub clear : All (IsClearFrom size) after
+-- of the planes from the one of number `from` on, of which those before the p-th are wanted, the ones before
+-- the i-th were read, with no one from rank n on, and put behind those that are there
+pub record MovesOverSame (size n from p i : ℕ) (old new : Cursor) (before after : List (List ℕ)) : Type 0
+  where
+    pub taken : Moves old new (old.left - new.left)
+    pub bits : planes_bits old.left (p - from) size n (rest old.reader)
+        ≡ old.left - new.left + planes_bits new.left (p - i) size n (rest new.reader)
+    pub digits : take from (planes_held size before)
+        ++ planes_ahead old.left (p - from) size n (rest old.reader)
+        ≡ take i (planes_held size after) ++ planes_ahead new.left (p - i) size n (rest new.reader)
+    pub behind : drop i (planes_held size after) ≡ replicate (length after - i) (replicate size false)
+    pub clear : All (IsClearFrom size) after
 
 -- the code of one plane of four digits was read, where the ranks below n have had a one above
 pub record MovesOverOne (n : ℕ) (old new : Cursor) (one : PlanesInLanes) : Type 0 where

@@ -26,7 +26,8 @@ abbrev pub lone_code : List Bool → List Bool
 lone_code [] = []
 lone_code (d ∷ ds) = d ∷ false ∷ lone_code ds
 
--- in the top c of p planes, at most sixteen, the first rank alone has ones, and it has one in the first of them
+-- in the top c of p planes, at most sixteen, the first rank alone has ones, and it has one in the first of
+-- them
 pub record AreLoneAtTop (p : ℕ) (words : List ℕ) (c : ℕ) : Type 0 where
   pub most : c ≤ p
   pub few : c ≤ 16

@@ -134,7 +134,8 @@ pub(crate) fn write_with(
     requires in_word { part.len ≤ 64 }
     requires small { part.bits < 2 ^ part.len }
     requires fits { min left (part.len + length (plane_code n (field size digits))) ≤ out.old.room }
-    ensures { Writes left result out.old out.new (field part.len part.bits ++ plane_code n (field size digits)) }
+    ensures { Writes left result out.old out.new (field part.len part.bits
+        ++ plane_code n (field size digits)) }
 {
     let group = Part { bits: 1, len: 1 };
     let prefix = Part {

@@ -152,8 +152,7 @@ pub fn write_planes_below<P: Plane>(
     budget - left
 }
 
-/// Appends the code of the top `prec` planes, or its first `budget` bits where it is longer. The answer is
-/// the number of bits appended. There is room for the smaller of `budget` and `size * prec + size` bits.
+/// [`write_planes_below`] of planes in four words each, of which none is known to have no one.
 pub fn encode(budget: u64, prec: u32, size: usize, planes: &[[u64; 4]], out: &mut BitWriter) -> u64
     requires size { IsBlockSize size }
     requires planes { prec ≤ length planes.now }

@@ -81,12 +81,14 @@ pub(crate) fn planes_at_end(n: usize, left: u64, bits: u64) -> PlanesInLanes
     requires few { left < 8 }
     ensures { AreAtEnd n left bits result.count result.lanes result.len result.above }
 {
-    // As if zeros followed, or a one and zeros. A run that is cut has a one where it is cut: with zeros it
-    // would reach to the last rank, a greater entry. Where none is cut, the one more makes it greater.
+    // As if zeros followed. With them a run that is cut reaches to the last rank, but it has a one where it
+    // is cut: so the ones reach less far, a smaller entry. Where none is cut, the one more makes it greater.
     let first = 1 << left;
-    let zeros = entry_of_lanes(n, bits % first);
-    let one = entry_of_lanes(n, first + bits % first);
-    let entry = zeros.min(one);
+    let last = bits % first;
+    let mut entry = entry_of_lanes(n, last);
+    if entry >= 33554432 {
+        entry = entry.min(entry_of_lanes(n, first + last));
+    }
     PlanesInLanes {
         lanes: apart(u64::from(entry % 65536)),
         count: entry / 1048576 % 8,

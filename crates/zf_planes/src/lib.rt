@@ -3,8 +3,7 @@
 //! `planes[k]` holds digit k of each coefficient by rank: rank r is bit `r % 64` of word `r / 64`. Bits from
 //! rank `size` on are not looked at where planes are given, and are zero where they were read. Planes of four
 //! digits are given by the digits: bit k of `digits[r]` is the digit of rank r in plane k, of `width` planes.
-//! [`encode`], [`decode`] and [`code_len`] are there for callers of the library: they take planes of 4, 16,
-//! 64 or 256 digits in four words each. The program has those of up to 64 digits in one word.
+//! [`encode`], [`decode`] and [`code_len`] are for callers of the library, with planes in four words each.
 #![tactic(auto)]
 
 mod cursor;
