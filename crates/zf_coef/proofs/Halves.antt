@@ -5,7 +5,8 @@ use Rattle.std.proofs.lemmas.Bool.{cases_lt}
 use Rattle.std.proofs.lemmas.List.{get_or-replicate, get_or_past, length-replicate}
 use Rattle.std.proofs.lemmas.Nat.Bits.{bit_at-zero}
 use Rattle.zf_coef.specs.Turned.{bit_of, IsTurned}
-use Rattle.zf_coef.specs.Groups.{word_of, HoldsGroup, HoldsHalf, IsOfGroup, AreHalf, HoldsFrom, IsMoved}
+use Rattle.zf_coef.specs.Groups.{word_of, HoldsGroup, HoldsHalf, IsOfGroup, AreHalf, HoldsFrom, IsMoved, PutsGroup, PutsHalf, PutsNone}
+use Rattle.zf_coef.proofs.Putting.{both_kept}
 
 -- ---- planes of halves
 
@@ -28,7 +29,7 @@ planes_of_half number from digits half turned old new long cut turn put k r lowe
     ∙ ap (bit_of digits r) place
 
 -- both halves
-pub planes_of_both : (number : ℕ) (digits : List ℕ) (mid new : List (List ℕ)) → length new ≡ length mid → length new ≤ 64
+planes_of_both : (number : ℕ) (digits : List ℕ) (mid new : List (List ℕ)) → length new ≡ length mid → length new ≤ 64
     → HoldsHalf number 0 digits mid → HoldsHalf number 32 digits new
     → ((k : ℕ) → k < 32 → word_of new number k ≡ word_of mid number k) → HoldsGroup number digits new
 unfolding HoldsHalf HoldsGroup
@@ -37,13 +38,24 @@ planes_of_both number digits mid new long few lower upper kept k r within small 
     (λ (high : 32 ≤ k). upper k r high (omega arith) within small)
     (cases_lt k 32)
 
+pub group_of_halves : (number : ℕ) (digits : List ℕ) (old mid new : List (List ℕ)) → length new ≡ length mid → length new ≤ 64
+    → PutsHalf number 0 digits old mid → PutsHalf number 32 digits mid new → PutsGroup number digits old new
+group_of_halves number digits old mid new long few low high = record {
+  bits = planes_of_both number digits mid new long few low.bits high.bits high.below;
+  others = both_kept number old mid new low.others high.others;
+}
+
 -- digits without a one in these planes have none to turn
-pub planes_of_none : (number from : ℕ) (digits : List ℕ) (planes : List (List ℕ))
-    → ((r k : ℕ) → from ≤ k → k < 64 → bit_of digits r k ≡ 0)
-    → ((k : ℕ) → from ≤ k → k < length planes → word_of planes number k ≡ 0) → length planes ≤ 64 → HoldsHalf number from digits planes
+planes_of_none : (number from : ℕ) (digits : List ℕ) (planes : List (List ℕ))
+    → ((r k : ℕ) → from ≤ k → k < 64 → bit_of digits r k ≡ 0) → length planes ≤ 64
+    → ((k : ℕ) → from ≤ k → k < length planes → word_of planes number k ≡ 0) → HoldsHalf number from digits planes
 unfolding HoldsHalf
-planes_of_none number from digits planes none zeros few k r lower upper within small =
+planes_of_none number from digits planes none few zeros k r lower upper within small =
     ap (λ w. bit_at w r) (zeros k lower within) ∙ bit_at-zero r ∙ sym (none r k lower (omega arith))
+
+pub half_of_none : (number from : ℕ) (digits : List ℕ) (old new : List (List ℕ))
+    → ((r k : ℕ) → from ≤ k → k < 64 → bit_of digits r k ≡ 0) → length new ≤ 64 → PutsNone number from old new → PutsHalf number from digits old new
+half_of_none number from digits old new none few put = record { bits = planes_of_none number from digits new none few put.zeros; below = put.below; others = put.others }
 
 -- one half is enough for few planes
 pub planes_of_first : (number : ℕ) (digits : List ℕ) (planes : List (List ℕ)) → length planes ≤ 32 → HoldsHalf number 0 digits planes → HoldsGroup number digits planes

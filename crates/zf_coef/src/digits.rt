@@ -139,8 +139,7 @@ fn take_16_of<P: Plane>(planes: &[P], number: usize, digits: &mut [u64])
 /// The 32 planes from `from` on, turned, of sixteen digits each. Planes past the end are zero.
 #[inline(always)]
 fn half_of_16<P: Plane>(planes: &[P], from: usize, number: usize) -> [u64; 8]
-    requires number { number < P.word_count }
-    requires from { IsHalfAt from planes.now }
+    requires half { IsHalfAt number P.word_count from planes.now }
     ensures { (r k : ℕ) → r < 16 → k < 32 → folded_bit result r k
         ≡ bit_at (word_of (map P.words planes.now) number (from + k)) r }
 {
@@ -152,8 +151,7 @@ fn half_of_16<P: Plane>(planes: &[P], from: usize, number: usize) -> [u64; 8]
 /// The first sixteen digits of the 32 planes from `from` on, folded. Planes past the end are zero.
 #[inline(always)]
 fn folded_planes<P: Plane>(planes: &[P], from: usize, number: usize) -> [u64; 8]
-    requires number { number < P.word_count }
-    requires from { IsHalfAt from planes.now }
+    requires half { IsHalfAt number P.word_count from planes.now }
     ensures { IsFoldOf number from (map P.words planes.now) result }
 {
     let mut words = [0; 8];
@@ -333,8 +331,7 @@ fn whole_half<P: Plane>(planes: &[P], from: usize, number: usize) -> [u64; 32]
 /// The 32 planes from `from` on, turned. Planes past the end are zero.
 #[inline(always)]
 fn half<P: Plane>(planes: &[P], from: usize, number: usize) -> [u64; 32]
-    requires number { number < P.word_count }
-    requires from { IsHalfAt from planes.now }
+    requires half { IsHalfAt number P.word_count from planes.now }
     ensures { AreHalf number from (map P.words planes.now) result }
 {
     let mut words = words_from(planes, from, number);
