@@ -120,30 +120,6 @@ digits_of_halves number planes low high digits long is_low is_high lower upper r
     at from i plane j rank a b = ap (λ p. bit_at (word_of planes number p) (i - i % 32 + j)) a ∙ ap (bit_at (word_of planes number plane)) b
 
 -- a window of 32 planes has all the ones
-pub digits_in_window : (number from : ℕ) (planes : List (List ℕ)) (digits : List ℕ)
-    → ((k : ℕ) → k < from → word_of planes number k ≡ 0)
-    → ((k : ℕ) → from + 32 ≤ k → word_of planes number k ≡ 0)
-    → ((r : ℕ) → r < length digits → (start word : ℕ)
-    × IsMoved start from word (get_or digits r 0)
-    × ((i : ℕ) → i < 32 → bit_at word (start + i) ≡ bit_at (word_of planes number (from + i)) r))
-    → IsOfGroup number planes digits
-unfolding IsOfGroup
-digits_in_window number from planes digits below above moved r k h small =
-    let m = moved r h in
-    ⊎_elim
-    (λ (first : k < from). none (m.2.below k first) (below k first))
-    (λ (later : from ≤ k). ⊎_elim
-    (λ (inside : k - from < 32).
-    let i = k - from in
-    let at : from + i ≡ k = omega arith in
-    ap (bit_of digits r) (sym at) ∙ m.2.inside i inside ∙ m.3 i inside ∙ ap (λ p. bit_at (word_of planes number p) r) at)
-    (λ (past : 32 ≤ k - from). none (m.2.above k (omega arith) small) (above k (omega arith)))
-    (cases_lt (k - from) 32))
-    (cases_lt k from)
-  where
-    none : bit_of digits r k ≡ 0 → word_of planes number k ≡ 0 → bit_of digits r k ≡ bit_at (word_of planes number k) r
-    none zero_here zero_there = zero_here ∙ sym (bit_at-zero r) ∙ ap (λ w. bit_at w r) (sym zero_there)
-
 pub digits_of_window : (number from : ℕ) (planes : List (List ℕ)) (words digits : List ℕ) → length digits ≡ 64
     → ((k : ℕ) → k < from → word_of planes number k ≡ 0)
     → ((k : ℕ) → from + 32 ≤ k → word_of planes number k ≡ 0)
@@ -151,24 +127,33 @@ pub digits_of_window : (number from : ℕ) (planes : List (List ℕ)) (words dig
     → ((r : ℕ) → r < 32 → IsMoved 0 from (get_or words r 0) (get_or digits r 0))
     → ((r : ℕ) → r < 32 → IsMoved 32 from (get_or words r 0) (get_or digits (32 + r) 0))
     → IsOfGroup number planes digits
-digits_of_window number from planes words digits long below above half lower upper = digits_in_window number from planes digits below above
-    (λ r h. ⊎_elim
-    (λ (prefix : r < 32). (0, get_or words r 0, lower r prefix, λ i less. digit 0 r r prefix i (omega arith) (omega arith) (omega arith)))
+unfolding IsOfGroup
+digits_of_window number from planes words digits long below above half lower upper r k h small = ⊎_elim
+    (λ (prefix : r < 32). digit 0 r r k prefix small (λ i less. omega arith) (λ i less. omega arith) (lower r prefix))
     (λ (behind : 32 ≤ r).
-    let row : 32 + (r - 32) ≡ r = omega arith in (
-      32,
-      get_or words (r - 32) 0,
-      subst (λ j. IsMoved 32 from (get_or words (r - 32) 0) (get_or digits j 0)) row (upper (r - 32) (omega arith)),
-      λ i less. digit 32 (r - 32) r (omega arith) i (omega arith) (omega arith) (omega arith),
-    ))
-    (cases_lt r 32))
+    let row : 32 + (r - 32) ≡ r = omega arith in
+    digit 32 (r - 32) r k (omega arith) small (λ i less. omega arith) (λ i less. omega arith)
+    (subst (λ j. IsMoved 32 from (get_or words (r - 32) 0) (get_or digits j 0)) row (upper (r - 32) (omega arith))))
+    (cases_lt r 32)
   where
-    digit : (start j r : ℕ) → j < 32 → (i : ℕ) → start + i < 64 → (start + i) % 32 ≡ i → start + i - (start + i) % 32 + j ≡ r
-        → bit_of words j (start + i) ≡ bit_at (word_of planes number (from + i)) r
-    digit start j r less i small column row =
-        half j (start + i) less small
-        ∙ ap (λ p. bit_at (word_of planes number (from + p)) (start + i - (start + i) % 32 + j)) column
-        ∙ ap (bit_at (word_of planes number (from + i))) row
+    none : (r k : ℕ) → bit_of digits r k ≡ 0 → word_of planes number k ≡ 0 → bit_of digits r k ≡ bit_at (word_of planes number k) r
+    none r k zero_here zero_there = zero_here ∙ sym (bit_at-zero r) ∙ ap (λ w. bit_at w r) (sym zero_there)
+
+    digit : (start j r k : ℕ) → j < 32 → k < 64 → ((i : ℕ) → i < 32 → start + i < 64 × ((start + i) % 32 ≡ i)) → ((i : ℕ) → i < 32 → start + i - (start + i) % 32 + j ≡ r)
+        → IsMoved start from (get_or words j 0) (get_or digits r 0) → bit_of digits r k ≡ bit_at (word_of planes number k) r
+    digit start j r k less small column row moved = ⊎_elim
+        (λ (first : k < from). none r k (moved.below k first) (below k first))
+        (λ (later : from ≤ k). ⊎_elim
+        (λ (inside : k - from < 32).
+        let i = k - from in
+        let at : from + i ≡ k = omega arith in
+        ap (bit_of digits r) (sym at) ∙ moved.inside i inside ∙ half j (start + i) less (column i inside).0
+        ∙ ap (λ p. bit_at (word_of planes number (from + p)) (start + i - (start + i) % 32 + j)) (column i inside).1
+        ∙ ap (bit_at (word_of planes number (from + i))) (row i inside)
+        ∙ ap (λ p. bit_at (word_of planes number p) r) at)
+        (λ (past : 32 ≤ k - from). none r k (moved.above k (omega arith) small) (above k (omega arith)))
+        (cases_lt (k - from) 32))
+        (cases_lt k from)
 
 -- the first of more digits
 pub group_of_prefix : (number : ℕ) (planes : List (List ℕ)) (whole digits : List ℕ) → length digits ≤ length whole

@@ -129,8 +129,9 @@ fn put_halves<P: Plane>(size: usize, digits: &[u64], number: usize, planes: &mut
 {
     put_half(size, digits, 0, number, planes);
     if planes.len() > 32 {
-        // Values of a wide type are mostly small, and then there is nothing more to turn.
-        if are_low(digits) {
+        // The later groups of a block, which have the high frequencies, are mostly small; then there is nothing
+        // more to turn.
+        if number > 0 && are_low(digits) {
             put_none(32, number, planes);
         } else {
             put_half(size, digits, 32, number, planes);

@@ -11,12 +11,12 @@ returns-then-are_low g c =
     let high = half_of_none c.args.number 32 c.args.digits.now (map words mid) (map words new) (c.are_low.ensures c.if-are_low.true) (omega (arith, length-map new words)) c.put_none.ensures in
     group_of_halves c.args.number c.args.digits.now (map words c.args.planes.now) (map words mid) (map words new) (omega (arith, length-map mid words, length-map new words)) (omega (arith, length-map new words)) c.put_half.ensures high
 
-pub returns-else-are_low : goal.returns-else-are_low
-returns-else-are_low g c =
+pub returns-else-number-gt0 : goal.returns-else-number-gt0
+returns-else-number-gt0 g c =
     let words = g.P.Plane.words in
     let mid = c.put_half.new.planes in
-    let new = c.put_half-else-are_low.new.planes in
-    group_of_halves c.args.number c.args.digits.now (map words c.args.planes.now) (map words mid) (map words new) (omega (arith, length-map mid words, length-map new words)) (omega (arith, length-map new words)) c.put_half.ensures c.put_half-else-are_low.ensures
+    let new = c.put_half-else-number-gt0.new.planes in
+    group_of_halves c.args.number c.args.digits.now (map words c.args.planes.now) (map words mid) (map words new) (omega (arith, length-map mid words, length-map new words)) (omega (arith, length-map new words)) c.put_half.ensures c.put_half-else-number-gt0.ensures
 
 pub returns-else-planes-gt32 : goal.returns-else-planes-gt32
 returns-else-planes-gt32 g c =
