@@ -1,14 +1,14 @@
 -- Sixteen digits that become planes, and planes that become sixteen digits, by way of rows that lie folded in eight words.
-use Rattle.std.proofs.Common.{◌≡◌, sym, ap, subst, ◌∙◌, ℕ, ◌+◌, ◌-◌, ◌*◌, ◌/◌, ◌%◌, ◌^◌, ◌<◌, ◌≤◌, ◌≢◌, ⊎_elim, List, length, get_or, arith}
+use Rattle.std.proofs.Common.{◌≡◌, sym, ap, ◌∙◌, ℕ, ◌+◌, ◌-◌, ◌*◌, ◌/◌, ◌%◌, ◌^◌, ◌<◌, ◌≤◌, ◌≢◌, ⊎_elim, List, length, get_or, arith}
 use Rattle.std.specs.Int.{bit_at}
 use Rattle.std.specs.Int.RustNames.{bit_or}
 use Rattle.std.proofs.lemmas.Bool.{cases_lt}
 use Rattle.std.proofs.lemmas.List.{get_or_past}
 use Rattle.std.proofs.lemmas.Nat.Bits.{bit_at_or, bit_at-zero}
 use Rattle.zf_coef.specs.Turned.{bit_of, folded_bit, IsFoldedTurned}
-use Rattle.zf_coef.specs.Groups.{word_of, HoldsHalf, IsOfGroup, HoldsFrom, HoldsFolded, IsFoldOf, IsMoved}
+use Rattle.zf_coef.specs.Groups.{word_of, HoldsHalf, IsOfGroup, HoldsFrom, HoldsFolded, IsFoldOf}
 use Rattle.zf_coef.proofs.ShiftedBits.{bit_at-shr, bit_at-mod_pow, bit_at-mod_above, bit_at-mod, bit_at-shl_low, bit_at-shl_high}
-use Rattle.zf_coef.proofs.Halves.{word_of-past, digits_in_window}
+use Rattle.zf_coef.proofs.Halves.{word_of-past}
 
 -- ---- planes of folded rows
 
@@ -205,27 +205,3 @@ digits_of_folds number planes low high digits long is_low is_high lower upper r 
         ap (λ j. bit_of digits j place) (sym rank) ∙ high (r - 8) (omega arith) ∙ ap (λ j. bit_of words j (32 + k)) row ∙ ap (bit_of words (r % 8)) bit ∙ fold r k within few
         ∙ ap (λ p. bit_at (word_of planes number p) r) at)
         (cases_lt r 8)
-
--- a window of 32 planes has all the ones
-pub digits_of_fold : (number from : ℕ) (planes : List (List ℕ)) (words digits : List ℕ) → length digits ≡ 16
-    → ((k : ℕ) → k < from → word_of planes number k ≡ 0)
-    → ((k : ℕ) → from + 32 ≤ k → word_of planes number k ≡ 0)
-    → AreFold number from planes words
-    → ((r : ℕ) → r < 8 → IsMoved 0 from (get_or words r 0) (get_or digits r 0))
-    → ((r : ℕ) → r < 8 → IsMoved 32 from (get_or words r 0) (get_or digits (8 + r) 0))
-    → IsOfGroup number planes digits
-digits_of_fold number from planes words digits long below above fold lower upper = digits_in_window number from planes digits below above
-    (λ r h. ⊎_elim
-    (λ (prefix : r < 8). (0, get_or words r 0, lower r prefix, λ i less. digit 0 r r i (omega arith) (omega arith) less (omega arith)))
-    (λ (behind : 8 ≤ r).
-    let row : 8 + (r - 8) ≡ r = omega arith in (
-      32,
-      get_or words (r - 8) 0,
-      subst (λ j. IsMoved 32 from (get_or words (r - 8) 0) (get_or digits j 0)) row (upper (r - 8) (omega arith)),
-      λ i less. digit 32 (r - 8) r i (omega arith) (omega arith) less (omega arith),
-    ))
-    (cases_lt r 8))
-  where
-    digit : (start j r i : ℕ) → r % 8 ≡ j → r / 8 * 32 ≡ start → i < 32 → r < 16 → bit_of words j (start + i) ≡ bit_at (word_of planes number (from + i)) r
-    digit start j r i row first small within =
-        ap (λ q. bit_of words q (start + i)) (sym row) ∙ ap (λ s. bit_of words (r % 8) (s + i)) (sym first) ∙ fold r i within small

@@ -5,7 +5,8 @@ use Rattle.std.proofs.lemmas.Bool.{cases_lt}
 use Rattle.std.proofs.lemmas.List.{get_or-replicate, get_or_past, length-replicate}
 use Rattle.std.proofs.lemmas.Nat.Bits.{bit_at-zero}
 use Rattle.zf_coef.specs.Turned.{bit_of, IsTurned}
-use Rattle.zf_coef.specs.Groups.{word_of, HoldsGroup, HoldsHalf, IsOfGroup, AreHalf, HoldsFrom, IsMoved}
+use Rattle.zf_coef.specs.Groups.{word_of, HoldsGroup, HoldsHalf, IsOfGroup, AreHalf, HoldsFrom, IsMoved, PutsGroup, PutsHalf, PutsNone}
+use Rattle.zf_coef.proofs.Putting.{both_kept}
 
 -- ---- planes of halves
 
@@ -28,7 +29,7 @@ planes_of_half number from digits half turned old new long cut turn put k r lowe
     ∙ ap (bit_of digits r) place
 
 -- both halves
-pub planes_of_both : (number : ℕ) (digits : List ℕ) (mid new : List (List ℕ)) → length new ≡ length mid → length new ≤ 64
+planes_of_both : (number : ℕ) (digits : List ℕ) (mid new : List (List ℕ)) → length new ≡ length mid → length new ≤ 64
     → HoldsHalf number 0 digits mid → HoldsHalf number 32 digits new
     → ((k : ℕ) → k < 32 → word_of new number k ≡ word_of mid number k) → HoldsGroup number digits new
 unfolding HoldsHalf HoldsGroup
@@ -37,13 +38,24 @@ planes_of_both number digits mid new long few lower upper kept k r within small 
     (λ (high : 32 ≤ k). upper k r high (omega arith) within small)
     (cases_lt k 32)
 
+pub group_of_halves : (number : ℕ) (digits : List ℕ) (old mid new : List (List ℕ)) → length new ≡ length mid → length new ≤ 64
+    → PutsHalf number 0 digits old mid → PutsHalf number 32 digits mid new → PutsGroup number digits old new
+group_of_halves number digits old mid new long few low high = record {
+  bits = planes_of_both number digits mid new long few low.bits high.bits high.below;
+  others = both_kept number old mid new low.others high.others;
+}
+
 -- digits without a one in these planes have none to turn
-pub planes_of_none : (number from : ℕ) (digits : List ℕ) (planes : List (List ℕ))
-    → ((r k : ℕ) → from ≤ k → k < 64 → bit_of digits r k ≡ 0)
-    → ((k : ℕ) → from ≤ k → k < length planes → word_of planes number k ≡ 0) → length planes ≤ 64 → HoldsHalf number from digits planes
+planes_of_none : (number from : ℕ) (digits : List ℕ) (planes : List (List ℕ))
+    → ((r k : ℕ) → from ≤ k → k < 64 → bit_of digits r k ≡ 0) → length planes ≤ 64
+    → ((k : ℕ) → from ≤ k → k < length planes → word_of planes number k ≡ 0) → HoldsHalf number from digits planes
 unfolding HoldsHalf
-planes_of_none number from digits planes none zeros few k r lower upper within small =
+planes_of_none number from digits planes none few zeros k r lower upper within small =
     ap (λ w. bit_at w r) (zeros k lower within) ∙ bit_at-zero r ∙ sym (none r k lower (omega arith))
+
+pub half_of_none : (number from : ℕ) (digits : List ℕ) (old new : List (List ℕ))
+    → ((r k : ℕ) → from ≤ k → k < 64 → bit_of digits r k ≡ 0) → length new ≤ 64 → PutsNone number from old new → PutsHalf number from digits old new
+half_of_none number from digits old new none few put = record { bits = planes_of_none number from digits new none few put.zeros; below = put.below; others = put.others }
 
 -- one half is enough for few planes
 pub planes_of_first : (number : ℕ) (digits : List ℕ) (planes : List (List ℕ)) → length planes ≤ 32 → HoldsHalf number 0 digits planes → HoldsGroup number digits planes
@@ -108,30 +120,6 @@ digits_of_halves number planes low high digits long is_low is_high lower upper r
     at from i plane j rank a b = ap (λ p. bit_at (word_of planes number p) (i - i % 32 + j)) a ∙ ap (bit_at (word_of planes number plane)) b
 
 -- a window of 32 planes has all the ones
-pub digits_in_window : (number from : ℕ) (planes : List (List ℕ)) (digits : List ℕ)
-    → ((k : ℕ) → k < from → word_of planes number k ≡ 0)
-    → ((k : ℕ) → from + 32 ≤ k → word_of planes number k ≡ 0)
-    → ((r : ℕ) → r < length digits → (start word : ℕ)
-    × IsMoved start from word (get_or digits r 0)
-    × ((i : ℕ) → i < 32 → bit_at word (start + i) ≡ bit_at (word_of planes number (from + i)) r))
-    → IsOfGroup number planes digits
-unfolding IsOfGroup
-digits_in_window number from planes digits below above moved r k h small =
-    let m = moved r h in
-    ⊎_elim
-    (λ (first : k < from). none (m.2.below k first) (below k first))
-    (λ (later : from ≤ k). ⊎_elim
-    (λ (inside : k - from < 32).
-    let i = k - from in
-    let at : from + i ≡ k = omega arith in
-    ap (bit_of digits r) (sym at) ∙ m.2.inside i inside ∙ m.3 i inside ∙ ap (λ p. bit_at (word_of planes number p) r) at)
-    (λ (past : 32 ≤ k - from). none (m.2.above k (omega arith) small) (above k (omega arith)))
-    (cases_lt (k - from) 32))
-    (cases_lt k from)
-  where
-    none : bit_of digits r k ≡ 0 → word_of planes number k ≡ 0 → bit_of digits r k ≡ bit_at (word_of planes number k) r
-    none zero_here zero_there = zero_here ∙ sym (bit_at-zero r) ∙ ap (λ w. bit_at w r) (sym zero_there)
-
 pub digits_of_window : (number from : ℕ) (planes : List (List ℕ)) (words digits : List ℕ) → length digits ≡ 64
     → ((k : ℕ) → k < from → word_of planes number k ≡ 0)
     → ((k : ℕ) → from + 32 ≤ k → word_of planes number k ≡ 0)
@@ -139,24 +127,33 @@ pub digits_of_window : (number from : ℕ) (planes : List (List ℕ)) (words dig
     → ((r : ℕ) → r < 32 → IsMoved 0 from (get_or words r 0) (get_or digits r 0))
     → ((r : ℕ) → r < 32 → IsMoved 32 from (get_or words r 0) (get_or digits (32 + r) 0))
     → IsOfGroup number planes digits
-digits_of_window number from planes words digits long below above half lower upper = digits_in_window number from planes digits below above
-    (λ r h. ⊎_elim
-    (λ (prefix : r < 32). (0, get_or words r 0, lower r prefix, λ i less. digit 0 r r prefix i (omega arith) (omega arith) (omega arith)))
+unfolding IsOfGroup
+digits_of_window number from planes words digits long below above half lower upper r k h small = ⊎_elim
+    (λ (prefix : r < 32). digit 0 r r k prefix small (λ i less. omega arith) (λ i less. omega arith) (lower r prefix))
     (λ (behind : 32 ≤ r).
-    let row : 32 + (r - 32) ≡ r = omega arith in (
-      32,
-      get_or words (r - 32) 0,
-      subst (λ j. IsMoved 32 from (get_or words (r - 32) 0) (get_or digits j 0)) row (upper (r - 32) (omega arith)),
-      λ i less. digit 32 (r - 32) r (omega arith) i (omega arith) (omega arith) (omega arith),
-    ))
-    (cases_lt r 32))
+    let row : 32 + (r - 32) ≡ r = omega arith in
+    digit 32 (r - 32) r k (omega arith) small (λ i less. omega arith) (λ i less. omega arith)
+    (subst (λ j. IsMoved 32 from (get_or words (r - 32) 0) (get_or digits j 0)) row (upper (r - 32) (omega arith))))
+    (cases_lt r 32)
   where
-    digit : (start j r : ℕ) → j < 32 → (i : ℕ) → start + i < 64 → (start + i) % 32 ≡ i → start + i - (start + i) % 32 + j ≡ r
-        → bit_of words j (start + i) ≡ bit_at (word_of planes number (from + i)) r
-    digit start j r less i small column row =
-        half j (start + i) less small
-        ∙ ap (λ p. bit_at (word_of planes number (from + p)) (start + i - (start + i) % 32 + j)) column
-        ∙ ap (bit_at (word_of planes number (from + i))) row
+    none : (r k : ℕ) → bit_of digits r k ≡ 0 → word_of planes number k ≡ 0 → bit_of digits r k ≡ bit_at (word_of planes number k) r
+    none r k zero_here zero_there = zero_here ∙ sym (bit_at-zero r) ∙ ap (λ w. bit_at w r) (sym zero_there)
+
+    digit : (start j r k : ℕ) → j < 32 → k < 64 → ((i : ℕ) → i < 32 → start + i < 64 × ((start + i) % 32 ≡ i)) → ((i : ℕ) → i < 32 → start + i - (start + i) % 32 + j ≡ r)
+        → IsMoved start from (get_or words j 0) (get_or digits r 0) → bit_of digits r k ≡ bit_at (word_of planes number k) r
+    digit start j r k less small column row moved = ⊎_elim
+        (λ (first : k < from). none r k (moved.below k first) (below k first))
+        (λ (later : from ≤ k). ⊎_elim
+        (λ (inside : k - from < 32).
+        let i = k - from in
+        let at : from + i ≡ k = omega arith in
+        ap (bit_of digits r) (sym at) ∙ moved.inside i inside ∙ half j (start + i) less (column i inside).0
+        ∙ ap (λ p. bit_at (word_of planes number (from + p)) (start + i - (start + i) % 32 + j)) (column i inside).1
+        ∙ ap (bit_at (word_of planes number (from + i))) (row i inside)
+        ∙ ap (λ p. bit_at (word_of planes number p) r) at)
+        (λ (past : 32 ≤ k - from). none r k (moved.above k (omega arith) small) (above k (omega arith)))
+        (cases_lt (k - from) 32))
+        (cases_lt k from)
 
 -- the first of more digits
 pub group_of_prefix : (number : ℕ) (planes : List (List ℕ)) (whole digits : List ℕ) → length digits ≤ length whole

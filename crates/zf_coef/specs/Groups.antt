@@ -30,13 +30,14 @@ KeepsOthers number old new = (k p : ℕ) → p ≢ number → word_of new p k �
 abbrev pub HasWord : {P : Type 0} → ℕ → ℕ → List P → Type 0
 HasWord number count planes = (number < count) × (length planes ≤ 64)
 
--- the 32 planes from `from` on are a half of 64, and begin among the planes or at their end
-abbrev pub IsHalfAt : {P : Type 0} → ℕ → List P → Type 0
-IsHalfAt from planes = (from ≤ length planes) × (from ≤ 32)
+-- each plane has a word of this number, where it has so many; the 32 planes from `from` on are a half of 64,
+-- and begin among the planes or at their end
+abbrev pub IsHalfAt : {P : Type 0} → ℕ → ℕ → ℕ → List P → Type 0
+IsHalfAt number count from planes = (number < count) × ((from ≤ length planes) × (from ≤ 32))
 
--- a group of digits that is turned whole is one of these sizes
-abbrev pub IsGroupSize : ℕ → Type 0
-IsGroupSize size = (size ≡ 16) ⊎ (size ≡ 64)
+-- so many digits are a group that is turned whole
+abbrev pub IsGroup : ℕ → List ℕ → Type 0
+IsGroup size digits = ((size ≡ 16) ⊎ (size ≡ 64)) × (length digits ≡ size)
 
 -- ---- the way there
 
@@ -48,6 +49,12 @@ pub record PutsGroup (number : ℕ) (digits : List ℕ) (old new : List (List �
 -- those of the 32 planes from `from` on are; the planes below and the words of other numbers stay
 pub record PutsHalf (number from : ℕ) (digits : List ℕ) (old new : List (List ℕ)) : Type 0 where
   pub bits : HoldsHalf number from digits new
+  pub below : (k : ℕ) → k < from → word_of new number k ≡ word_of old number k
+  pub others : KeepsOthers number old new
+
+-- those of all planes from `from` on are zero; the planes below and the words of other numbers stay
+pub record PutsNone (number from : ℕ) (old new : List (List ℕ)) : Type 0 where
+  pub zeros : (k : ℕ) → from ≤ k → k < length new → word_of new number k ≡ 0
   pub below : (k : ℕ) → k < from → word_of new number k ≡ word_of old number k
   pub others : KeepsOthers number old new
 

@@ -94,29 +94,12 @@ fn take_16<P: Plane>(planes: &[P], number: usize, digits: &mut [u64])
     // A number of planes that is known needs no loop.
     match planes.len() {
         32 => join::<8>(&half_of_16(planes, 0, number), &[0; 8], digits),
-        64 => take_16_of_64(planes, number, digits),
-        _ => take_16_of(planes, number, digits),
-    }
-}
-
-/// Takes sixteen digits of 64 planes. Where 32 planes beside one another have all the ones, no others are
-/// turned.
-#[inline(always)]
-fn take_16_of_64<P: Plane>(planes: &[P], number: usize, digits: &mut [u64])
-    requires number { number < P.word_count }
-    requires planes { length planes.now ≡ 64 }
-    requires digits { length digits.old ≡ 16 }
-    ensures { IsOfGroup number (map P.words planes.now) digits.new }
-{
-    let from = zeros_below(planes, number);
-    if are_zeros(planes, from + 32, number) {
-        join_from::<8>(&half_of_16(planes, from, number), from, digits);
-    } else {
-        join::<8>(
+        64 => join::<8>(
             &half_of_16(planes, 0, number),
             &half_of_16(planes, 32, number),
             digits,
-        );
+        ),
+        _ => take_16_of(planes, number, digits),
     }
 }
 
@@ -139,8 +122,7 @@ fn take_16_of<P: Plane>(planes: &[P], number: usize, digits: &mut [u64])
 /// The 32 planes from `from` on, turned, of sixteen digits each. Planes past the end are zero.
 #[inline(always)]
 fn half_of_16<P: Plane>(planes: &[P], from: usize, number: usize) -> [u64; 8]
-    requires number { number < P.word_count }
-    requires from { IsHalfAt from planes.now }
+    requires half { IsHalfAt number P.word_count from planes.now }
     ensures { (r k : ℕ) → r < 16 → k < 32 → folded_bit result r k
         ≡ bit_at (word_of (map P.words planes.now) number (from + k)) r }
 {
@@ -152,8 +134,7 @@ fn half_of_16<P: Plane>(planes: &[P], from: usize, number: usize) -> [u64; 8]
 /// The first sixteen digits of the 32 planes from `from` on, folded. Planes past the end are zero.
 #[inline(always)]
 fn folded_planes<P: Plane>(planes: &[P], from: usize, number: usize) -> [u64; 8]
-    requires number { number < P.word_count }
-    requires from { IsHalfAt from planes.now }
+    requires half { IsHalfAt number P.word_count from planes.now }
     ensures { IsFoldOf number from (map P.words planes.now) result }
 {
     let mut words = [0; 8];
@@ -251,7 +232,7 @@ fn take_64_of_64<P: Plane>(planes: &[P], number: usize, digits: &mut [u64])
 {
     let from = zeros_below(planes, number);
     if are_zeros(planes, from + 32, number) {
-        join_from::<32>(&whole_half(planes, from, number), from, digits);
+        join_from(&whole_half(planes, from, number), from, digits);
     } else {
         join::<32>(
             &whole_half(planes, 0, number),
@@ -261,7 +242,7 @@ fn take_64_of_64<P: Plane>(planes: &[P], number: usize, digits: &mut [u64])
     }
 }
 
-/// How many of the lowest 32 planes have no one, up to the first eight of which one has.
+/// How many of the lowest 32 planes have no one, up to the first that has.
 #[inline(always)]
 fn zeros_below<P: Plane>(planes: &[P], number: usize) -> usize
     requires number { number < P.word_count }
@@ -269,9 +250,9 @@ fn zeros_below<P: Plane>(planes: &[P], number: usize) -> usize
     ensures within { result ≤ 32 }
     ensures zeros { (k : ℕ) → k < result → word_of (map P.words planes.now) number k ≡ 0 }
 {
-    for eight in 0..4 {
-        if any_between(planes, 8 * eight, 8 * eight + 8, number) != 0 {
-            return 8 * eight;
+    for k in 0..32 {
+        if planes[k].word(number) != 0 {
+            return k;
         }
     }
     32
@@ -284,21 +265,12 @@ fn are_zeros<P: Plane>(planes: &[P], from: usize, number: usize) -> bool
     requires from { from ≤ length planes.now }
     ensures { IsTrue result → (k : ℕ) → from ≤ k → word_of (map P.words planes.now) number k ≡ 0 }
 {
-    any_between(planes, from, planes.len(), number) == 0
-}
-
-/// The ones that any of these planes has in its word of this number.
-#[inline(always)]
-pub(crate) fn any_between<P: Plane>(planes: &[P], from: usize, to: usize, number: usize) -> u64
-    requires number { number < P.word_count }
-    requires planes { to ≤ length planes.now }
-    ensures { (k : ℕ) → from ≤ k → k < to → word_of (map P.words planes.now) number k ≤ result }
-{
-    let mut any = 0;
-    for k in from..to {
-        any |= planes[k].word(number);
+    for k in from..planes.len() {
+        if planes[k].word(number) != 0 {
+            return false;
+        }
     }
-    any
+    true
 }
 
 /// Takes 64 digits of planes of any number.
@@ -333,8 +305,7 @@ fn whole_half<P: Plane>(planes: &[P], from: usize, number: usize) -> [u64; 32]
 /// The 32 planes from `from` on, turned. Planes past the end are zero.
 #[inline(always)]
 fn half<P: Plane>(planes: &[P], from: usize, number: usize) -> [u64; 32]
-    requires number { number < P.word_count }
-    requires from { IsHalfAt from planes.now }
+    requires half { IsHalfAt number P.word_count from planes.now }
     ensures { AreHalf number from (map P.words planes.now) result }
 {
     let mut words = words_from(planes, from, number);
@@ -360,20 +331,20 @@ fn join<const N: usize>(low: &[u64], high: &[u64], digits: &mut [u64])
     }
 }
 
-/// Each word has 32 digits of a rank below `N`, and then those of the rank `N` above it; the digits stand
+/// Each word has 32 digits of a rank below 32, and then those of the rank 32 above it; the digits stand
 /// behind `from` zeros.
 #[inline(always)]
-fn join_from<const N: usize>(words: &[u64], from: usize, digits: &mut [u64])
-    requires words { length words.now ≡ N }
+fn join_from(words: &[u64], from: usize, digits: &mut [u64])
+    requires words { length words.now ≡ 32 }
     requires from { from ≤ 32 }
-    requires digits { length digits.old ≡ 2 * N }
-    ensures lower { (r : ℕ) → r < N
+    requires digits { length digits.old ≡ 64 }
+    ensures lower { (r : ℕ) → r < 32
         → IsMoved 0 from (slice_index_or words.now r 0) (slice_index_or digits.new r 0) }
-    ensures upper { (r : ℕ) → r < N
-        → IsMoved 32 from (slice_index_or words.now r 0) (slice_index_or digits.new (N + r) 0) }
+    ensures upper { (r : ℕ) → r < 32
+        → IsMoved 32 from (slice_index_or words.now r 0) (slice_index_or digits.new (32 + r) 0) }
 {
-    for r in 0..N {
+    for r in 0..32 {
         digits[r] = (words[r] & 0xffff_ffff) << from;
-        digits[r + N] = (words[r] >> 32) << from;
+        digits[r + 32] = (words[r] >> 32) << from;
     }
 }

@@ -7,7 +7,6 @@ ghost use Rattle.zf_spec.specs.HeldPlanes.{planes_held};
 ghost use Rattle.zf_coef.specs.HeldDigits.{digits_in};
 ghost use Rattle.zf_coef.specs.Groups.{word_of};
 
-use crate::digits::any_between;
 use zf_bits::Plane;
 
 /// The digits of the first of `size` coefficients, where planes have a one of no other. `None` where some
@@ -58,7 +57,11 @@ fn any_word<P: Plane>(planes: &[P], number: usize) -> u64
     requires number { number < P.word_count }
     ensures { (k : ℕ) → word_of (map P.words planes.now) number k ≤ result }
 {
-    any_between(planes, 0, planes.len(), number)
+    let mut any = 0;
+    for k in 0..planes.len() {
+        any |= planes[k].word(number);
+    }
+    any
 }
 
 /// The number whose bit k is the only one of plane k.

@@ -6,7 +6,7 @@ ghost use Rattle.std.specs.Int.{bit_at};
 ghost use Rattle.zf_spec.specs.Planes.{planes_of};
 ghost use Rattle.zf_spec.specs.HeldPlanes.{planes_held, IsClearFrom};
 ghost use Rattle.zf_coef.specs.HeldDigits.{digits_in};
-ghost use Rattle.zf_coef.specs.Groups.{word_of, HasWord, IsHalfAt, IsGroupSize, PutsGroup, PutsHalf};
+ghost use Rattle.zf_coef.specs.Groups.{word_of, HasWord, IsHalfAt, IsGroup, PutsGroup, PutsHalf, PutsNone};
 ghost use Rattle.zf_coef.specs.Groups.{KeepsOthers};
 ghost use Rattle.zf_coef.specs.Groups.{HoldsFrom, HoldsFolded};
 ghost use Rattle.zf_coef.specs.Turned.{bit_of};
@@ -78,11 +78,7 @@ fn put_group<P: Plane>(digits: &[u64], number: usize, planes: &mut [P])
 fn put_none<P: Plane>(from: usize, number: usize, planes: &mut [P])
     requires word { HasWord number P.word_count planes.old }
     requires from { from ≤ length planes.old }
-    ensures words { (k : ℕ) → from ≤ k → k < length planes.new
-        → word_of (map P.words planes.new) number k ≡ 0 }
-    ensures below { (k : ℕ) → k < from → word_of (map P.words planes.new) number k
-        ≡ word_of (map P.words planes.old) number k }
-    ensures others { KeepsOthers number (map P.words planes.old) (map P.words planes.new) }
+    ensures { PutsNone number from (map P.words planes.old) (map P.words planes.new) }
 {
     put_words(&[0; WORD_BITS], planes.len() - from, from, number, planes);
 }
@@ -128,29 +124,18 @@ fn put_64<P: Plane>(digits: &[u64], number: usize, planes: &mut [P])
 #[inline(always)]
 fn put_halves<P: Plane>(size: usize, digits: &[u64], number: usize, planes: &mut [P])
     requires word { HasWord number P.word_count planes.old }
-    requires size { IsGroupSize size }
-    requires digits { length digits.now ≡ size }
+    requires digits { IsGroup size digits.now }
     ensures { PutsGroup number digits.now (map P.words planes.old) (map P.words planes.new) }
 {
     put_half(size, digits, 0, number, planes);
     if planes.len() > 32 {
-        put_upper_half(size, digits, number, planes);
-    }
-}
-
-/// The planes from plane 32 on. Values of a wide type are mostly small, and then there is nothing to turn.
-#[inline(always)]
-fn put_upper_half<P: Plane>(size: usize, digits: &[u64], number: usize, planes: &mut [P])
-    requires word { HasWord number P.word_count planes.old }
-    requires size { IsGroupSize size }
-    requires digits { length digits.now ≡ size }
-    requires more { 32 ≤ length planes.old }
-    ensures { PutsHalf number 32 digits.now (map P.words planes.old) (map P.words planes.new) }
-{
-    if are_low(digits) {
-        put_none(32, number, planes);
-    } else {
-        put_half(size, digits, 32, number, planes);
+        // The later groups of a block, which have the high frequencies, are mostly small; then there is nothing
+        // more to turn.
+        if number > 0 && are_low(digits) {
+            put_none(32, number, planes);
+        } else {
+            put_half(size, digits, 32, number, planes);
+        }
     }
 }
 
@@ -167,10 +152,8 @@ fn are_low(digits: &[u64]) -> bool
 /// The 32 planes from `from` on.
 #[inline(always)]
 fn put_half<P: Plane>(size: usize, digits: &[u64], from: usize, number: usize, planes: &mut [P])
-    requires number { number < P.word_count }
-    requires size { IsGroupSize size }
-    requires digits { length digits.now ≡ size }
-    requires from { IsHalfAt from planes.old }
+    requires digits { IsGroup size digits.now }
+    requires half { IsHalfAt number P.word_count from planes.old }
     ensures { PutsHalf number from digits.now (map P.words planes.old) (map P.words planes.new) }
 {
     if size == 16 {
@@ -183,9 +166,8 @@ fn put_half<P: Plane>(size: usize, digits: &[u64], from: usize, number: usize, p
 /// The 32 planes from `from` on of sixteen digits.
 #[inline(always)]
 fn put_half_of_16<P: Plane>(digits: &[u64], from: usize, number: usize, planes: &mut [P])
-    requires number { number < P.word_count }
     requires digits { length digits.now ≡ 16 }
-    requires from { IsHalfAt from planes.old }
+    requires half { IsHalfAt number P.word_count from planes.old }
     ensures { PutsHalf number from digits.now (map P.words planes.old) (map P.words planes.new) }
 {
     let mut words = fold(digits, from);
@@ -196,8 +178,7 @@ fn put_half_of_16<P: Plane>(digits: &[u64], from: usize, number: usize, planes: 
 /// The planes from `from` on of turned rows that lie folded, eight at a time.
 #[inline(always)]
 fn put_folded<P: Plane>(words: &[u64; 8], from: usize, number: usize, planes: &mut [P])
-    requires number { number < P.word_count }
-    requires from { IsHalfAt from planes.old }
+    requires half { IsHalfAt number P.word_count from planes.old }
     ensures bits { HoldsFolded number from 32 words.now (map P.words planes.new) }
     ensures below { (k : ℕ) → k < from → word_of (map P.words planes.new) number k
         ≡ word_of (map P.words planes.old) number k }
@@ -280,9 +261,8 @@ fn put_words<P: Plane>(words: &[u64], count: usize, from: usize, number: usize, 
 /// The 32 planes from `from` on of 64 digits.
 #[inline(always)]
 fn put_half_of_64<P: Plane>(digits: &[u64], from: usize, number: usize, planes: &mut [P])
-    requires number { number < P.word_count }
     requires digits { length digits.now ≡ 64 }
-    requires from { IsHalfAt from planes.old }
+    requires half { IsHalfAt number P.word_count from planes.old }
     ensures { PutsHalf number from digits.now (map P.words planes.old) (map P.words planes.new) }
 {
     let mut words = fold(digits, from);

@@ -6,6 +6,7 @@ ghost use mir.Val.{bits};
 ghost use Rattle.zf_spec.specs.Numbers.{value_of};
 ghost use Rattle.zf_base.specs.WholeBlocks.{IsBlockOf};
 ghost use Rattle.zf_coef.specs.HeldDigits.{digits_in, ranked_digits, unranked_values, HasRanks};
+ghost use Rattle.zf_coef.specs.HeldDigits.{AreOfBlock};
 
 use crate::coefficient_order::order;
 use crate::negabinary::{from_digits, to_digits};
@@ -39,8 +40,7 @@ pub fn ranked<T: Lane>(d: u8, block: &[T], digits: &mut [u64])
 #[inline(always)]
 fn rank_sixteens<T: Lane>(d: u8, block: &[T], digits: &mut [u64])
     requires four { 4 ^ d ≡ 256 }
-    requires block { IsBlockOf d block.now }
-    requires digits { length digits.old ≡ 4 ^ d }
+    requires block { AreOfBlock d digits.old block.now }
     ensures filled { take 256 (digits_in (bits T.width) digits.new)
         ≡ take 256 (ranked_digits T.width d (map T.value block.now)) }
     ensures below { AllWithin (λ u. u < 2 ^ T.WIDTH) digits.new 0 256 }
@@ -55,8 +55,7 @@ fn rank_sixteens<T: Lane>(d: u8, block: &[T], digits: &mut [u64])
 fn rank<T: Lane>(d: u8, from: usize, to: usize, block: &[T], digits: &mut [u64])
     requires order { from ≤ to }
     requires ranks { to ≤ 4 ^ d }
-    requires block { IsBlockOf d block.now }
-    requires digits { length digits.old ≡ 4 ^ d }
+    requires block { AreOfBlock d digits.old block.now }
     requires filled { take from (digits_in (bits T.width) digits.old)
         ≡ take from (ranked_digits T.width d (map T.value block.now)) }
     requires below { AllWithin (λ u. u < 2 ^ T.WIDTH) digits.old 0 from }
@@ -95,8 +94,7 @@ pub fn unranked<T: Lane>(d: u8, digits: &[u64], block: &mut [T])
 fn unrank<T: Lane>(d: u8, from: usize, to: usize, digits: &[u64], block: &mut [T])
     requires order { from ≤ to }
     requires ranks { to ≤ 4 ^ d }
-    requires digits { length digits.now ≡ 4 ^ d }
-    requires block { IsBlockOf d block.old }
+    requires block { AreOfBlock d digits.now block.old }
     requires before { HasRanks d from
         (map (value_of T.width) (digits_in (bits T.width) digits.now)) (map T.value block.old) }
     ensures { HasRanks d to
@@ -112,8 +110,7 @@ fn unrank<T: Lane>(d: u8, from: usize, to: usize, digits: &[u64], block: &mut [T
 #[inline(always)]
 fn unrank_sixteens<T: Lane>(d: u8, digits: &[u64], block: &mut [T])
     requires four { 4 ^ d ≡ 256 }
-    requires digits { length digits.now ≡ 4 ^ d }
-    requires block { IsBlockOf d block.old }
+    requires block { AreOfBlock d digits.now block.old }
     ensures { HasRanks d 256
         (map (value_of T.width) (digits_in (bits T.width) digits.now)) (map T.value block.new) }
 {

@@ -7,7 +7,6 @@ pub mod Rasters
 pub mod Blocks
 pub mod Slabs
 pub mod Lines
-pub mod Planes
 pub mod Stored
 pub mod Appended
 pub mod StoredLines

@@ -1,5 +1,5 @@
 -- The layout of raw values, and the extent of a block of an array.
-use Rattle.std.specs.Prelude.{ℕ, ◌≡◌, ◌-◌, ◌*◌, ◌<◌, min, List, map, length}
+use Rattle.std.specs.Prelude.{ℕ, ◌≡◌, ◌*◌, ◌<◌, List, map, length}
 use Rattle.zf_spec.specs.Grid.{IsShape, grid, blocks, coordinates, raster, extent_of}
 use Rattle.zf_base.specs.declared.position.Pos.{Pos}
 use Rattle.zf_base.specs.declared.position.Extent.{Extent}
@@ -18,10 +18,3 @@ pub record IsRasterBlock (ns : List ℕ) (b : ℕ) (layout : Layout) (e : Extent
   pub raster_layout : IsRaster ns layout
   pub origin : e.origin ≡ with_unused 0 (map (λ c. 4 * c) (coordinates (grid ns) b))
   pub size : e.size ≡ with_unused 1 (extent_of ns b)
-
--- the part of a block that lies in so many rows of n values: it is block p along them, in layer q of blocks
-abbrev pub block_in_plane : ℕ → ℕ → ℕ → ℕ → Extent
-block_in_plane n rows p q = record {
-  origin = record { x = 4 * p; y = 4 * q; z = 0; w = 0 };
-  size = record { x = min 4 (n - 4 * p); y = min 4 (rows - 4 * q); z = 1; w = 1 };
-}

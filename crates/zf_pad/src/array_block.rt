@@ -1,11 +1,10 @@
 //! Block b of an array, out of its raw values.
 
-ghost use Rattle.std.specs.Prelude.{◌≡◌, ◌<◌, ◌≤◌, ◌+◌, ◌-◌, ◌*◌, ◌/◌, ◌%◌, ◌^◌, ◌++◌, min, length, map};
-ghost use Rattle.std.specs.Prelude.{take, drop};
+ghost use Rattle.std.specs.Prelude.{◌≡◌, ◌<◌, ◌≤◌, ◌+◌, ◌-◌, ◌*◌, ◌^◌, ◌++◌, min, length, map, take, drop};
 ghost use Rattle.zf_spec.specs.Grid.{product, grid, blocks, coordinates, extent_of, block_of};
 ghost use Rattle.zf_spec.specs.Codes.{existing_values};
 ghost use Rattle.zf_base.specs.Positions.{used_axes, with_unused, IsExtent};
-ghost use Rattle.zf_pad.specs.Rasters.{IsRaster, block_in_plane};
+ghost use Rattle.zf_pad.specs.Rasters.{IsRaster};
 
 use crate::copies::gather;
 use crate::layout::Layout;
@@ -53,8 +52,8 @@ fn take_row<T: Lane>(values: &[T], first: usize, block: &mut [T])
     block[..4].copy_from_slice(&values[first..first + 4]);
 }
 
-/// The part of block `b` that lies in the array. In one and two dimensions, where blocks are small and many,
-/// nothing is made of axes that are not used.
+/// The part of block `b` that lies in the array. In one dimension, where blocks are small and many, no
+/// coordinates are divided out.
 #[inline]
 pub(crate) fn part_of(shape: &Shape, b: u64) -> Extent
     requires { b < blocks shape.now }
@@ -63,10 +62,10 @@ pub(crate) fn part_of(shape: &Shape, b: u64) -> Extent
     ensures extent { IsExtent (length shape.now) result }
     ensures used_size { used_axes (length shape.now) result.size ≡ extent_of shape.now b }
 {
-    match shape.dims() {
-        1 => part_of_line(shape.size(0), b),
-        2 => part_of_plane(shape.size(0), shape.size(1), b),
-        _ => shape.extent(b),
+    if shape.dims() == 1 {
+        part_of_line(shape.size(0), b)
+    } else {
+        shape.extent(b)
     }
 }
 
@@ -90,32 +89,6 @@ fn part_of_line(n: u64, b: u64) -> Extent
         size: Pos {
             x: (n - first).min(4),
             y: 1,
-            z: 1,
-            w: 1,
-        },
-    }
-}
-
-/// The part of block `b` that lies in so many rows of `n` values.
-#[inline]
-fn part_of_plane(n: u64, rows: u64, b: u64) -> Extent
-    requires some { 1 ≤ n }
-    requires inside { b / ((n + 3) / 4) < (rows + 3) / 4 }
-    ensures { result ≡ block_in_plane n rows (b % ((n + 3) / 4)) (b / ((n + 3) / 4)) }
-{
-    let across = n.div_ceil(4);
-    let first = 4 * (b % across);
-    let row = 4 * (b / across);
-    Extent {
-        origin: Pos {
-            x: first,
-            y: row,
-            z: 0,
-            w: 0,
-        },
-        size: Pos {
-            x: (n - first).min(4),
-            y: (rows - row).min(4),
             z: 1,
             w: 1,
         },

@@ -7,8 +7,7 @@ use Rattle.zf_coef.proofs.ShiftedBits.{low_half_moved, high_half_moved}
 use Rattle.zf_coef.proofs.digits.join_from.Goals as goal
 
 pub loop-r-preserved : goal.loop-r-preserved
-loop-r-preserved g c =
-    let n = g.row.N in
+loop-r-preserved c =
     let from = c.args.from in
     let words = c.args.words.now in
     let old = c.loop-r.digits in
@@ -21,25 +20,19 @@ loop-r-preserved g c =
     let upper : ℕ → ℕ → Type 0 = λ j v. IsMoved 32 from (get_or words j 0) v in
     record {
       lower = λ j h.
-          subst (lower j) (sym (get_or-set_other mid (r + n) j y 0 (λ (e : j ≡ r + n). absurd (omega arith))))
+          subst (lower j) (sym (get_or-set_other mid (r + 32) j y 0 (λ (e : j ≡ r + 32). absurd (omega arith))))
           (prefix_tells lower old 0 r x (omega arith) (low_half_moved a from c.requires.from) (λ i less. c.loop-r.invariant.lower i less) j h);
       upper = λ j h. ⊎_elim
           (λ (earlier : j < r).
-          subst (upper j) (sym (get_or-set_other mid (r + n) (n + j) y 0 (λ (e : n + j ≡ r + n). absurd (omega arith))
-          ∙ get_or-set_other old r (n + j) x 0 (λ (e : n + j ≡ r). absurd (omega arith))))
+          subst (upper j) (sym (get_or-set_other mid (r + 32) (32 + j) y 0 (λ (e : 32 + j ≡ r + 32). absurd (omega arith))
+          ∙ get_or-set_other old r (32 + j) x 0 (λ (e : 32 + j ≡ r). absurd (omega arith))))
           (c.loop-r.invariant.upper j earlier))
           (λ (last : r ≤ j).
           let same : r ≡ j = omega arith in
-          let at : r + n ≡ n + r = omega arith in
-          let long : r + n < length mid = omega (arith, length-set old r x) in
-          subst (λ i. upper i (get_or (set mid (r + n) y) (n + i) 0)) same
-          (subst (λ i. upper r (get_or (set mid (r + n) y) i 0)) at
-          (subst (upper r) (sym (get_or-set_same mid (r + n) y 0 long)) (high_half_moved a from (c.type_inv.words r).fits c.requires.from))))
+          let at : r + 32 ≡ 32 + r = omega arith in
+          let long : r + 32 < length mid = omega (arith, length-set old r x) in
+          subst (λ i. upper i (get_or (set mid (r + 32) y) (32 + i) 0)) same
+          (subst (λ i. upper r (get_or (set mid (r + 32) y) i 0)) at
+          (subst (upper r) (sym (get_or-set_same mid (r + 32) y 0 long)) (high_half_moved a from (c.type_inv.words r).fits c.requires.from))))
           (cases_lt j r);
     }
-
-pub returns-clause-lower : goal.returns-clause-lower
-returns-clause-lower g c r h = c.loop-r.invariant.lower r (omega arith)
-
-pub returns-clause-upper : goal.returns-clause-upper
-returns-clause-upper g c r h = c.loop-r.invariant.upper r (omega arith)

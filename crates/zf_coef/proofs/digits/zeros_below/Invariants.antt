@@ -1,6 +1,6 @@
-use Rattle.std.proofs.Common.{◌≡◌, ◌*◌, ℕ, ◌<◌, map}
+use Rattle.std.proofs.Common.{◌≡◌, ℕ, ◌<◌, map}
 use Rattle.zf_coef.specs.Groups.{word_of}
 use Rattle.zf_coef.proofs.digits.zeros_below.Given as goal
 
-abbrev pub invariant-loop-eight : goal.invariant-loop-eight
-invariant-loop-eight g l = (k : ℕ) → k < 8 * l.eight → word_of (map g.P.Plane.words l.planes) l.number k ≡ 0
+abbrev pub invariant-loop-k : goal.invariant-loop-k
+invariant-loop-k g l = (k : ℕ) → k < l.k → word_of (map g.P.Plane.words l.planes) l.number k ≡ 0

@@ -15,6 +15,6 @@ returns-in-0 g c =
     let planes = c.put_none.new.planes in
     record {
       bits = group_of_none c.args.number c.args.digits.now (map g.P.Plane.words planes) c.in-0.is
-          (λ k within. c.put_none.ensures.words k (omega arith) (omega (arith, length-map planes g.P.Plane.words)));
+          (λ k within. c.put_none.ensures.zeros k (omega arith) (omega (arith, length-map planes g.P.Plane.words)));
       others = c.put_none.ensures.others;
     }

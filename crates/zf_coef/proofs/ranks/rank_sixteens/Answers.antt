@@ -1,4 +1,4 @@
-use Rattle.std.proofs.Common.{◌≡◌, ◌+◌, ◌*◌, ◌^◌, ◌<◌, ℕ, map, take, subst, arith}
+use Rattle.std.proofs.Common.{◌≡◌, ◌+◌, ◌*◌, ◌^◌, ◌<◌, map, take, subst, arith}
 use Rattle.std.specs.List.{AllWithin}
 use mir.Val.{bits}
 use Rattle.zf_coef.specs.HeldDigits.{digits_in, ranked_digits}
