@@ -321,9 +321,6 @@ module _ {X : Type 0} (value : X → ℤ) (a : Held) (views : List (private.Held
     owns_is u false b e inside same = sym (block_is_none u (λ own. false≢true (same.1 (subst (Own v) (sym e) own))))
 
   -- what is told of one that has it
-  pub has_number : (u : Window) → view_has (split_session value a views u) i ps ≡ true → i < length views
-  has_number u has = ltb-true i (length views) (and_parts (ltb i (length views)) (is_inside (shape a) ps && owner) (sym (has_is u) ∙ has)).0
-
   pub has_inside : (u : Window) → view_has (split_session value a views u) i ps ≡ true → is_inside (shape a) ps ≡ true
   has_inside u has =
       let more = and_parts (ltb i (length views)) (is_inside (shape a) ps && owner) (sym (has_is u) ∙ has) in
