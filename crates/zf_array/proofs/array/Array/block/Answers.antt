@@ -22,18 +22,17 @@ touch-requires g c =
 
 pub returns : goal.returns
 returns g c =
-    let s = c.self.inside in
     let b = c.args.b in
     let value = g.T.Lane.value in
     let now = c.args.self.now in
     let t = c.touch.new.back in
     let e = c.touch.new.self in
     let F = λ (f : Format (List Bool)) (u : State (List Bool)). touch f u b in
-    let is = held_step g.T.Lane.value g.T.Lane.width g.row.D s.store s.cache (vec_len s.buffer) c.self.invariant c.args.self.now c.self.view_is t e c.touch.ensures.step.kept c.touch.ensures.step.fits F c.touch.ensures.step.state in
-    let after = step g.T.Lane.value g.T.Lane.width g.row.D s.store s.cache (vec_len s.buffer) c.self.invariant c.args.self.now c.self.view_is t e c.touch.ensures.step.kept c.touch.ensures.step.fits F c.touch.ensures.step.state in
-    let same = format_now g.T.Lane.value g.T.Lane.width g.row.D s.store s.cache (vec_len s.buffer) c.self.invariant c.args.self.now c.self.view_is ∙ sym c.touch.ensures.step.format in
+    let is = held_step _ _ _ _ _ _ c.self.invariant c.args.self.now c.self.view_is t e c.touch.ensures.step.kept c.touch.ensures.step.fits F c.touch.ensures.step.state in
+    let after = step _ _ _ _ _ _ c.self.invariant c.args.self.now c.self.view_is t e c.touch.ensures.step.kept c.touch.ensures.step.fits F c.touch.ensures.step.state in
+    let same = format_now _ _ _ _ _ _ c.self.invariant c.args.self.now c.self.view_is ∙ sym c.touch.ensures.step.format in
     let shown = values_here value (format_of t) e (code_at t) b (line_of e b) refl c.touch.ensures.here in
-    let there = state_after g.T.Lane.value g.T.Lane.width g.row.D s.store s.cache (vec_len s.buffer) c.self.invariant c.touch.new.back c.touch.new.self c.touch.ensures.step.kept c.touch.ensures.step.fits in (
+    let there = state_after _ _ _ _ _ _ c.self.invariant c.touch.new.back c.touch.new.self c.touch.ensures.step.kept c.touch.ensures.step.fits in (
       (refl, λ _. tt, is),
       record {
         touched = tt;

@@ -27,8 +27,7 @@ get-requires g c =
 
 pub invariant_of-self : goal.invariant_of-self
 invariant_of-self g c =
-    let s = c.self.inside in
-    joined_after g.T.Lane.value g.T.Lane.width g.row.D s.store s.cache (vec_len s.buffer) c.self.invariant c.get.new.back c.get.new.self c.get.ensures.step.kept c.get.ensures.step.fits
+    joined_after _ _ _ _ _ _ c.self.invariant c.get.new.back c.get.new.self c.get.ensures.step.kept c.get.ensures.step.fits
 
 pub returns : goal.returns
 unfolding state_at
