@@ -62,10 +62,9 @@ returns-clause-ok g c =
     let told = c.in_ok-run_line-2.ensures in
     let t = c.in_ok-run_line-2.field-0 in
     let replies = replies_as g.A.Subject.setting inv.1.kept told.ok in
-    let more = c.loop-line.refused + c.from-2.result in
-    all_run _ c.args.script.now _ _ _ _ _ more refl
+    all_run _ c.args.script.now _ _ _ _ _ _ refl
     (run_on _ _ _ _ _ _ _ _ _ _ _ inv.0
-    c.in_default.ensures.none _ t replies more (ap (λ n. c.loop-line.refused + n) (c.from-2.ensures ∙ one_or_none t)))
+    c.in_default.ensures.none _ t replies _ (ap (λ n. c.loop-line.refused + n) (c.from-2.ensures ∙ one_or_none t)))
 
 pub returns-clause-stays : goal.returns-clause-stays
 returns-clause-stays g c = ready_then c.loop-line.invariant.1 c.in_ok-run_line-2.ensures.stays
