@@ -1,4 +1,4 @@
-use Rattle.std.proofs.Common.{◌∙◌, sym, ap, map, length}
+use Rattle.std.proofs.Common.{◌∙◌, sym, ap, length}
 use Rattle.std.proofs.lemmas.List.{length-map}
 use Rattle.zf_cached.specs.Touch.{touch}
 use Rattle.zf_cached.specs.Steps.{total}
@@ -15,9 +15,8 @@ sum_within-requires g c = block_room (shape c.args.a.now) g.row.D c.requires.arr
 pub returns-clause-touched : goal.returns-clause-touched
 returns-clause-touched g c u =
     let now = c.args.a.now in
-    let s = touch (format now) (state now) c.args.b in
     ap (λ a. session_of a u) c.block.follows.holds-at-none
-    ∙ sym (touched_is g.T.Lane.width now c.requires.array.same_type u (array_of now.header s) c.args.b c.block.ensures.state (header_after now.header s))
+    ∙ sym (touched_is g.T.Lane.width now c.requires.array.same_type u (array_of now.header _) c.args.b c.block.ensures.state (header_after now.header _))
 
 pub returns-clause-header : goal.returns-clause-header
 returns-clause-header g c =
@@ -26,7 +25,6 @@ returns-clause-header g c =
 
 pub returns-clause-sum : goal.returns-clause-sum
 returns-clause-sum g c =
-    let vs = map g.T.Lane.value c.block.result.now in
-    sum_is _ _ (shape c.args.a.now) g.row.D c.args.b c.extent.result vs c.sum_within.result c.shape.ensures.value c.requires.array.sizes c.requires.array.dims c.extent.ensures.extent c.extent.ensures.used_size
+    sum_is _ _ (shape c.args.a.now) g.row.D c.args.b c.extent.result _ c.sum_within.result c.shape.ensures.value c.requires.array.sizes c.requires.array.dims c.extent.ensures.extent c.extent.ensures.used_size
     (length-map c.block.result.now g.T.Lane.value ∙ c.block.ensures.size) c.sum_within.ensures.bound c.sum_within.ensures.sum
     ∙ ap total c.block.ensures.value ∙ ap (λ s. total (s.values c.args.b)) (sym c.block.ensures.state) ∙ ap (λ a. total ((state a).values c.args.b)) (sym c.block.follows.holds-at-none)

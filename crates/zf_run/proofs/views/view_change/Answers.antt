@@ -76,14 +76,10 @@ bind-requires g c = (lit≤ tt, (lit≤ tt, coded_empty c.args.a.now c.requires.
 
 pub change-requires : goal.change-requires
 change-requires g c =
-    let a = c.args.a.now in
-    let views = c.args.views.now in
-    let value = g.T.Lane.value in
-    let x = get_or views c.args.i c.index-views-i.result in
-    let at = ap (get_or views c.args.i) c.index-views-i.is in
+    let at = ap (get_or _ c.args.i) c.index-views-i.is in
     let lt = c.has_position.ensures.number c.if-not-has_position.false in
-    let there = at_view value g.row.D a views c.args.i x c.requires.parts lt at c.args.p c.requires.unused (λ u. sym (c.has_position.ensures.has u) ∙ c.if-not-has_position.false) in
-    let ready = lent_ready value g.row.D a views c.args.i x c.requires.parts lt at c.bind.result.array c.bind.ensures.array in
+    let there = at_view _ g.row.D _ _ c.args.i _ c.requires.parts lt at c.args.p c.requires.unused (λ u. sym (c.has_position.ensures.has u) ∙ c.if-not-has_position.false) in
+    let ready = lent_ready _ g.row.D _ _ c.args.i _ c.requires.parts lt at c.bind.result.array c.bind.ensures.array in
     (lit< tt, record { fits = ready.fits; blocks = ready.over; places = ready.places; position = there.position; owned = there.own })
 
 pub returns : goal.returns

@@ -1,4 +1,4 @@
-use Rattle.std.proofs.Common.{◌∙◌, sym, ap, subst, Bool, List, map, length}
+use Rattle.std.proofs.Common.{◌∙◌, sym, ap, subst, Bool, List, length}
 use Rattle.std.proofs.lemmas.List.{length-map}
 use Rattle.zf_spec.specs.Grid.{IsShape}
 use Rattle.zf_header.specs.declared.header.Header.{Header}
@@ -27,8 +27,7 @@ returns-clause-touched g c =
 pub returns-clause-sum : goal.returns-clause-sum
 returns-clause-sum g c =
     let b = c.args.b in
-    let vs = map g.T.Lane.value c.block.result.now in
     let same = c.shape-shape.ensures.value in
-    sum_is _ _ (shape c.args.self.now.array.now) g.row.D b c.extent.result vs c.sum_within.result same (subst IsShape same c.dims-dims.ensures.shape) (ap length (sym same) ∙ c.shape-shape.ensures.dims) c.extent.ensures.extent c.extent.ensures.used_size
+    sum_is _ _ (shape c.args.self.now.array.now) g.row.D b c.extent.result _ c.sum_within.result same (subst IsShape same c.dims-dims.ensures.shape) (ap length (sym same) ∙ c.shape-shape.ensures.dims) c.extent.ensures.extent c.extent.ensures.used_size
     (length-map c.block.result.now g.T.Lane.value ∙ c.block.ensures.size) c.sum_within.ensures.bound c.sum_within.ensures.sum
     ∙ ap total c.block.ensures.value ∙ ap (λ s. total (s.values b)) (sym c.block.ensures.state) ∙ ap (λ a. total ((state a).values b)) (sym c.block.follows.holds-at-none)

@@ -1,4 +1,4 @@
-use Rattle.std.proofs.Common.{◌∙◌, sym, ap, subst, Bool, List, map, length, lit<}
+use Rattle.std.proofs.Common.{◌∙◌, sym, ap, subst, Bool, List, length, lit<}
 use Rattle.std.proofs.lemmas.List.{length-map}
 use Rattle.zf_base.specs.Formats.{Format}
 use Rattle.zf_header.specs.declared.header.Header.{Header}
@@ -34,8 +34,7 @@ pub returns-clause-sum : goal.returns-clause-sum
 returns-clause-sum g c =
     let s = c.args.self.now.store.now in let value = g.T.Lane.value in let st = c.header.ensures.whole in
     let t = c.block.new.back in let e = c.block.follows.lender-at-none in
-    let vs = map value c.block.result.now in
-    sum_is _ _ s.header.shape g.row.D c.args.b c.extent.result vs c.sum_within.result (ap (λ (h : Header). h.shape) c.header.ensures.value) st.shape st.dims c.extent.ensures.extent c.extent.ensures.used_size
+    sum_is _ _ s.header.shape g.row.D c.args.b c.extent.result _ c.sum_within.result (ap (λ (h : Header). h.shape) c.header.ensures.value) st.shape st.dims c.extent.ensures.extent c.extent.ensures.used_size
     (length-map c.block.result.now value ∙ c.block.ensures.shows.size) c.sum_within.ensures.bound c.sum_within.ensures.sum
     ∙ ap total c.block.ensures.shows.value_is
     ∙ ap (λ u. total (u.values c.args.b)) (sym (ap (λ (f : Format (List Bool)). state_of value e f (code_at t)) c.block.ensures.shows.format ∙ c.block.follows.holds-at-none.state))

@@ -43,10 +43,7 @@ returns-in_default-clause-does g c =
 
 pub returns : goal.returns
 returns g c =
-    let w = g.T.Lane.width in
-    let value = g.T.Lane.value in
     let a = c.args.self.now.array.now in
-    let b = c.see_coded.new.a in
     let n = c.args.count in
     let l = c.args.lines in
     let many = c.blocks-2.ensures.value ∙ ap blocks c.shape-shape.ensures.value in
@@ -58,7 +55,7 @@ returns g c =
     let flushes = ap state c.see_coded.ensures.same ∙ c.flush.ensures.state in
     let head = ap (λ (h : Held). h.header) c.see_coded.ensures.same ∙ c.flush.ensures.header in
     record {
-      does = has_split value w g.row.D a b c.in-Ok.views.items n l c.raised.result c.shape-shape.ensures.same_type some both.0 both.1 c.raised.ensures.value new flushes head c.see_coded.ensures.coded c.args.self.now.window c.requires.window;
-      sound = are_parts value w g.row.D a b c.in-Ok.views.items n l c.raised.result c.shape-shape.ensures.same_type some both.0 both.1 c.raised.ensures.value new flushes head c.see_coded.ensures.coded;
+      does = has_split _ _ g.row.D a _ c.in-Ok.views.items n l c.raised.result c.shape-shape.ensures.same_type some both.0 both.1 c.raised.ensures.value new flushes head c.see_coded.ensures.coded c.args.self.now.window c.requires.window;
+      sound = are_parts _ _ g.row.D a _ c.in-Ok.views.items n l c.raised.result c.shape-shape.ensures.same_type some both.0 both.1 c.raised.ensures.value new flushes head c.see_coded.ensures.coded;
       kept = (ap (λ (h : Header). (h.ty, h.mode)) head, refl);
     }
