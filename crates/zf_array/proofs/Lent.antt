@@ -115,9 +115,6 @@ module _ (f : Format (List Bool)) (b : ℕ) (vs : List ℤ) (a n : ℕ) (ys : Li
       ∙ map-get_or-upto new f.block_len (pos 0) (length-new ∙ size)
 
 module _ {X : Type 0} (value : X → ℤ) (f : Format (List Bool)) (b : ℕ) (row : List X) (a n : ℕ) (whole : length row ≡ f.block_len) (within : a + n ≤ f.block_len) where
-  here : List ℤ
-  here = existing_of f b (map value row)
-
   row_long : length (map value row) ≡ f.block_len
   row_long = length-map row value ∙ whole
 

@@ -35,10 +35,9 @@ use Rattle.zf_array.proofs.Standing.{zero_meant, stored_held, state_held, state_
 
 -- a type is known by its width
 pub same_ty : (s t : Ty) → width_of s ≡ width_of t → s ≡ t
-same_ty I32 I32 e = refl
 same_ty I32 I64 e = cc
 same_ty I64 I32 e = cc
-same_ty I64 I64 e = refl
+same_ty x y e = refl
 
 -- ---- a call of the cache
 
@@ -158,9 +157,8 @@ new_is w ty ns budget lines is = open_is w (record { ty = ty; shape = ns; mode =
 
 -- the mode of a rate
 rate_coding_is : (m : Mode) → IsRate m → coding m ≡ fixed_rate (block_bits m)
-rate_coding_is Reversible is = absurd is
 rate_coding_is (Rate b) is = refl
-rate_coding_is (Precision p) is = absurd is
+rate_coding_is x is = absurd is
 
 -- what is saved
 pub saved_is : (w : Width) (a : Held) → w ≡ width_of a.header.ty → IsRate a.header.mode → length a.codes ≡ blocks a.header.shape

@@ -130,8 +130,8 @@ impl<T: Lane, const D: usize> Array<T, D> {
             (place_at self.old p) (pos 0) }
         ensures header { self.new.header ≡ self.old.header }
     {
-        let (b, place) = self.store.header().shape.place_in::<D>(p);
-        self.cache.get(&mut self.store, b, place)
+        let (b, place) = self.shape().place_in::<D>(p);
+        self.value_at(b, place)
     }
 
     /// The value at place `place` of block `b`, by one touch. It is the place of a position of the array.

@@ -69,11 +69,10 @@ within ns w lies p at = subst (λ k. is_inside w.size (used_axes k p) ≡ true) 
 -- the numbers of the position of the array that a position of the window is
 pub numbers_there : (ns : List ℕ) (v : Window) → IsShape ns → LiesIn ns v → (p : Pos) → used_axes (length ns) (with_unused 0 (mapped v (used_axes (length v.size) p))) ≡ mapped v (used_axes (length ns) p)
 numbers_there ns v sizes lies p =
-    let ps = used_axes (length v.size) p in
-    let ms = mapped v ps in
+    let ms = mapped v _ in
     let four = sizes.four_at_most in
     let long = length-used_axes (length v.size) p (omega (arith, lies.sizes, four)) in
-    let mapped_long = length-mapped ns v ps lies long in
+    let mapped_long = length-mapped ns v _ lies long in
     ap (λ k. used_axes k (with_unused 0 ms)) (sym mapped_long) ∙ used_axes-with_unused 0 ms (omega (arith, mapped_long, four)) ∙ ap (λ k. mapped v (used_axes k p)) lies.sizes
 
 -- a command that is allowed is taken, and one that is not is refused, where it is sorted as m

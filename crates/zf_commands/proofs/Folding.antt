@@ -252,6 +252,14 @@ module _ {Code : Type 0} (setting : Setting Code) (all here : List (List ℕ)) (
   pub stop_here : Breaks setting now line next mid new → (script : List ℕ) → lines_of script ≡ all → HasStopped setting script start next old new
   stop_here b script lines = stops setting all line left start now old mid refused at_line next (Some b.reply) b.leads b.reply refl new b.written script lines
 
+-- what is said of the same setting by another name
+module _ {K Code : Type 0} (S : K → Setting Code) {k m : K} {s t : Session Code} {line : List ℕ} {old new : Option (List ℕ)} (same : k ≡ m) where
+  pub breaks_as : Breaks (S k) s line t old new → Breaks (S m) s line t old new
+  breaks_as b = subst (λ j. Breaks (S j) s line t old new) same b
+
+  pub replies_as : {refused : Bool} → Replies (S k) s line t old new refused → Replies (S m) s line t old new refused
+  replies_as {refused} r = subst (λ j. Replies (S j) s line t old new refused) same r
+
 -- a bool as a number
 pub one_or_none : (t : Bool) → bool_byte t ≡ cond t 1 0
 one_or_none true = refl

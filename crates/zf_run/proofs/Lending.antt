@@ -70,13 +70,12 @@ module _ {X : Type 0} (value : X → ℤ) (d : ℕ) (a : Held) (views : List (pr
   pub at_view : (p : Pos) → p ≡ with_unused 0 (used_axes (length (shape a)) p) → ((u : Window) → view_has (split_session value a views u) i (used_axes (length (shape a)) p) ≡ true)
       → IsAtView value a views i v p
   at_view p unused has =
-      let ps = used_axes (length (shape a)) p in
       let here = has (whole (shape a)) in record {
         below = lt;
         at = at;
         has = has;
-        position = position_there p (record { inside = viewing.has_inside value a views i ps (whole (shape a)) here; unused = unused });
-        own = own_there p (viewing.owner_owns value a views i ps d v parts lt at (whole (shape a)) here);
+        position = position_there p (record { inside = viewing.has_inside value a views i _ (whole (shape a)) here; unused = unused });
+        own = own_there p (viewing.owner_owns value a views i _ d v parts lt at (whole (shape a)) here);
       }
 
   pub act_there : (p : Pos) (act : ℕ → ℕ → Act)

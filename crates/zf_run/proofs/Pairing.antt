@@ -6,9 +6,8 @@ use Rattle.std.proofs.lemmas.List.{length-set, length-map, length-replicate, map
 use Rattle.zf_spec.specs.Numbers.{wrap}
 use Rattle.zf_spec.specs.Grid.{blocks}
 use Rattle.zf_base.specs.Widths.{width_of}
-use Rattle.zf_base.specs.Places.{block_number, place_of}
+use Rattle.zf_base.specs.Places.{block_number, place_of, IsAt}
 use Rattle.zf_base.specs.Positions.{used_axes}
-use Rattle.zf_base.specs.Places.{IsAt}
 use Rattle.zf_base.specs.declared.position.Pos.{Pos}
 use Rattle.zf_base.specs.Formats.{Format, existing_of, meant}
 use Rattle.zf_base.proofs.Formats as formats

@@ -18,7 +18,7 @@ use Rattle.zf_cached.specs.Windows.{Window, LiesIn, whole}
 use Rattle.zf_cached.specs.Steps.{Setting, Session, is_new_shape, done}
 use Rattle.zf_cached.specs.Runs.{array_setting}
 use Rattle.zf_array.specs.Standing.{Held, shape, state, format}
-use Rattle.zf_run.specs.Sessions.{setting_of, session_of, start_of, kind, IsArray}
+use Rattle.zf_run.specs.Sessions.{setting_of, session_of, start_of, IsArray}
 use Rattle.zf_commands.specs.Steps.{Does}
 use Rattle.zf_commands.proofs.Stepping.{accepted}
 
@@ -70,7 +70,3 @@ module _ (w : Width) (a : Held) (dim : ℕ) (is : IsArray w dim a) (v : Window) 
       accepted (setting_of w a) (Command.resize ns) (session_of a v) lies refl (ap not new) refl refl (session_of b u) None refl
       (ap (λ (t : Session (List Bool)). (t, None)) end)
       (subst (λ ks. LiesIn ks u) (sym (ap (λ (h : Header). h.shape) head)) inside)
-
-  -- of the type and the mode as before
-  pub resized_kind : kind b ≡ kind a
-  resized_kind = λ i. ((head i).ty, (ap (λ (h : Header). h.mode) head ∙ sym rate) i)

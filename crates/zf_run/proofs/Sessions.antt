@@ -1,17 +1,25 @@
 -- An array after a call as a session.
-use Rattle.std.proofs.Common.{◌≡◌, sym, ap, ◌∙◌, ℕ, ℤ, Bool, List, None}
-use Rattle.std.specs.Int.{Width}
+use Rattle.std.proofs.Common.{◌≡◌, sym, ap, subst, ◌∙◌, ℕ, ◌^◌, ℤ, Bool, List, None, length, to_z, of_z, arith}
+use Rattle.std.specs.Int.{Width, w128}
+use Rattle.std.proofs.lemmas.Int.{to_z-of_z}
+use Rattle.zf_spec.specs.Grid.{IsShape, extent_of}
+use Rattle.zf_base.specs.declared.position.Extent.{Extent}
+use Rattle.zf_base.specs.Positions.{used_axes, IsExtent}
 use Rattle.zf_base.specs.Widths.{width_of}
-use Rattle.zf_base.specs.Formats.{Format}
+use Rattle.zf_base.specs.Formats.{Format, existing_of}
 use Rattle.zf_header.specs.HeaderBits.{block_bits}
 use Rattle.zf_cached.specs.State.{State}
 use Rattle.zf_cached.specs.Touch.{touch, touch_for_writing, with_values, touch_for_writing_at}
-use Rattle.zf_cached.specs.Arrays.{rate_coding, array_format}
+use Rattle.zf_cached.specs.Arrays.{Coding, rate_coding, array_format}
 use Rattle.zf_cached.specs.Windows.{Window}
 use Rattle.zf_cached.specs.Changes.{flush, discard, raised, relined}
 use Rattle.zf_cached.specs.Commands.{Command}
-use Rattle.zf_cached.specs.Steps.{Session, format_of, touched, changed, done}
+use Rattle.zf_cached.specs.Steps.{Session, format_of, touched, changed, done, total}
 use Rattle.zf_cached.specs.Runs.{array_setting}
+use Rattle.zf_window.specs.Bounds.{IsUpTo}
+use Rattle.zf_window.proofs.Bounds.{up_to_fits}
+use Rattle.zf_commands.specs.Sums.{within}
+use Rattle.zf_commands.proofs.Passing.{within_is, up_to_less}
 use Rattle.zf_array.specs.Standing.{Held, shape, state, format}
 use Rattle.zf_run.specs.Sessions.{setting_of, session_of, kind}
 
@@ -64,3 +72,12 @@ module _ (w : Width) (a : Held) (same : w ≡ width_of a.header.ty) (v : Window)
   discarded_is b is head =
       ap (λ (t : Session (List Bool)). (t, None))
       (session_is b (discard (format_of (setting_of w a) (session_of a v)) (state a)) (ap (λ (f : Format (List Bool)). discard f (state a)) format_is ∙ sym is) head)
+
+-- the sum of the values of a block within its extents, as one of 128 bits
+pub sum_is : {Code : Type 0} (coding : Coding Code) (ms ns : List ℕ) (dim b : ℕ) (e : Extent) (vs : List ℤ) (sum : ℤ) → ms ≡ ns → IsShape ns → length ns ≡ dim → IsExtent (length ms) e
+    → used_axes (length ms) e.size ≡ extent_of ms b → length vs ≡ 4 ^ dim → IsUpTo (2 ^ 71) sum → sum ≡ total (within e.size vs)
+    → to_z w128 (of_z w128 sum) ≡ total (existing_of (array_format coding ns) b vs)
+sum_is coding ms ns dim b e vs sum same sizes dims extent used long bound is =
+    let P : List ℕ → Type 0 = λ ks. IsExtent (length ks) e in
+    let Q : List ℕ → Type 0 = λ ks. used_axes (length ks) e.size ≡ extent_of ks b in
+    to_z-of_z w128 sum (up_to_fits sum (up_to_less (2 ^ 71) (2 ^ 100) sum (omega arith) bound)) ∙ is ∙ ap total (within_is coding ns dim b e vs sizes dims (subst P same extent) (subst Q same used) long)

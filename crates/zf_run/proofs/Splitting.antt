@@ -1,10 +1,9 @@
 -- An array that is split into views, and the end of a split.
-use Rattle.std.proofs.Common.{◌≡◌, refl, sym, ap, subst, ◌∙◌, ◌⊎◌, inl, inr, ℕ, zero, suc, ◌+◌, ◌*◌, ◌^◌, ◌<◌, ◌≤◌, ◌%◌, ◌==◌, ℤ, Bool, true, false, not, List, [], ◌∷◌, ◌++◌, map, length, length-append, get_or, replicate, add-mul, div-mul-le_self, Some, None, if◌then◌else◌, arith}
+use Rattle.std.proofs.Common.{◌≡◌, refl, sym, ap, subst, ◌∙◌, ◌⊎◌, inl, inr, ℕ, zero, suc, ◌+◌, ◌^◌, ◌<◌, ◌≤◌, ◌%◌, ◌==◌, ℤ, Bool, true, false, not, List, [], ◌∷◌, ◌++◌, map, length, length-append, get_or, replicate, Some, None, if◌then◌else◌, arith}
 use Rattle.std.specs.Int.{Width}
 use Rattle.std.proofs.Math.Path.{fun_ext}
 use Rattle.std.proofs.lemmas.Bool.{and_from, ne_eqb, cases_lt}
 use Rattle.std.proofs.lemmas.List.{length-map, length-replicate, ext_get_or, get_or_append_left, get_or_push}
-use Rattle.std.proofs.lemmas.Nat.{le-div}
 use Rattle.zf_spec.specs.Grid.{upto, blocks, is_inside, indices, extent_of}
 use Rattle.zf_spec.proofs.Counting.{get_or-map-upto, length-upto}
 use Rattle.zf_base.specs.Widths.{width_of}
@@ -31,8 +30,6 @@ use Rattle.zf_cache.proofs.Stands.{standing}
 use Rattle.zf_cache.proofs.Steps.{empty_fits}
 use Rattle.zf_cache.proofs.Touches.{state_is, no_tag, all_meant}
 use Rattle.zf_private.specs.Standing as private
-use Rattle.zf_private.proofs.Others.{first_of-last}
-use Rattle.zf_cached.proofs.Parts.{rising}
 use Rattle.zf_array.specs.Standing.{Held, shape, state, format}
 use Rattle.zf_array.specs.Coded.{IsCoded}
 use Rattle.zf_run.specs.Sessions.{setting_of, session_of, kind}
@@ -49,15 +46,6 @@ item_at (y ∷ ys) zero lt = (y, refl)
 item_at (y ∷ ys) (suc i) lt = item_at ys i (omega arith)
 
 -- ---- views as they are made
-
--- of at least n blocks, each of n views has some, and the next view begins within the array
-module _ (count n i : ℕ) (some : 0 < n) (enough : n ≤ count) (lt : i < n) where
-  pub next_above : first_of count n i + 1 ≤ first_of count n (i + 1)
-  next_above = le-div (first_of count n i + 1) ((i + 1) * count) n some
-      (omega (arith, enough, div-mul-le_self (i * count) n, add-mul (first_of count n i) 1 n, add-mul i 1 count))
-
-  pub next_inside : first_of count n (i + 1) ≤ count
-  next_inside = subst (λ m. first_of count n (i + 1) ≤ m) (first_of-last count n some) (rising count n some (i + 1) n (omega (arith, lt)))
 
 pub one_made : {X : Type 0} (d : ℕ) (ns : List ℕ) (n lines k : ℕ) (views : List (private.Held X)) (x : private.Held X) → AreNewParts d ns n lines k views → IsNewPart d ns n lines k x
     → AreNewParts d ns n lines (k + 1) (views ++ x ∷ [])

@@ -205,11 +205,10 @@ module _ {X : Type 0} (value : X → ℤ) (w : Width) (d : ℕ) (a b : Held) (vi
           let second : get_or (set (views_seen value b views) i x) i no_view ≡ x = get_or-set_same (views_seen value b views) i x no_view (omega (arith, lt, length-map views (view_of value b))) in
           ap (λ m. get_or (set (views_seen value a views) i x) m no_view) e ∙ first ∙ sym second ∙ sym (ap (λ m. get_or (set (views_seen value b views) i x) m no_view) e)
       at_place k below (inr ne) =
-          let x = view_of value b n in
           let o = get_or views k v in
           let there : o ≡ get_or views k o = get_or_default views k v o below in
-          get_or-set_other (views_seen value a views) i k x no_view ne ∙ seen_at value a views k o below there ∙ sym (other_is k o below there ne) ∙ sym (seen_at value b views k o below there)
-          ∙ sym (get_or-set_other (views_seen value b views) i k x no_view ne)
+          get_or-set_other (views_seen value a views) i k _ no_view ne ∙ seen_at value a views k o below there ∙ sym (other_is k o below there ne) ∙ sym (seen_at value b views k o below there)
+          ∙ sym (get_or-set_other (views_seen value b views) i k _ no_view ne)
 
   -- the array and its views are what the act makes of them
   module _ (u : Window) where
@@ -321,9 +320,6 @@ module _ {X : Type 0} (value : X → ℤ) (a : Held) (views : List (private.Held
     owns_is u false b e inside same = sym (block_is_none u (λ own. false≢true (same.1 (subst (Own v) (sym e) own))))
 
   -- what is told of one that has it
-  pub has_number : (u : Window) → view_has (split_session value a views u) i ps ≡ true → i < length views
-  has_number u has = ltb-true i (length views) (and_parts (ltb i (length views)) (is_inside (shape a) ps && owner) (sym (has_is u) ∙ has)).0
-
   pub has_inside : (u : Window) → view_has (split_session value a views u) i ps ≡ true → is_inside (shape a) ps ≡ true
   has_inside u has =
       let more = and_parts (ltb i (length views)) (is_inside (shape a) ps && owner) (sym (has_is u) ∙ has) in

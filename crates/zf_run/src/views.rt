@@ -10,10 +10,13 @@ ghost use Rattle.zf_array.specs.Standing.{shape};
 ghost use Rattle.zf_commands.specs.Kinds.{view_cmd, asked, IsPlain};
 ghost use Rattle.zf_run.specs.Sessions.{setting_of, start_of, kind};
 ghost use Rattle.zf_commands.specs.Steps.{said};
+ghost use Rattle.zf_private.specs.Doing.{SitsOnAt, DoesAct};
+ghost use Rattle.zf_private.specs.Standing.{block_at, place_at};
+ghost use Rattle.zf_run.specs.Changes.{change_cmd, change_act};
 ghost use Rattle.zf_run.specs.Splits.{split_session, AreParts, DoesAlone, ViewsObey};
 
 use zf_array::{Array, Codes};
-use zf_base::{Lane, Pos};
+use zf_base::{Backing, Lane, Pos};
 use zf_commands::{ViewCmd, of_type};
 use zf_private::Private;
 use zf_script::{Refusal, Reply};
@@ -32,8 +35,8 @@ pub(crate) fn on_view<T: Lane, const D: usize>(
 {
     match cmd {
         ViewCmd::Get(p) => view_get(a, views, i, p),
-        ViewCmd::Set(p, v) => view_set(a, views, i, p, v),
-        ViewCmd::Add(p, v) => view_add(a, views, i, p, v),
+        ViewCmd::Set(p, v) => view_change(a, views, i, p, v, false),
+        ViewCmd::Add(p, v) => view_change(a, views, i, p, v, true),
         ViewCmd::Flush => view_flush(a, views, i),
         ViewCmd::Discard => view_discard(a, views, i),
         ViewCmd::Stats => view_stats(a, views, i),
@@ -75,17 +78,19 @@ fn view_get<T: Lane, const D: usize>(
     Some(Reply::Number(value.to_wide()))
 }
 
-// `@V set P v`: makes the value at a position be `v`, by one touch for writing.
-fn view_set<T: Lane, const D: usize>(
+// `@V set P v` or, where it `adds`, `@V add P v`: a value is put at a position, or added to the one there, by
+// one touch for writing; a sum wraps.
+fn view_change<T: Lane, const D: usize>(
     a: &mut Array<T, D>,
     views: &mut [Private<T, D>],
     i: u64,
     p: Pos,
     v: i128,
+    adds: bool,
 ) -> Option<Reply>
     requires parts { AreParts T.value D a.old views.old }
     requires unused { p ≡ with_unused 0 (used_axes (length (shape a.old)) p) }
-    ensures { ViewsObey T.value T.width D (Command.pset i (used_axes (length (shape a.old)) p) v)
+    ensures { ViewsObey T.value T.width D (change_cmd adds i (used_axes (length (shape a.old)) p) v)
         (said result)
         a.old a.new views.old views.new }
 {
@@ -97,34 +102,28 @@ fn view_set<T: Lane, const D: usize>(
     };
     // Known by this call: the type is that of the header.
     let _shape = a.shape();
-    views[i as usize].set(&mut Codes::bind(a), p, v);
+    change(&mut views[i as usize], &mut Codes::bind(a), p, v, adds);
     None
 }
 
-// `@V add P v`: adds `v` to the value at a position, by one touch for writing; the sum wraps.
-fn view_add<T: Lane, const D: usize>(
-    a: &mut Array<T, D>,
-    views: &mut [Private<T, D>],
-    i: u64,
+// Puts a value at a position of a view's own or, where it `adds`, adds it there.
+fn change<T: Lane, const D: usize, B: Backing<T>>(
+    view: &mut Private<T, D>,
+    back: &mut B,
     p: Pos,
-    v: i128,
-) -> Option<Reply>
-    requires parts { AreParts T.value D a.old views.old }
-    requires unused { p ≡ with_unused 0 (used_axes (length (shape a.old)) p) }
-    ensures { ViewsObey T.value T.width D (Command.padd i (used_axes (length (shape a.old)) p) v)
-        (said result)
-        a.old a.new views.old views.new }
+    v: T,
+    adds: bool,
+)
+    requires sits { SitsOnAt B.Reading T.value view.old back.old p }
+    ensures does { DoesAct B.Reading T.value T.width D
+        (change_act adds (block_at view.old p) (place_at view.old p) (T.value v))
+        view.old back.old view.new back.new }
 {
-    if !has_position(a, views, i, p) {
-        return Some(Reply::Refused(Refusal::Range));
+    if adds {
+        view.add(back, p, v);
+    } else {
+        view.set(back, p, v);
     }
-    let Some(v) = of_type(v) else {
-        return Some(Reply::Refused(Refusal::Value));
-    };
-    // Known by this call: the type is that of the header.
-    let _shape = a.shape();
-    views[i as usize].add(&mut Codes::bind(a), p, v);
-    None
 }
 
 // `@V flush`: writes back what is dirty in a view, and empties its cache.

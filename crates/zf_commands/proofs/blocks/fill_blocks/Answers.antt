@@ -25,27 +25,24 @@ fill_block-requires-clause-block g c =
 pub loop-b-preserved : goal.loop-b-preserved
 loop-b-preserved g c =
     let inv = c.loop-b.invariant in
-    let a = c.args.a.now in
-    let r = g.A.Subject.session a in
+    let r = g.A.Subject.session _ in
     let s = g.A.Subject.session c.loop-b.a in
     let t = g.A.Subject.session c.fill_block.new.self in
     let k = c.loop-b.b in
     let x = g.T.Lane.value c.args.v in
     let told = c.fill_block.ensures in
-    let S = g.A.Subject.setting (g.A.Subject.kept a) in
     let below : k < blocks r.shape = omega (arith, c.blocks-b-end.ensures.value, ap blocks c.sizes.ensures, c.loop-b-test.true) in
     let fills = subst (λ h. Fills (g.A.Subject.setting h) k x s t) inv.kept told.does in record {
       kept = told.kept ∙ inv.kept;
-      stays = stays_filled S k x r s t inv.stays fills;
-      filled = inv.filled ∙ fill_next S s t k (blocks r.shape) x below fills;
+      stays = stays_filled _ k x r s t inv.stays fills;
+      filled = inv.filled ∙ fill_next _ s t k (blocks r.shape) x below fills;
       sound = told.sound;
     }
 
 pub returns : goal.returns
 returns g c =
     let inv = c.loop-b.invariant in
-    let a = c.args.a.now in
     let filled = inv.filled
-    ∙ filled_all (g.A.Subject.setting (g.A.Subject.kept a)) (g.A.Subject.session c.loop-b.a) (g.T.Lane.value c.args.v) c.loop-b.b (blocks (g.A.Subject.session a).shape)
+    ∙ filled_all (g.A.Subject.setting (g.A.Subject.kept _)) (g.A.Subject.session c.loop-b.a) (g.T.Lane.value c.args.v) c.loop-b.b (blocks (g.A.Subject.session _).shape)
     (omega (arith, c.blocks-b-end.ensures.value, ap blocks c.sizes.ensures, c.loop-b-test.false)) in
     record { does = record { filled = filled; stays = inv.stays }; sound = inv.sound; kept = inv.kept }

@@ -10,9 +10,8 @@ use Rattle.zf_commands.proofs.blocks.sum_blocks.Goals as goal
 
 pub loop-b-init : goal.loop-b-init
 loop-b-init g c =
-    let a = c.args.a.now in
-    let S = g.A.Subject.setting (g.A.Subject.kept a) in
-    let s = g.A.Subject.session a in
+    let S = g.A.Subject.setting (g.A.Subject.kept _) in
+    let s = g.A.Subject.session _ in
     let n = blocks s.shape in
     let all : n ≡ n - 0 = omega arith in record {
       kept = refl;
@@ -35,20 +34,19 @@ overflow_add-sum g c =
 pub loop-b-preserved : goal.loop-b-preserved
 loop-b-preserved g c =
     let inv = c.loop-b.invariant in
-    let a = c.args.a.now in
-    let r = g.A.Subject.session a in
+    let r = g.A.Subject.session _ in
     let s = g.A.Subject.session c.loop-b.a in
     let t = g.A.Subject.session c.sum_of_block-sum.new.self in
     let k = c.loop-b.b in
     let n = blocks r.shape in
     let x = c.sum_of_block-sum.result in
     let sum = to_z w128 c.loop-b.sum-bits in
-    let S = g.A.Subject.setting (g.A.Subject.kept a) in
+    let S = g.A.Subject.setting (g.A.Subject.kept _) in
     let told = c.sum_of_block-sum.ensures in
     let room : 2 ^ 71 * (k + 1) ≤ 2 ^ 100 = omega (arith, c.blocks-b-end.ensures.bound, c.loop-b-test.true) in
     let is = summed_is c.loop-b.sum-bits x k (2 ^ 71) room (omega arith) inv.small told.bound in
     let below : k < n = omega (arith, c.blocks-b-end.ensures.value, ap blocks c.sizes.ensures, c.loop-b-test.true) in
-    let touches = touched_on g.A.Subject.setting (g.A.Subject.kept c.loop-b.a) (g.A.Subject.kept a) inv.kept k s t told.touched.does in record {
+    let touches = touched_on g.A.Subject.setting (g.A.Subject.kept c.loop-b.a) (g.A.Subject.kept _) inv.kept k s t told.touched.does in record {
       kept = told.touched.kept ∙ inv.kept;
       stays = stays_touched S k r s t inv.stays touches;
       small = subst (IsUpTo (2 ^ 71 * (k + 1))) (sym is) (up_to_more (2 ^ 71) k sum x inv.small told.bound);
@@ -60,9 +58,8 @@ loop-b-preserved g c =
 pub returns : goal.returns
 returns g c =
     let inv = c.loop-b.invariant in
-    let a = c.args.a.now in
-    let S = g.A.Subject.setting (g.A.Subject.kept a) in
-    let n = blocks (g.A.Subject.session a).shape in
+    let S = g.A.Subject.setting (g.A.Subject.kept _) in
+    let n = blocks (g.A.Subject.session _).shape in
     let none : n - c.loop-b.b ≡ 0 = omega (arith, c.blocks-b-end.ensures.value, ap blocks c.sizes.ensures, c.loop-b-test.false) in
     let sum = to_z w128 c.loop-b.sum-bits in
     let t = g.A.Subject.session c.loop-b.a in

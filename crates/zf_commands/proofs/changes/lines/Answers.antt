@@ -16,6 +16,5 @@ returns-in-Ok g c =
 
 pub returns-in-Err : goal.returns-in-Err
 returns-in-Err g c =
-    let cmd = Command.lines c.args.count in
-    subst (Obeys g.A.Subject cmd (Some (Reply.refused Refusal.memory)) c.args.a.now) (sym c.in-Err.ensures.err)
-    (no_memory g.A.Subject c.args.a.now c.requires (g.met.A.Target.whole c.args.a.now) cmd refl (ap not (line_count c.args.count c.if-count-eq0.false c.if-count-gt-MAX_LINES.false)) refl refl refl)
+    subst (Obeys g.A.Subject _ (Some (Reply.refused Refusal.memory)) c.args.a.now) (sym c.in-Err.ensures.err)
+    (no_memory g.A.Subject c.args.a.now c.requires (g.met.A.Target.whole c.args.a.now) _ refl (ap not (line_count c.args.count c.if-count-eq0.false c.if-count-gt-MAX_LINES.false)) refl refl refl)

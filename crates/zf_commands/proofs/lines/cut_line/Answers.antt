@@ -9,7 +9,5 @@ returns-in_err-end-clause-none c =
 
 pub returns-clause-parts : goal.returns-clause-parts
 returns-clause-parts c =
-    let bs = c.args.lines.now in
-    let end = c.in_ok-end.end in
     let first = c.in_ok-end.ensures in
-    rw (take_rest bs (end + 1)) (line_and_rest bs end first.0.high (λ k lt. first.0.before k (omega arith) lt) first.1)
+    rw (take_rest _ (_ + 1)) (line_and_rest _ _ first.0.high (λ k lt. first.0.before k (omega arith) lt) first.1)

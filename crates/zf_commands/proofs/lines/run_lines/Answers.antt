@@ -1,8 +1,6 @@
-use Rattle.std.proofs.Common.{refl, ap, subst, ◌∙◌, ◌+◌, [], arith}
-use Rattle.zf_cached.specs.Runs.{lines_of}
-use Rattle.zf_commands.specs.Lines.{Replies, Breaks}
+use Rattle.std.proofs.Common.{refl, ap, ◌∙◌, ◌+◌, arith}
 use Rattle.zf_commands.proofs.Lining.{unmoved, ready_then}
-use Rattle.zf_commands.proofs.Folding.{none_run, run_on, stop_here, all_run, one_or_none, at_most_one, of_error}
+use Rattle.zf_commands.proofs.Folding.{none_run, run_on, stop_here, all_run, breaks_as, replies_as, one_or_none, at_most_one, of_error}
 use Rattle.zf_commands.proofs.lines.run_lines.Goals as goal
 
 pub loop-line-init : goal.loop-line-init
@@ -17,17 +15,10 @@ returns-in_err-run_line-clause-stays g c = ready_then c.loop-line.invariant.1 c.
 pub returns-in_err-run_line-clause-err : goal.returns-in_err-run_line-clause-err
 returns-in_err-run_line-clause-err g c =
     let inv = c.loop-line.invariant in
-    let S = g.A.Subject.setting in
-    let start = g.A.Subject.session c.args.a.now in
-    let now = g.A.Subject.session c.loop-line.a in
-    let next = g.A.Subject.session c.run_line.new.a in
-    let old = g.O.Sink.contents c.args.out.now in
-    let mid = g.O.Sink.contents c.loop-line.out in
-    let new = g.O.Sink.contents c.run_line.new.out in
-    let breaks = subst (λ k. Breaks (S k) now c.in-Some.line.now next mid new) inv.1.kept c.in_err-run_line.ensures.err in
+    let breaks = breaks_as g.A.Subject.setting inv.1.kept c.in_err-run_line.ensures.err in
     of_error c.from_residual.result
-    (stop_here (S (g.A.Subject.kept c.args.a.now)) (lines_of c.args.script.now) (lines_of c.loop-line.lines.now) c.in-Some.line.now (lines_of c.in-Some.rest.now) start now old mid new c.loop-line.refused inv.0
-    c.in-Some.ensures.parts next breaks c.args.script.now refl)
+    (stop_here _ _ _ _ _ _ _ _ _ _ _ inv.0
+    c.in-Some.ensures.parts _ breaks c.args.script.now refl)
 
 pub overflow_add-refused : goal.overflow_add-refused
 overflow_add-refused g c = record { fits = omega (arith, c.from.ensures, at_most_one c.in_ok-run_line.field-0, c.in-Some.ensures.shorter, c.loop-line.invariant.2) }
@@ -38,18 +29,11 @@ loop-line-smaller g c = c.in-Some.ensures.shorter
 pub loop-line-preserved : goal.loop-line-preserved
 loop-line-preserved g c =
     let inv = c.loop-line.invariant in
-    let S = g.A.Subject.setting in
-    let start = g.A.Subject.session c.args.a.now in
-    let now = g.A.Subject.session c.loop-line.a in
-    let next = g.A.Subject.session c.run_line.new.a in
-    let old = g.O.Sink.contents c.args.out.now in
-    let mid = g.O.Sink.contents c.loop-line.out in
-    let new = g.O.Sink.contents c.run_line.new.out in
     let told = c.in_ok-run_line.ensures in
     let t = c.in_ok-run_line.field-0 in
-    let replies = subst (λ k. Replies (S k) now c.in-Some.line.now next mid new t) inv.1.kept told.ok in (
-      run_on (S (g.A.Subject.kept c.args.a.now)) (lines_of c.args.script.now) (lines_of c.loop-line.lines.now) c.in-Some.line.now (lines_of c.in-Some.rest.now) start now old mid new c.loop-line.refused inv.0
-          c.in-Some.ensures.parts next t replies (c.loop-line.refused + c.from.result) (ap (λ n. c.loop-line.refused + n) (c.from.ensures ∙ one_or_none t)),
+    let replies = replies_as g.A.Subject.setting inv.1.kept told.ok in (
+      run_on _ _ _ _ _ _ _ _ _ _ _ inv.0
+          c.in-Some.ensures.parts _ t replies (c.loop-line.refused + c.from.result) (ap (λ n. c.loop-line.refused + n) (c.from.ensures ∙ one_or_none t)),
       ready_then inv.1 told.stays,
       omega (arith, c.from.ensures, at_most_one t, c.in-Some.ensures.shorter, inv.2),
       told.unchanged ∙ inv.3,
@@ -64,17 +48,10 @@ returns-in_err-run_line-2-clause-stays g c = ready_then c.loop-line.invariant.1 
 pub returns-in_err-run_line-2-clause-err : goal.returns-in_err-run_line-2-clause-err
 returns-in_err-run_line-2-clause-err g c =
     let inv = c.loop-line.invariant in
-    let S = g.A.Subject.setting in
-    let start = g.A.Subject.session c.args.a.now in
-    let now = g.A.Subject.session c.loop-line.a in
-    let next = g.A.Subject.session c.run_line-2.new.a in
-    let old = g.O.Sink.contents c.args.out.now in
-    let mid = g.O.Sink.contents c.loop-line.out in
-    let new = g.O.Sink.contents c.run_line-2.new.out in
-    let breaks = subst (λ k. Breaks (S k) now c.loop-line.lines.now next mid new) inv.1.kept c.in_err-run_line-2.ensures.err in
+    let breaks = breaks_as g.A.Subject.setting inv.1.kept c.in_err-run_line-2.ensures.err in
     of_error c.from_residual-in_err-run_line-2.result
-    (stop_here (S (g.A.Subject.kept c.args.a.now)) (lines_of c.args.script.now) (lines_of c.loop-line.lines.now) c.loop-line.lines.now [] start now old mid new c.loop-line.refused inv.0
-    c.in_default.ensures.none next breaks c.args.script.now refl)
+    (stop_here _ _ _ _ _ _ _ _ _ _ _ inv.0
+    c.in_default.ensures.none _ breaks c.args.script.now refl)
 
 pub overflow_add-refused-2 : goal.overflow_add-refused-2
 overflow_add-refused-2 g c = record { fits = omega (arith, c.from-2.ensures, at_most_one c.in_ok-run_line-2.field-0, c.loop-line.invariant.2) }
@@ -82,20 +59,12 @@ overflow_add-refused-2 g c = record { fits = omega (arith, c.from-2.ensures, at_
 pub returns-clause-ok : goal.returns-clause-ok
 returns-clause-ok g c =
     let inv = c.loop-line.invariant in
-    let S = g.A.Subject.setting in
-    let start = g.A.Subject.session c.args.a.now in
-    let now = g.A.Subject.session c.loop-line.a in
-    let next = g.A.Subject.session c.run_line-2.new.a in
-    let old = g.O.Sink.contents c.args.out.now in
-    let mid = g.O.Sink.contents c.loop-line.out in
-    let new = g.O.Sink.contents c.run_line-2.new.out in
     let told = c.in_ok-run_line-2.ensures in
     let t = c.in_ok-run_line-2.field-0 in
-    let replies = subst (λ k. Replies (S k) now c.loop-line.lines.now next mid new t) inv.1.kept told.ok in
-    let more = c.loop-line.refused + c.from-2.result in
-    all_run (S (g.A.Subject.kept c.args.a.now)) c.args.script.now (lines_of c.args.script.now) start next old new more refl
-    (run_on (S (g.A.Subject.kept c.args.a.now)) (lines_of c.args.script.now) (lines_of c.loop-line.lines.now) c.loop-line.lines.now [] start now old mid new c.loop-line.refused inv.0
-    c.in_default.ensures.none next t replies more (ap (λ n. c.loop-line.refused + n) (c.from-2.ensures ∙ one_or_none t)))
+    let replies = replies_as g.A.Subject.setting inv.1.kept told.ok in
+    all_run _ c.args.script.now _ _ _ _ _ _ refl
+    (run_on _ _ _ _ _ _ _ _ _ _ _ inv.0
+    c.in_default.ensures.none _ t replies _ (ap (λ n. c.loop-line.refused + n) (c.from-2.ensures ∙ one_or_none t)))
 
 pub returns-clause-stays : goal.returns-clause-stays
 returns-clause-stays g c = ready_then c.loop-line.invariant.1 c.in_ok-run_line-2.ensures.stays

@@ -18,22 +18,19 @@ value_at-requires g c =
 pub returns-clause-touched : goal.returns-clause-touched
 returns-clause-touched g c =
     let told = c.value_at.ensures.touched in
-    let a = c.args.a.now in
     let block = c.place-b.ensures.block ∙ ap (λ ns. block_number ns (used_axes (length ns) c.args.p)) c.sizes.ensures in record {
-      does = ap (touched (g.A.Subject.setting (g.A.Subject.kept a)) (g.A.Subject.session a)) (sym block) ∙ told.does;
+      does = ap (touched (g.A.Subject.setting (g.A.Subject.kept _)) (g.A.Subject.session _)) (sym block) ∙ told.does;
       sound = told.sound;
       kept = told.kept;
     }
 
 pub returns-clause-value : goal.returns-clause-value
 returns-clause-value g c =
-    let x = c.value_at.result in
     let values = (g.A.Subject.session c.value_at.new.self).state.values in
     let block = c.place-b.ensures.block ∙ ap (λ ns. block_number ns (used_axes (length ns) c.args.p)) c.sizes.ensures in
     let place = c.place-b.ensures.place ∙ ap (λ ns. place_of (used_axes (length ns) c.args.p)) c.sizes.ensures in
-    small_is x (up_to_less (2 ^ 63) (2 ^ 100) x (omega arith) c.value_at.ensures.bound) ∙ c.value_at.ensures.value ∙ (λ i. get_or (values (block i)) (place i) (pos 0))
+    small_is _ (up_to_less (2 ^ 63) (2 ^ 100) _ (omega arith) c.value_at.ensures.bound) ∙ c.value_at.ensures.value ∙ (λ i. get_or (values (block i)) (place i) (pos 0))
 
 pub returns-clause-bound : goal.returns-clause-bound
 returns-clause-bound g c =
-    let x = c.value_at.result in
-    subst (IsUpTo (2 ^ 63)) (sym (small_is x (up_to_less (2 ^ 63) (2 ^ 100) x (omega arith) c.value_at.ensures.bound))) c.value_at.ensures.bound
+    subst (IsUpTo (2 ^ 63)) (sym (small_is _ (up_to_less (2 ^ 63) (2 ^ 100) _ (omega arith) c.value_at.ensures.bound))) c.value_at.ensures.bound

@@ -13,18 +13,16 @@ returns-then-count-dims-clause-none g c =
 
 pub returns-then-rate_bytes-gt-MAX_FILE-clause-none : goal.returns-then-rate_bytes-gt-MAX_FILE-clause-none
 returns-then-rate_bytes-gt-MAX_FILE-clause-none g c =
-    let ns = used_axes c.args.count c.args.sizes in
-    no_room (setting_of g.T.Lane.width c.args.a.now) (start_of c.args.a.now) ns
-    (has_no_room g.T.Lane.width c.args.a.now c.TY.result c.in-Ok.shape ns c.bits.result c.in-Ok.ensures.sizes (g.met.T.Lane.width_of_type ∙ ap width_of (sym c.TY.ensures)) c.bits.ensures.value
+    no_room (setting_of g.T.Lane.width c.args.a.now) (start_of c.args.a.now) _
+    (has_no_room g.T.Lane.width c.args.a.now c.TY.result c.in-Ok.shape _ c.bits.result c.in-Ok.ensures.sizes (g.met.T.Lane.width_of_type ∙ ap width_of (sym c.TY.ensures)) c.bits.ensures.value
     (omega (arith, c.rate_bytes.ensures, c.if-rate_bytes-gt-MAX_FILE.true)))
 
 pub returns-clause-some : goal.returns-clause-some
 returns-clause-some g c =
-    let ns = used_axes c.args.count c.args.sizes in
-    is_new (setting_of g.T.Lane.width c.args.a.now) (start_of c.args.a.now) ns
+    is_new (setting_of g.T.Lane.width c.args.a.now) (start_of c.args.a.now) _
     (c.requires ∙ c.if-count-dims.false ∙ c.dims.ensures.value ∙ ap length c.shape.ensures.value)
     (sym c.in-Ok.ensures.fault)
-    (has_room_is g.T.Lane.width c.args.a.now c.TY.result c.in-Ok.shape ns c.bits.result c.in-Ok.ensures.sizes (g.met.T.Lane.width_of_type ∙ ap width_of (sym c.TY.ensures)) c.bits.ensures.value
+    (has_room_is g.T.Lane.width c.args.a.now c.TY.result c.in-Ok.shape _ c.bits.result c.in-Ok.ensures.sizes (g.met.T.Lane.width_of_type ∙ ap width_of (sym c.TY.ensures)) c.bits.ensures.value
     (omega (arith, c.rate_bytes.ensures, c.if-rate_bytes-gt-MAX_FILE.false)))
 
 pub returns-clause-rate : goal.returns-clause-rate

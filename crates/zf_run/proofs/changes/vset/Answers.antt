@@ -35,6 +35,5 @@ set-requires g c =
 
 pub returns-clause-does : goal.returns-clause-does
 returns-clause-does g c =
-    let now = c.args.a.now in
-    put_there g.T.Lane.width now g.row.D c.requires.array c.args.window.now c.requires.inside c.set.new.self c.set.ensures.header c.args.p (c.contains.ensures.0 c.if-not-contains.false) c.map.result c.args.v _ c.map.ensures (c.in-Some.ensures.value ∙ to_z-of_z w128 c.args.v c.ranges.v)
+    put_there g.T.Lane.width _ g.row.D c.requires.array c.args.window.now c.requires.inside c.set.new.self c.set.ensures.header c.args.p (c.contains.ensures.0 c.if-not-contains.false) c.map.result c.args.v _ c.map.ensures (c.in-Some.ensures.value ∙ to_z-of_z w128 c.args.v c.ranges.v)
     (subst (λ x. is_of_type g.T.Lane.width x ≡ true) (to_z-of_z w128 c.args.v c.ranges.v) c.in-Some.ensures.some) c.set.ensures.state

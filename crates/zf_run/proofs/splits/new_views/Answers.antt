@@ -6,12 +6,11 @@ use Rattle.zf_run.proofs.splits.new_views.Goals as goal
 
 pub loop-i-preserved : goal.loop-i-preserved
 loop-i-preserved g c =
-    let ns = c.args.shape in
     let n = c.args.count in
     let i = c.loop-i.i in
     let made = c.in_ok-new.ensures in
-    subst (AreNewParts g.row.D ns n c.args.lines (i + 1)) (sym c.in_ok-push.ensures.items)
-    (one_made g.row.D ns n c.args.lines i c.loop-i.views.items c.in_ok-new.field-0 c.loop-i.invariant (record {
+    subst (AreNewParts g.row.D _ n c.args.lines (i + 1)) (sym c.in_ok-push.ensures.items)
+    (one_made g.row.D _ n c.args.lines i c.loop-i.views.items c.in_ok-new.field-0 c.loop-i.invariant (record {
       empty = made.empty;
       room = made.room;
       counts = made.counts;

@@ -10,22 +10,17 @@ bind-requires g c = (lit≤ tt, (lit≤ tt, coded_empty c.args.a.now c.requires.
 
 pub flush-requires : goal.flush-requires
 flush-requires g c =
-    let views = c.args.views.now in
     let i = c.args.i in
-    let ready = lent_ready g.T.Lane.value g.row.D c.args.a.now views i (get_or views i c.index-views-i.result) c.requires.parts c.requires.view (ap (get_or views i) c.index-views-i.is) c.bind.result.array c.bind.ensures.array in
+    let ready = lent_ready g.T.Lane.value g.row.D c.args.a.now _ i (get_or _ i c.index-views-i.result) c.requires.parts c.requires.view (ap (get_or _ i) c.index-views-i.is) c.bind.result.array c.bind.ensures.array in
     (lit< tt, record { fits = ready.fits; blocks = ready.over })
 
 pub returns : goal.returns
 returns g c =
-    let a = c.args.a.now in
-    let views = c.args.views.now in
-    let value = g.T.Lane.value in
-    let x = get_or views c.args.i c.index-views-i.result in
-    let at = ap (get_or views c.args.i) c.index-views-i.is in
+    let at = ap (get_or _ c.args.i) c.index-views-i.is in
     let lt = c.requires.view in
     let back = c.flush.new.back in
     let name = ap (λ (f : Frame). f.name) c.flush.ensures.does.step.kept ∙ c.bind.ensures.same_array in
-    let taken = lent value g.row.D a views c.args.i x c.requires.parts lt at
+    let taken = lent _ g.row.D _ _ c.args.i _ c.requires.parts lt at
     g.T.Lane.width c.a-1.given.0 c.flush.new.self (Act.flush) c.shape-shape.ensures.same_type c.bind.result.array back.array c.bind.ensures.array (search rules)
     (record {
       is_coded = back.is_coded;

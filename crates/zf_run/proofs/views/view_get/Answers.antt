@@ -32,31 +32,26 @@ bind-requires g c = (lit≤ tt, (lit≤ tt, coded_empty c.args.a.now c.requires.
 
 pub get-value-requires : goal.get-value-requires
 get-value-requires g c =
-    let a = c.args.a.now in
-    let views = c.args.views.now in
-    let value = g.T.Lane.value in
-    let x = get_or views c.args.i c.index-views-i.result in
-    let at = ap (get_or views c.args.i) c.index-views-i.is in
+    let at = ap (get_or _ c.args.i) c.index-views-i.is in
     let lt = c.has_position.ensures.number c.if-not-has_position.false in
-    let there = at_view value g.row.D a views c.args.i x c.requires.parts lt at c.args.p c.requires.unused (λ u. sym (c.has_position.ensures.has u) ∙ c.if-not-has_position.false) in
-    let ready = lent_ready value g.row.D a views c.args.i x c.requires.parts lt at c.bind.result.array c.bind.ensures.array in
+    let there = at_view _ g.row.D _ _ c.args.i _ c.requires.parts lt at c.args.p c.requires.unused (λ u. sym (c.has_position.ensures.has u) ∙ c.if-not-has_position.false) in
+    let ready = lent_ready _ g.row.D _ _ c.args.i _ c.requires.parts lt at c.bind.result.array c.bind.ensures.array in
     (lit< tt, record { fits = ready.fits; blocks = ready.over; places = ready.places; position = there.position; owned = there.own })
 
 pub returns : goal.returns
 unfolding done answered array_setting
 returns g c =
     let a = c.args.a.now in
-    let views = c.args.views.now in
     let value = g.T.Lane.value in
-    let x = get_or views c.args.i c.index-views-i.result in
-    let at = ap (get_or views c.args.i) c.index-views-i.is in
+    let x = get_or _ c.args.i c.index-views-i.result in
+    let at = ap (get_or _ c.args.i) c.index-views-i.is in
     let lt = c.has_position.ensures.number c.if-not-has_position.false in
-    let there = at_view value g.row.D a views c.args.i x c.requires.parts lt at c.args.p c.requires.unused (λ u. sym (c.has_position.ensures.has u) ∙ c.if-not-has_position.false) in
+    let there = at_view value g.row.D a _ c.args.i x c.requires.parts lt at c.args.p c.requires.unused (λ u. sym (c.has_position.ensures.has u) ∙ c.if-not-has_position.false) in
     let ps = used_axes (length (shape a)) c.args.p in
     let told = wide g.T.Lane.width g.met.T.Lane.two_widths c.to_wide.result (value c.get-value.result) c.to_wide.ensures.value (g.met.T.Lane.in_range_fits (value c.get-value.result)) c.to_wide.ensures.operand in
     let back = c.get-value.new.back in
     let name = ap (λ (f : Frame). f.name) c.get-value.ensures.does.step.kept ∙ c.bind.ensures.same_array in
-    let taken = lent value g.row.D a views c.args.i x c.requires.parts lt at
+    let taken = lent value g.row.D a _ c.args.i x c.requires.parts lt at
     g.T.Lane.width c.a-1.given.0 c.get-value.new.self (Act.get (private.block_at x c.args.p) (private.place_at x c.args.p)) c.shape-shape.ensures.same_type c.bind.result.array back.array c.bind.ensures.array (search rules)
     (record {
       is_coded = back.is_coded;
@@ -68,7 +63,7 @@ returns g c =
       fits = c.get-value.ensures.does.step.fits;
     }) there.own in record {
       does = λ v lies. taken.takes v (Command.pget c.args.i ps) (Some (Reply.number _)) lies refl refl (ap not (there.has v)) refl (ap (option_map Reply.number) (sym c.get-value.ensures.value) ∙ ap (λ z. Some (Reply.number z)) (sym told)) refl
-          (ap (by_view (setting_of g.T.Lane.width a) (split_session value a views v) c.args.i) (sym (act_there value g.row.D a views c.args.i x c.requires.parts lt at c.args.p (λ b q. Act.get b q))));
+          (ap (by_view (setting_of g.T.Lane.width a) (split_session value a _ v) c.args.i) (sym (act_there value g.row.D a _ c.args.i x c.requires.parts lt at c.args.p (λ b q. Act.get b q))));
       parts = taken.parts;
       kept = taken.kind_is;
     }

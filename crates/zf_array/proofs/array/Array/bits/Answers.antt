@@ -1,5 +1,4 @@
 use Rattle.std.proofs.Common.{sym, ap, ◌∙◌}
-use Rattle.std.specs.Vec.{vec_len}
 use Rattle.zf_header.specs.declared.header.Header.{Header}
 use Rattle.zf_header.specs.HeaderBits.{block_bits}
 use Rattle.zf_array.proofs.Standing.{header_now}
@@ -7,10 +6,8 @@ use Rattle.zf_array.proofs.array.Array.bits.Goals as goal
 
 pub returns-clause-value : goal.returns-clause-value
 returns-clause-value g c =
-    let s = c.self.inside in
-    ap block_bits (sym c.in-Rate.is ∙ ap (λ (h : Header). h.mode) (c.header.ensures.value ∙ sym (header_now g.T.Lane.value g.T.Lane.width g.row.D s.store s.cache (vec_len s.buffer) c.self.invariant c.args.self.now c.self.view_is)))
+    ap block_bits (sym c.in-Rate.is ∙ ap (λ (h : Header). h.mode) (c.header.ensures.value ∙ sym (header_now _ _ _ _ _ _ c.self.invariant c.args.self.now c.self.view_is)))
 
 pub returns-clause-mode : goal.returns-clause-mode
 returns-clause-mode g c =
-    let s = c.self.inside in
-    ap (λ (h : Header). h.mode) (header_now g.T.Lane.value g.T.Lane.width g.row.D s.store s.cache (vec_len s.buffer) c.self.invariant c.args.self.now c.self.view_is ∙ sym c.header.ensures.value) ∙ c.in-Rate.is
+    ap (λ (h : Header). h.mode) (header_now _ _ _ _ _ _ c.self.invariant c.args.self.now c.self.view_is ∙ sym c.header.ensures.value) ∙ c.in-Rate.is

@@ -1,24 +1,19 @@
-use Rattle.std.proofs.Common.{◌≡◌, refl, sym, ap, ◌∙◌, ◌≤◌, ◌^◌, Bool, List, length, arith}
-use Rattle.std.specs.Vec.{vec_len}
-use Rattle.zf_base.specs.Formats.{Format}
+use Rattle.std.proofs.Common.{◌≡◌, refl, sym, ap, ◌∙◌, ◌≤◌, ◌^◌, Bool, List, length, arith, map, ℤ}
+use Rattle.zf_base.specs.Formats.{Format, existing_of}
 use Rattle.zf_cached.specs.State.{State}
 use Rattle.zf_cached.specs.Touch.{touch_for_writing, with_values}
 use Rattle.zf_header.specs.declared.header.Header.{Header}
 use Rattle.zf_store.specs.Stored.{format_of}
-use Rattle.std.proofs.Common.{map, ℤ}
-use Rattle.zf_base.specs.Formats.{existing_of}
 use Rattle.zf_base.proofs.Formats.{length-existing_of}
 use Rattle.zf_lines.specs.Rows.{over}
 use Rattle.zf_array.specs.Loans.{spliced}
-use Rattle.zf_array.proofs.Standing.{format_now}
+use Rattle.zf_array.proofs.Standing.{format_now, has_blocks}
 use Rattle.zf_array.proofs.Lent.{spliced_all, header_block}
 use Rattle.zf_array.specs.Standing.{format, state, array_of}
-use Rattle.zf_array.proofs.Standing.{has_blocks}
 use Rattle.zf_array.proofs.array.Array.block_mut.Goals as goal
 
 pub returns : goal.returns
 returns g c =
-    let s = c.self.inside in
     let b = c.args.b in
     let now = c.args.self.now in
     let a = c.touch_mut.new.self in
@@ -34,7 +29,7 @@ returns g c =
     (λ i. existing_of (sym same i) b (spliced ((sym is i).values b) 0 n (map value r))) ∙ c.part_mut.ensures.value ∙ ap (λ (t : State (List Bool)). t.values b) is in
     let dims : c.dims.result ≡ g.row.D = c.dims.ensures.value ∙ ap (λ (h : Header). length h.shape) c.header.ensures.value ∙ c.self.invariant.dims in
     let places : n ≡ 4 ^ g.row.D = c.block_len-len.ensures.value ∙ ap (λ k. 4 ^ k) dims in
-    let room : f.block_len ≡ 4 ^ g.row.D = ap (λ (q : Format (List Bool)). q.block_len) (format_now g.T.Lane.value g.T.Lane.width g.row.D s.store s.cache (vec_len s.buffer) c.self.invariant c.args.self.now c.self.view_is) ∙ (has_blocks g.T.Lane.value g.T.Lane.width g.row.D s.store s.cache (vec_len s.buffer) c.self.invariant).0 in
+    let room : f.block_len ≡ 4 ^ g.row.D = ap (λ (q : Format (List Bool)). q.block_len) (format_now _ _ _ _ _ _ c.self.invariant c.args.self.now c.self.view_is) ∙ (has_blocks _ _ _ _ _ _ c.self.invariant).0 in
     let long : length (u.values b) ≤ n = omega (arith, sym (ap length shows) ∙ length-existing_of f b (spliced (u.values b) 0 n (map value r)), places, room) in
     let End = λ (vs : List ℤ). array_of now.header (with_values u b (existing_of f b vs)) in
     let ends = λ (vs : List ℤ). (λ i. array_of (head i) (with_values (is i) b (existing_of (same i) b (spliced ((is i).values b) 0 n vs)))) ∙ ap End (spliced_all (u.values b) vs n long) in (

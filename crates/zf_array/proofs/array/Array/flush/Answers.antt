@@ -1,5 +1,4 @@
 use Rattle.std.proofs.Common.{ap, Bool, List, lit<}
-use Rattle.std.specs.Vec.{vec_len}
 use Rattle.zf_cached.specs.State.{State}
 use Rattle.zf_cached.specs.Changes.{flush, emptied}
 use Rattle.zf_array.proofs.Standing.{has_blocks, joined_after}
@@ -8,18 +7,15 @@ use Rattle.zf_array.proofs.array.Array.flush.Goals as goal
 
 pub flush-requires : goal.flush-requires
 flush-requires g c =
-    let s = c.self.inside in
-    (lit< tt, record { fits = c.self.invariant.fits; blocks = has_blocks g.T.Lane.value g.T.Lane.width g.row.D s.store s.cache (vec_len s.buffer) c.self.invariant })
+    (lit< tt, record { fits = c.self.invariant.fits; blocks = has_blocks _ _ _ _ _ _ c.self.invariant })
 
 pub invariant_of-self : goal.invariant_of-self
 invariant_of-self g c =
-    let s = c.self.inside in
-    joined_after g.T.Lane.value g.T.Lane.width g.row.D s.store s.cache (vec_len s.buffer) c.self.invariant c.flush.new.back c.flush.new.self c.flush.ensures.step.kept c.flush.ensures.step.fits
+    joined_after _ _ _ _ _ _ c.self.invariant c.flush.new.back c.flush.new.self c.flush.ensures.step.kept c.flush.ensures.step.fits
 
 pub returns-clause-state : goal.returns-clause-state
 returns-clause-state g c =
-    let s = c.self.inside in
-    step g.T.Lane.value g.T.Lane.width g.row.D s.store s.cache (vec_len s.buffer) c.self.invariant c.args.self.now c.self.view_is c.flush.new.back c.flush.new.self c.flush.ensures.step.kept c.flush.ensures.step.fits (λ f u. flush f u) c.flush.ensures.step.state
+    step _ _ _ _ _ _ c.self.invariant c.args.self.now c.self.view_is c.flush.new.back c.flush.new.self c.flush.ensures.step.kept c.flush.ensures.step.fits (λ f u. flush f u) c.flush.ensures.step.state
 
 pub returns-clause-empty : goal.returns-clause-empty
 unfolding flush emptied
@@ -27,5 +23,4 @@ returns-clause-empty g c = λ l. ap (λ (s : State (List Bool)). s.held l) (retu
 
 pub returns-clause-header : goal.returns-clause-header
 returns-clause-header g c =
-    let s = c.self.inside in
-    header_step g.T.Lane.value g.T.Lane.width g.row.D s.store s.cache (vec_len s.buffer) c.self.invariant c.args.self.now c.self.view_is c.flush.new.back c.flush.new.self c.flush.ensures.step.kept c.flush.ensures.step.fits
+    header_step _ _ _ _ _ _ c.self.invariant c.args.self.now c.self.view_is c.flush.new.back c.flush.new.self c.flush.ensures.step.kept c.flush.ensures.step.fits

@@ -1,9 +1,8 @@
 use Rattle.std.proofs.Common.{◌≡◌, sym, ap, subst, ◌∙◌, ℕ, List, length}
 use Rattle.std.specs.Vec.{vec_len}
-use Rattle.zf_spec.specs.Grid.{blocks}
+use Rattle.zf_spec.specs.Grid.{blocks, IsShape}
 use Rattle.zf_header.specs.declared.header.Header.{Header}
 use Rattle.zf_store.specs.Stored.{Stored, code_at, format_of}
-use Rattle.zf_spec.specs.Grid.{IsShape}
 use Rattle.zf_base.specs.Widths.{width_of}
 use Rattle.zf_header.specs.HeaderBits.{IsRate, rate_bytes_of}
 use Rattle.zf_cached.specs.Changes.{opened, raised}

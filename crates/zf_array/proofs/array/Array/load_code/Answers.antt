@@ -6,8 +6,7 @@ use Rattle.zf_array.proofs.array.Array.load_code.Goals as goal
 
 pub load-requires : goal.load-requires
 load-requires g c =
-    let s = c.self.inside in
-    (lit< tt, (block_there g.T.Lane.value g.T.Lane.width g.row.D s.store s.cache (vec_len s.buffer) c.self.invariant c.args.self.now c.self.view_is c.args.b c.requires.block, line_there g.T.Lane.value g.T.Lane.width g.row.D s.store s.cache (vec_len s.buffer) c.self.invariant c.args.self.now c.self.view_is _ c.requires.whole))
+    (lit< tt, (block_there _ _ _ _ _ _ c.self.invariant c.args.self.now c.self.view_is c.args.b c.requires.block, line_there _ _ _ _ _ _ c.self.invariant c.args.self.now c.self.view_is _ c.requires.whole))
 
 pub invariant_of-self : goal.invariant_of-self
 invariant_of-self g c =
@@ -17,10 +16,8 @@ invariant_of-self g c =
 
 pub returns-clause-value : goal.returns-clause-value
 returns-clause-value g c =
-    let s = c.self.inside in
-    loaded g.T.Lane.value g.T.Lane.width g.row.D s.store s.cache (vec_len s.buffer) c.self.invariant c.args.self.now c.self.view_is c.args.b (map g.T.Lane.value c.load.new.line) c.load.ensures.value
+    loaded _ _ _ _ _ _ c.self.invariant c.args.self.now c.self.view_is c.args.b (map g.T.Lane.value c.load.new.line) c.load.ensures.value
 
 pub returns-clause-same : goal.returns-clause-same
 returns-clause-same g c =
-    let s = c.self.inside in
-    held_loaded g.T.Lane.value g.T.Lane.width g.row.D s.store s.cache (vec_len s.buffer) c.self.invariant c.args.self.now c.self.view_is c.load.new.self c.load.ensures.kept c.load.ensures.format c.load.ensures.codes
+    held_loaded _ _ _ _ _ _ c.self.invariant c.args.self.now c.self.view_is c.load.new.self c.load.ensures.kept c.load.ensures.format c.load.ensures.codes

@@ -3,17 +3,14 @@ use Rattle.zf_spec.specs.Grid.{blocks}
 use Rattle.std.specs.Vec.{vec_len}
 use Rattle.zf_cache.specs.Standing.{state_of}
 use Rattle.zf_header.specs.declared.header.Header.{Header}
-use Rattle.zf_store.specs.Stored.{Stored, code_at, format_of}
+use Rattle.zf_store.specs.Stored.{Stored, code_at, format_of, zeros}
 use Rattle.zf_header.specs.HeaderBits.{block_bits, rate_bytes_of}
 use Rattle.zf_cached.specs.Changes.{resized}
 use Rattle.zf_cache.proofs.Steps.{empty_fits}
-use Rattle.zf_store.specs.Stored.{zeros}
 use Rattle.zf_array.specs.Parts.{held_by}
-use Rattle.zf_array.proofs.Standing.{stored_held}
-use Rattle.zf_array.proofs.Steps.{same_ty}
+use Rattle.zf_array.proofs.Standing.{stored_held, state_now, header_now}
+use Rattle.zf_array.proofs.Steps.{same_ty, resizes, room_of}
 use Rattle.zf_array.specs.Standing.{format}
-use Rattle.zf_array.proofs.Standing.{state_now, header_now}
-use Rattle.zf_array.proofs.Steps.{resizes, room_of}
 use Rattle.zf_array.proofs.array.Array.resize.Goals as goal
 
 pub invariant_of-self : goal.invariant_of-self

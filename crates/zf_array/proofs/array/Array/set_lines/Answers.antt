@@ -1,5 +1,4 @@
 use Rattle.std.proofs.Common.{ap, ◌∙◌, Bool, List, lit<}
-use Rattle.std.specs.Vec.{vec_len}
 use Rattle.zf_base.specs.Formats.{Format}
 use Rattle.zf_cached.specs.State.{State}
 use Rattle.zf_cached.specs.Changes.{relined}
@@ -11,22 +10,18 @@ use Rattle.zf_array.proofs.array.Array.set_lines.Goals as goal
 
 pub relined-requires : goal.relined-requires
 relined-requires g c =
-    let s = c.self.inside in
-    (lit< tt, (record { fits = c.self.invariant.fits; blocks = has_blocks g.T.Lane.value g.T.Lane.width g.row.D s.store s.cache (vec_len s.buffer) c.self.invariant }, c.raised.ensures.count))
+    (lit< tt, (record { fits = c.self.invariant.fits; blocks = has_blocks _ _ _ _ _ _ c.self.invariant }, c.raised.ensures.count))
 
 pub invariant_of-self : goal.invariant_of-self
 invariant_of-self g c =
-    let s = c.self.inside in
-    joined_after g.T.Lane.value g.T.Lane.width g.row.D s.store s.cache (vec_len s.buffer) c.self.invariant c.relined.new.back c.relined.new.self c.relined.ensures.keeps.kept c.relined.ensures.fits
+    joined_after _ _ _ _ _ _ c.self.invariant c.relined.new.back c.relined.new.self c.relined.ensures.keeps.kept c.relined.ensures.fits
 
 pub returns-clause-ok : goal.returns-clause-ok
 returns-clause-ok g c =
-    let s = c.self.inside in
     let F = λ (f : Format (List Bool)) (u : State (List Bool)). relined f u c.raised.result in
-    on_ok_weaker c.relined.result (λ is. step g.T.Lane.value g.T.Lane.width g.row.D s.store s.cache (vec_len s.buffer) c.self.invariant c.args.self.now c.self.view_is c.relined.new.back c.relined.new.self c.relined.ensures.keeps.kept c.relined.ensures.fits F is
+    on_ok_weaker c.relined.result (λ is. step _ _ _ _ _ _ c.self.invariant c.args.self.now c.self.view_is c.relined.new.back c.relined.new.self c.relined.ensures.keeps.kept c.relined.ensures.fits F is
     ∙ ap (relined (format c.args.self.now) (state c.args.self.now)) c.raised.ensures.value) c.relined.ensures.ok
 
 pub returns-clause-header : goal.returns-clause-header
 returns-clause-header g c =
-    let s = c.self.inside in
-    header_step g.T.Lane.value g.T.Lane.width g.row.D s.store s.cache (vec_len s.buffer) c.self.invariant c.args.self.now c.self.view_is c.relined.new.back c.relined.new.self c.relined.ensures.keeps.kept c.relined.ensures.fits
+    header_step _ _ _ _ _ _ c.self.invariant c.args.self.now c.self.view_is c.relined.new.back c.relined.new.self c.relined.ensures.keeps.kept c.relined.ensures.fits

@@ -1,5 +1,4 @@
 use Rattle.std.proofs.Common.{sym, ap, ◌∙◌, Bool, List}
-use Rattle.std.specs.Vec.{vec_len}
 use Rattle.zf_cached.specs.State.{State}
 use Rattle.zf_cache.specs.Standing.{state_of, state_at}
 use Rattle.zf_array.specs.Standing.{state}
@@ -9,5 +8,4 @@ use Rattle.zf_array.proofs.array.Array.stats.Goals as goal
 pub returns : goal.returns
 unfolding state_at state
 returns g c =
-    let s = c.self.inside in
-    c.stats.ensures ∙ ap (λ (u : State (List Bool)). u.counts) (sym (state_now g.T.Lane.value g.T.Lane.width g.row.D s.store s.cache (vec_len s.buffer) c.self.invariant c.args.self.now c.self.view_is))
+    c.stats.ensures ∙ ap (λ (u : State (List Bool)). u.counts) (sym (state_now _ _ _ _ _ _ c.self.invariant c.args.self.now c.self.view_is))

@@ -7,8 +7,7 @@ use Rattle.zf_array.proofs.array.Array.store_code.Goals as goal
 
 pub store-requires : goal.store-requires
 store-requires g c =
-    let s = c.self.inside in
-    (lit< tt, (block_there g.T.Lane.value g.T.Lane.width g.row.D s.store s.cache (vec_len s.buffer) c.self.invariant c.args.self.now c.self.view_is c.args.b c.requires.block, line_there g.T.Lane.value g.T.Lane.width g.row.D s.store s.cache (vec_len s.buffer) c.self.invariant c.args.self.now c.self.view_is _ c.requires.whole))
+    (lit< tt, (block_there _ _ _ _ _ _ c.self.invariant c.args.self.now c.self.view_is c.args.b c.requires.block, line_there _ _ _ _ _ _ c.self.invariant c.args.self.now c.self.view_is _ c.requires.whole))
 
 pub invariant_of-self : goal.invariant_of-self
 invariant_of-self g c =
@@ -19,8 +18,7 @@ invariant_of-self g c =
 
 pub returns-clause-state : goal.returns-clause-state
 returns-clause-state g c =
-    let s = c.self.inside in
-    stored_coded g.T.Lane.value g.T.Lane.width g.row.D s.store s.cache (vec_len s.buffer) c.self.invariant c.args.self.now c.self.view_is
+    stored_coded _ _ _ _ _ _ c.self.invariant c.args.self.now c.self.view_is
     (coded_empty c.args.self.now c.requires.is_coded) c.store.new.self c.store.ensures.kept c.store.ensures.format c.args.b (map g.T.Lane.value c.args.line.now) c.store.ensures.codes
 
 pub returns-clause-header : goal.returns-clause-header

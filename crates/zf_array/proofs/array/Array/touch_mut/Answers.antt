@@ -20,21 +20,13 @@ touch_mut-requires g c =
 
 pub invariant_of-self : goal.invariant_of-self
 invariant_of-self g c =
-    let s = c.self.inside in
-    joined_after g.T.Lane.value g.T.Lane.width g.row.D s.store s.cache (vec_len s.buffer) c.self.invariant c.touch_mut.new.back c.touch_mut.new.self c.touch_mut.ensures.step.kept c.touch_mut.ensures.step.fits
+    joined_after _ _ _ _ _ _ c.self.invariant c.touch_mut.new.back c.touch_mut.new.self c.touch_mut.ensures.step.kept c.touch_mut.ensures.step.fits
 
-pub returns-clause-state : goal.returns-clause-state
-returns-clause-state g c =
-    let s = c.self.inside in
-    step g.T.Lane.value g.T.Lane.width g.row.D s.store s.cache (vec_len s.buffer) c.self.invariant c.args.self.now c.self.view_is c.touch_mut.new.back c.touch_mut.new.self c.touch_mut.ensures.step.kept c.touch_mut.ensures.step.fits (λ f u. touch_for_writing f u c.args.b) c.touch_mut.ensures.step.state
-
-pub returns-clause-header : goal.returns-clause-header
-returns-clause-header g c =
-    let s = c.self.inside in
-    header_step g.T.Lane.value g.T.Lane.width g.row.D s.store s.cache (vec_len s.buffer) c.self.invariant c.args.self.now c.self.view_is c.touch_mut.new.back c.touch_mut.new.self c.touch_mut.ensures.step.kept c.touch_mut.ensures.step.fits
-
-pub returns-clause-dirty : goal.returns-clause-dirty
-returns-clause-dirty g c =
-    let s = c.self.inside in
-    ap (λ (u : State (List Bool)). u.dirty c.args.b) (step g.T.Lane.value g.T.Lane.width g.row.D s.store s.cache (vec_len s.buffer) c.self.invariant c.args.self.now c.self.view_is c.touch_mut.new.back c.touch_mut.new.self c.touch_mut.ensures.step.kept c.touch_mut.ensures.step.fits (λ f u. touch_for_writing f u c.args.b) c.touch_mut.ensures.step.state)
-    ∙ touch_for_writing-dirty direct (format c.args.self.now) (state c.args.self.now) c.args.b
+pub returns : goal.returns
+returns g c =
+    record {
+      state = step _ _ _ _ _ _ c.self.invariant c.args.self.now c.self.view_is c.touch_mut.new.back c.touch_mut.new.self c.touch_mut.ensures.step.kept c.touch_mut.ensures.step.fits (λ f u. touch_for_writing f u c.args.b) c.touch_mut.ensures.step.state;
+      header = header_step _ _ _ _ _ _ c.self.invariant c.args.self.now c.self.view_is c.touch_mut.new.back c.touch_mut.new.self c.touch_mut.ensures.step.kept c.touch_mut.ensures.step.fits;
+      dirty = ap (λ (u : State (List Bool)). u.dirty c.args.b) (step _ _ _ _ _ _ c.self.invariant c.args.self.now c.self.view_is c.touch_mut.new.back c.touch_mut.new.self c.touch_mut.ensures.step.kept c.touch_mut.ensures.step.fits (λ f u. touch_for_writing f u c.args.b) c.touch_mut.ensures.step.state)
+          ∙ touch_for_writing-dirty direct (format c.args.self.now) (state c.args.self.now) c.args.b;
+    }

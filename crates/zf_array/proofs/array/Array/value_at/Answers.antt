@@ -27,25 +27,19 @@ get-requires g c =
 
 pub invariant_of-self : goal.invariant_of-self
 invariant_of-self g c =
-    let s = c.self.inside in
-    joined_after g.T.Lane.value g.T.Lane.width g.row.D s.store s.cache (vec_len s.buffer) c.self.invariant c.get.new.back c.get.new.self c.get.ensures.step.kept c.get.ensures.step.fits
+    joined_after _ _ _ _ _ _ c.self.invariant c.get.new.back c.get.new.self c.get.ensures.step.kept c.get.ensures.step.fits
 
-pub returns-clause-state : goal.returns-clause-state
-returns-clause-state g c =
-    let s = c.self.inside in
-    step g.T.Lane.value g.T.Lane.width g.row.D s.store s.cache (vec_len s.buffer) c.self.invariant c.args.self.now c.self.view_is c.get.new.back c.get.new.self c.get.ensures.step.kept c.get.ensures.step.fits (λ f u. touch f u c.args.b) c.get.ensures.step.state
-
-pub returns-clause-value : goal.returns-clause-value
+pub returns : goal.returns
 unfolding state_at
-returns-clause-value g c =
+returns g c =
     let s = c.self.inside in
-    let b = c.args.b in
-    let k = c.args.place in
-    let at = subst (λ (h : Header). IsAt h.shape c.requires.0 b k) (header_now g.T.Lane.value g.T.Lane.width g.row.D s.store s.cache (vec_len s.buffer) c.self.invariant c.args.self.now c.self.view_is) c.requires.1 in
-    let after = state_after g.T.Lane.value g.T.Lane.width g.row.D s.store s.cache (vec_len s.buffer) c.self.invariant c.get.new.back c.get.new.self c.get.ensures.step.kept c.get.ensures.step.fits in
-    OnTrue_at (exists_there s.store c.requires.0 b k at) c.get.ensures.value ∙ ap (λ (u : State (List Bool)). get_or (u.values b) k (pos 0)) (sym after)
-
-pub returns-clause-header : goal.returns-clause-header
-returns-clause-header g c =
-    let s = c.self.inside in
-    header_step g.T.Lane.value g.T.Lane.width g.row.D s.store s.cache (vec_len s.buffer) c.self.invariant c.args.self.now c.self.view_is c.get.new.back c.get.new.self c.get.ensures.step.kept c.get.ensures.step.fits
+    record {
+      state = step g.T.Lane.value g.T.Lane.width g.row.D s.store s.cache (vec_len s.buffer) c.self.invariant c.args.self.now c.self.view_is c.get.new.back c.get.new.self c.get.ensures.step.kept c.get.ensures.step.fits (λ f u. touch f u c.args.b) c.get.ensures.step.state;
+      value =
+          let b = c.args.b in
+          let k = c.args.place in
+          let at = subst (λ (h : Header). IsAt h.shape c.requires.0 b k) (header_now g.T.Lane.value g.T.Lane.width g.row.D s.store s.cache (vec_len s.buffer) c.self.invariant c.args.self.now c.self.view_is) c.requires.1 in
+          let after = state_after g.T.Lane.value g.T.Lane.width g.row.D s.store s.cache (vec_len s.buffer) c.self.invariant c.get.new.back c.get.new.self c.get.ensures.step.kept c.get.ensures.step.fits in
+          OnTrue_at (exists_there s.store c.requires.0 b k at) c.get.ensures.value ∙ ap (λ (u : State (List Bool)). get_or (u.values b) k (pos 0)) (sym after);
+      header = header_step g.T.Lane.value g.T.Lane.width g.row.D s.store s.cache (vec_len s.buffer) c.self.invariant c.args.self.now c.self.view_is c.get.new.back c.get.new.self c.get.ensures.step.kept c.get.ensures.step.fits;
+    }

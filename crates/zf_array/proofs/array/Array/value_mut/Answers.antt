@@ -19,8 +19,7 @@ place_in-b-requires-clause-dims g c = ap (λ (h : Header). length h.shape) c.hea
 
 pub place_in-b-requires-clause-position : goal.place_in-b-requires-clause-position
 place_in-b-requires-clause-position g c =
-    let s = c.self.inside in
-    position_is g.T.Lane.value g.T.Lane.width g.row.D s.store s.cache (vec_len s.buffer) c.self.invariant c.args.self.now c.self.view_is c.args.p c.header.result c.header.ensures.value c.requires
+    position_is _ _ _ _ _ _ c.self.invariant c.args.self.now c.self.view_is c.args.p c.header.result c.header.ensures.value c.requires
 
 pub touch_mut-requires : goal.touch_mut-requires
 touch_mut-requires g c =
@@ -30,8 +29,7 @@ touch_mut-requires g c =
 
 pub dirty_value_mut-requires : goal.dirty_value_mut-requires
 dirty_value_mut-requires g c =
-    let s = c.self.inside in
-    (lit< tt, (c.touch_mut.ensures.dirty, place_below g.T.Lane.value g.T.Lane.width g.row.D s.store s.cache (vec_len s.buffer) c.self.invariant c.args.self.now c.self.view_is c.args.p c.header.result c.header.ensures.value c.place_in-b.result.0 c.place_in-b.result.1 c.place_in-b.ensures.at))
+    (lit< tt, (c.touch_mut.ensures.dirty, place_below _ _ _ _ _ _ c.self.invariant c.args.self.now c.self.view_is c.args.p c.header.result c.header.ensures.value c.place_in-b.result.0 c.place_in-b.result.1 c.place_in-b.ensures.at))
 
 pub invariant_of-self-lent : goal.invariant_of-self-lent
 invariant_of-self-lent g c =

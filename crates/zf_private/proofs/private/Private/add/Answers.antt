@@ -10,9 +10,9 @@ use Rattle.zf_private.proofs.private.Private.add.Goals as goal
 
 pub touch_mut-requires : goal.touch_mut-requires
 touch_mut-requires g c =
-    let o = c.self.inside in let e = c.place-b.ensures in (
+    let e = c.place-b.ensures in (
       lit< tt,
-      (backed_at g.B.Reading g.T.Lane.value g.T.Lane.width g.row.D (record { cache = o.cache; shape = o.shape; first = o.first; count = o.count }) c.args.self.now c.self.view_is c.self.invariant c.args.back.now c.args.p c.requires.sits
+      (backed_at g.B.Reading g.T.Lane.value g.T.Lane.width g.row.D _ c.args.self.now c.self.view_is c.self.invariant c.args.back.now c.args.p c.requires.sits
           c.place-b.result.0 c.place-b.result.1 e.block e.place e.at).0,
     )
 

@@ -8,18 +8,14 @@ use Rattle.zf_private.proofs.private.Private.flush.Goals as goal
 
 pub flush-requires : goal.flush-requires
 flush-requires g c =
-    let o = c.self.inside in
-    let v : Held g.row.T.Denot = record { cache = o.cache; shape = o.shape; first = o.first; count = o.count } in
     let f = g.B.Reading.format c.args.back.now in let k = g.B.Reading.codes c.args.back.now in let value = g.T.Lane.value in let w = g.T.Lane.width in let d = g.row.D in
     let now = c.args.self.now in let is = c.self.view_is in let whole = c.self.invariant in
-    (lit< tt, record { fits = fits_mine value w d v now is whole f k c.requires.sits.fits; blocks = has_blocks value w d v now is whole f k c.requires.sits.blocks })
+    (lit< tt, record { fits = fits_mine value w d _ now is whole f k c.requires.sits.fits; blocks = has_blocks value w d _ now is whole f k c.requires.sits.blocks })
 
 pub returns-clause-does : goal.returns-clause-does
 returns-clause-does g c =
-    let o = c.self.inside in
-    let v : Held g.row.T.Denot = record { cache = o.cache; shape = o.shape; first = o.first; count = o.count } in
     let f = g.B.Reading.format c.args.back.now in let k = g.B.Reading.codes c.args.back.now in let value = g.T.Lane.value in let w = g.T.Lane.width in let d = g.row.D in
     let now = c.args.self.now in let is = c.self.view_is in let whole = c.self.invariant in
     let t = c.flush.ensures.step in
-    does g.B.Reading value w d v now is whole c.args.back.now c.flush.new.self c.flush.new.back Act.flush
+    does g.B.Reading value w d _ now is whole c.args.back.now c.flush.new.self c.flush.new.back Act.flush
     (t.state ∙ ap (λ (u : Held g.row.T.Denot). flush f (state value u f k)) is ∙ acted-flush w f (state value now f k)) t.fits t.format t.kept tt

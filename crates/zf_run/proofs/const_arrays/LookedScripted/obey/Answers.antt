@@ -36,8 +36,7 @@ unfolding look_setting
 returns-in_default-clause-step g c =
     let a = c.args.self.now.array.now in
     let s = look_session_of a c.args.self.now.window in
-    let k = c.kind_of.result in
-    not_taken (look_setting_of g.T.Lane.width a.header) c.args.cmd (cmd_of_kind k) c.kind_of.ensures s (by_kind s k is_reading false (not_reading (length s.shape) k c.in_default.not-Read c.in_default.not-Window))
+    not_taken (look_setting_of g.T.Lane.width a.header) c.args.cmd (cmd_of_kind _) c.kind_of.ensures s (by_kind s _ is_reading false (not_reading (length s.shape) _ c.in_default.not-Read c.in_default.not-Window))
 
 pub returns-in-Read-clause-stays : goal.returns-in-Read-clause-stays
 returns-in-Read-clause-stays g c = obeyed c.read.ensures

@@ -38,8 +38,7 @@ unfolding twoway_setting
 returns-in_default-clause-step g c =
     let p = c.args.self.now in
     let s = pair_session g.T.Lane.value p.store.now p.cache.now p.window in
-    let k = c.kind_of.result in
-    not_taken (two_setting_of g.T.Lane.width p.store.now.header) c.args.cmd (cmd_of_kind k) c.kind_of.ensures s (by_kind s k is_windowless false (not_windowless (length s.shape) k c.in_default.not-Read c.in_default.not-Write))
+    not_taken (two_setting_of g.T.Lane.width p.store.now.header) c.args.cmd (cmd_of_kind _) c.kind_of.ensures s (by_kind s _ is_windowless false (not_windowless (length s.shape) _ c.in_default.not-Read c.in_default.not-Write))
 
 pub returns-in-Read-clause-stays : goal.returns-in-Read-clause-stays
 returns-in-Read-clause-stays g c = obeyed c.read.ensures

@@ -25,6 +25,5 @@ pub returns-in_default-clause-does : goal.returns-in_default-clause-does
 returns-in_default-clause-does g c =
     let p = c.args.self.now in
     let s = parted_session g.T.Lane.value p.array.now p.views.now p.window in
-    let cmd = asked s (cmd_of_kind c.args.cmd) in
-    refused_split (setting_of g.T.Lane.width p.array.now) cmd s c.requires.window
-    (refuses_whole s cmd (some_parted g.T.Lane.value p.array.now p.views.now c.requires.parted) (by_kind s c.args.cmd is_of_split false (not_of_split (length s.shape) c.args.cmd c.in_default.not-Join c.in_default.not-View)))
+    refused_split (setting_of g.T.Lane.width p.array.now) _ s c.requires.window
+    (refuses_whole s _ (some_parted g.T.Lane.value p.array.now p.views.now c.requires.parted) (by_kind s c.args.cmd is_of_split false (not_of_split (length s.shape) c.args.cmd c.in_default.not-Join c.in_default.not-View)))

@@ -1,6 +1,7 @@
 use Rattle.std.proofs.Common.{◌≡◌, refl, sym, ap, subst, ◌∙◌, true, false, not, ◌&&◌, ltb, leb, ltb-true, Some}
 use Rattle.std.proofs.lemmas.Bool.{and_parts}
 use Rattle.zf_spec.specs.Grid.{blocks}
+use Rattle.zf_header.specs.declared.header.Header.{Header}
 use Rattle.zf_cached.specs.Arrays.{array_format}
 use Rattle.zf_cached.specs.Commands.{Command}
 use Rattle.zf_cached.specs.Replies.{Refusal, Reply}
@@ -40,12 +41,9 @@ returns-in_default-clause-does g c =
     subst (λ o. Does S (Command.split n l) (session_of a c.args.self.now.window) (parted_session g.T.Lane.value a o c.args.self.now.window) (Some (Reply.refused Refusal.memory))) (sym c.requires.whole)
     (refused_memory S (Command.split n l) (session_of a c.args.self.now.window) c.requires.window refl (ap not tests) refl refl refl)
 
-pub returns-clause-does : goal.returns-clause-does
-returns-clause-does g c =
-    let w = g.T.Lane.width in
-    let value = g.T.Lane.value in
+pub returns : goal.returns
+returns g c =
     let a = c.args.self.now.array.now in
-    let b = c.see_coded.new.a in
     let n = c.args.count in
     let l = c.args.lines in
     let many = c.blocks-2.ensures.value ∙ ap blocks c.shape-shape.ensures.value in
@@ -56,22 +54,8 @@ returns-clause-does g c =
     let new = subst (λ ns. AreNewParts g.row.D ns n c.raised.result n c.in-Ok.views.items) c.shape-shape.ensures.value c.in-Ok.ensures in
     let flushes = ap state c.see_coded.ensures.same ∙ c.flush.ensures.state in
     let head = ap (λ (h : Held). h.header) c.see_coded.ensures.same ∙ c.flush.ensures.header in
-    has_split value w g.row.D a b c.in-Ok.views.items n l c.raised.result c.shape-shape.ensures.same_type some both.0 both.1 c.raised.ensures.value new flushes head c.see_coded.ensures.coded c.args.self.now.window c.requires.window
-
-pub returns-clause-sound : goal.returns-clause-sound
-returns-clause-sound g c =
-    let w = g.T.Lane.width in
-    let value = g.T.Lane.value in
-    let a = c.args.self.now.array.now in
-    let b = c.see_coded.new.a in
-    let n = c.args.count in
-    let l = c.args.lines in
-    let many = c.blocks-2.ensures.value ∙ ap blocks c.shape-shape.ensures.value in
-    let tests : (is_view_count (blocks (shape a)) n && is_line_count l) ≡ true =
-    subst (λ m. (is_view_count m n && is_line_count l) ≡ true) many (sym c.may_split.ensures ∙ c.if-not-may_split.false) in
-    let both = and_parts (is_view_count (blocks (shape a)) n) (is_line_count l) tests in
-    let some = ltb-true 0 n (and_parts (ltb 0 n) (ltb n 17 && leb n (blocks (shape a))) both.0).0 in
-    let new = subst (λ ns. AreNewParts g.row.D ns n c.raised.result n c.in-Ok.views.items) c.shape-shape.ensures.value c.in-Ok.ensures in
-    let flushes = ap state c.see_coded.ensures.same ∙ c.flush.ensures.state in
-    let head = ap (λ (h : Held). h.header) c.see_coded.ensures.same ∙ c.flush.ensures.header in
-    are_parts value w g.row.D a b c.in-Ok.views.items n l c.raised.result c.shape-shape.ensures.same_type some both.0 both.1 c.raised.ensures.value new flushes head c.see_coded.ensures.coded
+    record {
+      does = has_split _ _ g.row.D a _ c.in-Ok.views.items n l c.raised.result c.shape-shape.ensures.same_type some both.0 both.1 c.raised.ensures.value new flushes head c.see_coded.ensures.coded c.args.self.now.window c.requires.window;
+      sound = are_parts _ _ g.row.D a _ c.in-Ok.views.items n l c.raised.result c.shape-shape.ensures.same_type some both.0 both.1 c.raised.ensures.value new flushes head c.see_coded.ensures.coded;
+      kept = (ap (λ (h : Header). (h.ty, h.mode)) head, refl);
+    }

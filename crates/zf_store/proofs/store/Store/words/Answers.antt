@@ -8,9 +8,8 @@ use Rattle.zf_store.proofs.store.Store.words.Goals as goal
 
 pub returns-clause-bits : goal.returns-clause-bits
 returns-clause-bits g c =
-    let s = c.self.inside in
     let codes = λ (t : Stored). with_fill (flat_map (λ (b : List Bool). b) t.codes) in
-    ap word_bits c.deref.ensures.value ∙ words_are g.T.Lane.width g.row.D s.header s.words.items s.room s.code s.head c.self.invariant ∙ ap codes c.self.view_is
+    ap word_bits c.deref.ensures.value ∙ words_are _ _ _ _ _ _ _ c.self.invariant ∙ ap codes c.self.view_is
 
 pub returns-clause-whole : goal.returns-clause-whole
 returns-clause-whole g c =

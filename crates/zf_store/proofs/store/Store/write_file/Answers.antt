@@ -7,16 +7,14 @@ use Rattle.zf_store.proofs.store.Store.write_file.Goals as goal
 
 pub write_bytes-requires-clause-small : goal.write_bytes-requires-clause-small
 write_bytes-requires-clause-small g c =
-    let s = c.self.inside in
-    omega (arith, c.code_bits.ensures.value, c.len.ensures.count, bits_most g.T.Lane.width g.row.D s.header s.words.items s.room s.code s.head c.self.invariant)
+    omega (arith, c.code_bits.ensures.value, c.len.ensures.count, bits_most _ _ _ _ _ _ _ c.self.invariant)
 
 pub returns : goal.returns
 returns g c =
-    let s = c.self.inside in
     let n = c.len.result in
     let m = c.code_bits.result in
     let prefix = word_bits c.words.result.now in
     let made = λ (ws : List ℕ). to_bytes (with_fill (take n prefix ++ take m (word_bits ws))) in
     c.write_bytes.ensures ∙ ap made c.deref.ensures.value
-    ∙ file_is g.T.Lane.width g.row.D s.header s.words.items s.room s.code s.head c.self.invariant prefix n m c.words.ensures.bits c.len.ensures.count c.code_bits.ensures.value
+    ∙ file_is _ _ _ _ _ _ _ c.self.invariant prefix n m c.words.ensures.bits c.len.ensures.count c.code_bits.ensures.value
     ∙ ap file_of c.self.view_is
