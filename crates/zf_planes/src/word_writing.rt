@@ -124,8 +124,7 @@ pub(crate) fn write_planes_of_word<P: Plane>(
                 part = join(part, more);
             }
         } else {
-            left = write_with(left, part, above as u64, size as u64, digits, out);
-            part = Part { bits: 0, len: 0 };
+            left = write_with(left, &mut part, above as u64, size as u64, digits, out);
             let end = reach_in(plane, size);
             above = above.max(end);
         }
