@@ -1,5 +1,6 @@
 -- What was written of a code, as far as a budget reaches.
-use Rattle.std.specs.Prelude.{ℕ, ◌≡◌, ◌+◌, ◌-◌, ◌≤◌, min, Bool, List, ◌++◌, length, take}
+use Rattle.std.specs.Prelude.{ℕ, ◌≡◌, ◌+◌, ◌-◌, ◌^◌, ◌<◌, ◌≤◌, min, Bool, List, ◌++◌, length, take}
+use Rattle.zf_spec.specs.Numbers.{field}
 use Rattle.zf_bits.specs.Writer.{Writer, Appends}
 
 -- r bits were left of the budget, and so many are after it
@@ -15,3 +16,9 @@ pub record Remains (old now : Writer) (budget left : ℕ) (whole rest : List Boo
   pub fits : min left (length rest) ≤ now.room
   pub room : old.room + min left (length rest) ≤ now.room + min budget (length whole)
   pub within : left ≤ budget
+
+-- the code was written but for its end, which is the l bits of v and fits a word
+pub record LeavesPart (r after : ℕ) (old new : Writer) (whole : List Bool) (l v : ℕ) : Type 0 where
+  pub code : Remains old new r after whole (field l v)
+  pub small : v < 2 ^ l
+  pub len : l ≤ 64

@@ -5,7 +5,7 @@ ghost use Rattle.zf_spec.specs.Numbers.{field};
 ghost use Rattle.zf_spec.specs.Planes.{code_from_run, plane_code};
 ghost use Rattle.zf_bits.specs.Writer.{Appends};
 ghost use Rattle.zf_planes.specs.Doubled.{doubled};
-ghost use Rattle.zf_planes.specs.Writes.{Remains};
+ghost use Rattle.zf_planes.specs.Writes.{LeavesPart};
 
 use crate::entries::doubled_entry;
 use zf_bits::BitWriter;
@@ -87,7 +87,7 @@ pub(crate) fn write_part(left: u64, part: Part, out: &mut BitWriter) -> u64
     left - count
 }
 
-/// Puts the code of a run of so many digits behind bits, and appends them where they grow too many for a word,
+/// Puts the code of a run of so many digits behind bits, and appends them where a word has no room for more,
 /// as far as `left` bits reach. The answer is the bits that are left.
 #[inline(always)]
 fn write_run(left: u64, part: &mut Part, most: u64, digits: u64, out: &mut BitWriter) -> u64
@@ -97,10 +97,8 @@ fn write_run(left: u64, part: &mut Part, most: u64, digits: u64, out: &mut BitWr
     requires few { part.old.len ≤ 40 }
     requires small { part.old.bits < 2 ^ part.old.len }
     requires fits { min left (part.old.len + length (code_from_run (field most digits))) ≤ out.old.room }
-    ensures code { Remains out.old out.new left result (field part.old.len part.old.bits
-        ++ code_from_run (field most digits)) (field part.new.len part.new.bits) }
-    ensures small { part.new.bits < 2 ^ part.new.len }
-    ensures len { part.new.len ≤ 64 }
+    ensures { LeavesPart left result out.old out.new (field part.old.len part.old.bits
+        ++ code_from_run (field most digits)) part.new.len part.new.bits }
 {
     let mut left = left;
     let mut pending = *part;
@@ -120,9 +118,8 @@ fn write_run(left: u64, part: &mut Part, most: u64, digits: u64, out: &mut BitWr
     left
 }
 
-/// Puts the code of a plane of up to 64 digits, in which the ranks below `n` have had a one above and a later
-/// one has its first, behind bits, and appends them where they grow too many, as far as `left` bits reach. The
-/// answer is the bits that are left.
+/// [`write_run`] of the whole code of a plane of up to 64 digits, in which the ranks below `n` have had a one
+/// above and a later one has its first.
 #[inline(always)]
 pub(crate) fn write_with(
     left: u64,
@@ -139,10 +136,8 @@ pub(crate) fn write_with(
     requires in_word { part.old.len ≤ 64 }
     requires small { part.old.bits < 2 ^ part.old.len }
     requires fits { min left (part.old.len + length (plane_code n (field size digits))) ≤ out.old.room }
-    ensures code { Remains out.old out.new left result (field part.old.len part.old.bits
-        ++ plane_code n (field size digits)) (field part.new.len part.new.bits) }
-    ensures small { part.new.bits < 2 ^ part.new.len }
-    ensures len { part.new.len ≤ 64 }
+    ensures { LeavesPart left result out.old out.new (field part.old.len part.old.bits
+        ++ plane_code n (field size digits)) part.new.len part.new.bits }
 {
     let group = Part { bits: 1, len: 1 };
     let prefix = Part {

@@ -77,11 +77,9 @@ all_joined : {old now : Writer} {budget left : ℕ} {all : List Bool} (most digi
     → field l w ≡ code_from_run (field most digits) → field j x ≡ field k v ++ field l w → Remains old now budget left all (field j x)
 all_joined most digits k v l w j x remains run joined = Remains-same remains (ap (λ (bs : List Bool). field k v ++ bs) (sym run) ∙ sym joined)
 
-pub returns-clause-code : goal.returns-clause-code
-returns-clause-code c = all_joined c.loop-digits.most c.loop-digits.digits _ c.loop-digits.pending.bits _ c.short_run.result.bits _ c.join.result.bits c.loop-digits.invariant.remains c.short_run.ensures.bits c.join.ensures.bits
-
-pub returns-clause-small : goal.returns-clause-small
-returns-clause-small c = c.join.ensures.small c.short_run.ensures.small
-
-pub returns-clause-len : goal.returns-clause-len
-returns-clause-len c = omega (arith, c.join.ensures.len, c.short_run.ensures.len, c.loop-digits.invariant.few)
+pub returns : goal.returns
+returns c = record {
+  code = all_joined c.loop-digits.most c.loop-digits.digits _ c.loop-digits.pending.bits _ c.short_run.result.bits _ c.join.result.bits c.loop-digits.invariant.remains c.short_run.ensures.bits c.join.ensures.bits;
+  small = c.join.ensures.small c.short_run.ensures.small;
+  len = omega (arith, c.join.ensures.len, c.short_run.ensures.len, c.loop-digits.invariant.few);
+}

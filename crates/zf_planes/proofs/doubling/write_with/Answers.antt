@@ -40,13 +40,18 @@ pub write_run-requires-clause-fits : goal.write_run-requires-clause-fits
 write_run-requires-clause-fits c =
     omega (arith, c.requires.fits, with_long c.args.size c.args.n c.args.digits c.requires.in_plane c.requires.some c.requires.digits, c.join.ensures.len, c.join-then-part-n-lt40.ensures.len)
 
-pub returns-then-part-n-lt40-clause-code : goal.returns-then-part-n-lt40-clause-code
-returns-then-part-n-lt40-clause-code c =
+pub returns-then-part-n-lt40 : goal.returns-then-part-n-lt40
+returns-then-part-n-lt40 c =
     let part = c.args.part.now in
     let all = c.join-then-part-n-lt40.result in
-    Remains-whole c.write_run.ensures.code
-    (joined c.args.size c.args.n c.args.digits part.len part.bits c.join.result.len c.join.result.bits all.len all.bits
-    c.requires.in_plane c.requires.size c.requires.some c.requires.digits c.join.ensures.bits c.join-then-part-n-lt40.ensures.bits)
+    record {
+      code =
+          Remains-whole c.write_run.ensures.code
+          (joined c.args.size c.args.n c.args.digits part.len part.bits c.join.result.len c.join.result.bits all.len all.bits
+          c.requires.in_plane c.requires.size c.requires.some c.requires.digits c.join.ensures.bits c.join-then-part-n-lt40.ensures.bits);
+      small = c.write_run.ensures.small;
+      len = c.write_run.ensures.len;
+    }
 
 -- ---- one after another
 
@@ -84,8 +89,8 @@ write_run-requires-2-clause-fits c =
     let rest = begun c.args.left c.write_part-left.result c.write_part-left-2.result c.args.size n v (omega (arith, c.requires.in_plane, c.requires.size)) remains c.write_part-left-2.ensures.bits c.write_part-left-2.ensures.left in
     omega (arith, rest.fits)
 
-pub returns-clause-code : goal.returns-clause-code
-returns-clause-code c =
+pub returns : goal.returns
+returns c =
     let n = c.args.n in
     let v = c.args.digits in
     let part = c.args.part.now in
@@ -93,4 +98,4 @@ returns-clause-code c =
     let run = true ∷ code_from_run (field (c.args.size - n) (v / 2 ^ n)) in
     let remains = flushed c.args.left c.write_part-left.result c.args.size n v part.len part.bits c.requires.in_plane c.requires.some c.requires.digits c.requires.fits c.write_part-left.ensures.bits c.write_part-left.ensures.left in
     let rest = begun c.args.left c.write_part-left.result c.write_part-left-2.result c.args.size n v (omega (arith, c.requires.in_plane, c.requires.size)) remains c.write_part-left-2.ensures.bits c.write_part-left-2.ensures.left in
-    Remains-but run (field last.len last.bits) rest c.write_run-2.ensures.code
+    record { code = Remains-but run (field last.len last.bits) rest c.write_run-2.ensures.code; small = c.write_run-2.ensures.small; len = c.write_run-2.ensures.len }
