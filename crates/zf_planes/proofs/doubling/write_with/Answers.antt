@@ -1,4 +1,4 @@
-use Rattle.std.proofs.Common.{◌≡◌, ℕ, ◌+◌, ◌-◌, ◌*◌, ◌/◌, ◌%◌, ◌^◌, ◌<◌, ◌≤◌, min, Bool, true, List, [], ◌∷◌, ◌++◌, length, take, sym, ap, ◌∙◌, arith, append_assoc, append-nil, length-append}
+use Rattle.std.proofs.Common.{◌≡◌, ℕ, ◌+◌, ◌-◌, ◌*◌, ◌/◌, ◌%◌, ◌^◌, ◌<◌, ◌≤◌, min, Bool, true, List, [], ◌∷◌, ◌++◌, length, take, sym, ap, ◌∙◌, arith, append_assoc, length-append}
 use Rattle.std.proofs.lemmas.Nat.{one_shl}
 use Rattle.zf_spec.specs.Numbers.{field}
 use Rattle.zf_spec.specs.Planes.{code_from_run, plane_code}
@@ -6,7 +6,7 @@ use Rattle.zf_spec.proofs.Fields.{length-field, field-mod}
 use Rattle.zf_bits.specs.Writer.{Writer, Appends}
 use Rattle.zf_bits.proofs.Appending.{Appends-same}
 use Rattle.zf_planes.specs.Writes.{Remains}
-use Rattle.zf_planes.proofs.Budgets.{Remains-but, Remains-whole, Remains-start, Remains-same, Remains-more, Remains-end}
+use Rattle.zf_planes.proofs.Budgets.{Remains-but, Remains-whole, Remains-start, Remains-same, Remains-more}
 use Rattle.zf_planes.proofs.Doubled.{plane_with, rest_small}
 use Rattle.zf_planes.proofs.doubling.write_with.Goals as goal
 
