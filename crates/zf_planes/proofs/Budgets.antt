@@ -1,7 +1,8 @@
 -- A list that is written in parts, as far as a budget of bits reaches.
-use Rattle.std.proofs.Common.{◌≡◌, ℕ, suc, zero, ◌+◌, ◌-◌, ◌<◌, ◌≤◌, min, Bool, List, [], ◌∷◌, ◌++◌, length, take, refl, sym, ap, subst, ◌∙◌, arith, append_assoc, length-append}
+use Rattle.std.proofs.Common.{◌≡◌, ℕ, suc, zero, ◌-◌, ◌<◌, ◌≤◌, min, Bool, List, [], ◌∷◌, ◌++◌, length, take, refl, sym, ap, subst, ◌∙◌, arith, append_assoc, length-append}
 use Rattle.std.proofs.lemmas.List.{length-take, append-nil}
 use Rattle.zf_bits.specs.Writer.{Writer, Appends}
+use Rattle.zf_planes.specs.Writes.{Remains}
 
 pub take_append : {A : Type 0} (k : ℕ) (xs ys : List A) → take k (xs ++ ys) ≡ take k xs ++ take (k - length xs) ys
 take_append {A} zero [] ys = refl
@@ -10,15 +11,6 @@ take_append {A} zero (x ∷ xs) ys = let none : zero - suc (length xs) ≡ 0 = o
 take_append {A} (suc k) (x ∷ xs) ys =
     let less : suc k - suc (length xs) ≡ k - length xs = omega arith in
     rw less (ap (λ (zs : List A). x ∷ zs) (take_append k xs ys))
-
--- a writer was to get the prefix of a whole list, as far as a budget reaches: it got so much that, with this many bits left,
--- the rest is still to come
-pub record Remains (old now : Writer) (budget left : ℕ) (whole rest : List Bool) : Type 0 where
-  pub bits : now.bits ++ take left rest ≡ old.bits ++ take budget whole
-  pub spent : left - length rest ≡ budget - length whole
-  pub fits : min left (length rest) ≤ now.room
-  pub room : old.room + min left (length rest) ≤ now.room + min budget (length whole)
-  pub within : left ≤ budget
 
 pub Remains-start : (w : Writer) (budget : ℕ) (whole : List Bool) → min budget (length whole) ≤ w.room → Remains w w budget budget whole whole
 Remains-start w budget whole fits = record { bits = refl; spent = refl; fits = fits; room = omega arith; within = omega arith }
@@ -72,3 +64,32 @@ Remains-end {old} {now} {budget} {left} {whole} {rest} remains none = record {
   bits = sym (append-nil now.bits) ∙ ap (λ (xs : List Bool). now.bits ++ xs) (sym (nothing_taken left rest none)) ∙ remains.bits;
   room = omega (arith, remains.room, length-take budget whole);
 }
+
+-- a part of the rest is written but for its end
+pub Remains-through : {old now new : Writer} {budget left after : ℕ} {whole : List Bool} (code rest more : List Bool) → Remains old now budget left whole (code ++ more) → Remains now new left after code rest
+    → Remains old new budget after whole (rest ++ more)
+Remains-through {old} {now} {new} {budget} {left} {after} {whole} code rest more outer inner =
+    let long = length-append code more in
+    let short = length-append rest more in
+    record {
+      bits =
+          ap (λ (xs : List Bool). new.bits ++ xs) (take_append after rest more)
+          ∙ sym (append_assoc new.bits (take after rest) (take (after - length rest) more))
+          ∙ ap (λ (xs : List Bool). xs ++ take (after - length rest) more) inner.bits
+          ∙ append_assoc now.bits (take left code) (take (after - length rest) more)
+          ∙ ap (λ k. now.bits ++ (take left code ++ take k more)) inner.spent
+          ∙ ap (λ (xs : List Bool). now.bits ++ xs) (sym (take_append left code more))
+          ∙ outer.bits;
+      spent = omega (arith, outer.spent, inner.spent);
+      fits = omega (arith, outer.fits, inner.room, inner.spent, inner.within, inner.fits);
+      room = omega (arith, outer.room, outer.fits, inner.room, inner.spent, inner.within);
+      within = omega (arith, outer.within, inner.within);
+    }
+
+-- all of the rest is written but for its end
+pub Remains-but : {old now new : Writer} {budget left after : ℕ} {whole : List Bool} (code rest : List Bool) → Remains old now budget left whole code → Remains now new left after code rest → Remains old new budget after whole rest
+Remains-but code rest outer inner = Remains-same (Remains-through code rest [] (Remains-same outer (sym (append-nil code))) inner) (append-nil rest)
+
+-- the whole by another name
+pub Remains-whole : {old now : Writer} {budget left : ℕ} {whole whole' : List Bool} {rest : List Bool} → Remains old now budget left whole rest → whole ≡ whole' → Remains old now budget left whole' rest
+Remains-whole {old} {now} {budget} {left} {whole} {whole'} {rest} remains same = let P : List Bool → Type 0 = λ xs. Remains old now budget left xs rest in subst P same remains

@@ -9,7 +9,8 @@ use Rattle.zf_spec.proofs.Fields.{length-field, field-add, field-zero}
 use Rattle.zf_spec.proofs.Reach.{reach-le}
 use Rattle.zf_spec.proofs.PlaneCode.{tail-zeros}
 use Rattle.zf_planes.proofs.Placing.{reach_behind}
-use Rattle.zf_planes.proofs.Budgets.{Remains, Remains-same}
+use Rattle.zf_planes.specs.Writes.{Remains}
+use Rattle.zf_planes.proofs.Budgets.{Remains-same}
 use Rattle.zf_planes.proofs.Unpacking.{code_next}
 use Rattle.zf_planes.proofs.Doubled.{plane_whole, plane_without}
 

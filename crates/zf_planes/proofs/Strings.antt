@@ -9,7 +9,8 @@ use Rattle.zf_spec.proofs.Reach.{reach-le}
 use Rattle.zf_bits.specs.Writer.{Writer}
 use Rattle.zf_planes.specs.Fours.{string_planes, IsAsGood}
 use Rattle.zf_planes.proofs.Doubled.{plane_whole}
-use Rattle.zf_planes.proofs.Budgets.{Remains, Remains-same}
+use Rattle.zf_planes.specs.Writes.{Remains}
+use Rattle.zf_planes.proofs.Budgets.{Remains-same}
 use Rattle.zf_planes.proofs.LastRank.{code_of_three, code_as_good}
 
 -- ---- the code of planes goes on behind bits that were put together

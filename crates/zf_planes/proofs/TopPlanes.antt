@@ -21,7 +21,8 @@ use Rattle.zf_planes.specs.Fours.{string_planes}
 use Rattle.zf_planes.specs.Spread.{top_digit, top_planes, spread}
 use Rattle.zf_planes.specs.declared.entries.TheConstants.{SPREAD}
 use Rattle.zf_planes.proofs.Tables.{each_below, each_below-true}
-use Rattle.zf_planes.proofs.Budgets.{Remains, Remains-start, Remains-same, Remains-more}
+use Rattle.zf_planes.specs.Writes.{Remains}
+use Rattle.zf_planes.proofs.Budgets.{Remains-start, Remains-same, Remains-more}
 use Rattle.zf_planes.proofs.Zeros.{take_zeros, zero_code}
 use Rattle.zf_planes.proofs.Strings.{take-fours}
 

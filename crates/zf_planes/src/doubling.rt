@@ -5,7 +5,7 @@ ghost use Rattle.zf_spec.specs.Numbers.{field};
 ghost use Rattle.zf_spec.specs.Planes.{code_from_run, plane_code};
 ghost use Rattle.zf_bits.specs.Writer.{Appends};
 ghost use Rattle.zf_planes.specs.Doubled.{doubled};
-ghost use Rattle.zf_planes.specs.Writes.{Writes};
+ghost use Rattle.zf_planes.specs.Writes.{LeavesPart};
 
 use crate::entries::doubled_entry;
 use zf_bits::BitWriter;
@@ -42,6 +42,7 @@ fn short_run(most: u64, digits: u64) -> Part
     requires in_word { most ≤ 64 }
     requires within { digits < 2 ^ most }
     ensures bits { field result.len result.bits ≡ code_from_run (field most digits) }
+    ensures small { result.bits < 2 ^ result.len }
     ensures len { result.len ≤ 16 }
 {
     // The digits doubled, up to the last one. Its second bit is the group bit behind it, which is zero.
@@ -50,9 +51,10 @@ fn short_run(most: u64, digits: u64) -> Part
     let bits = u64::from(entry % 65536) - (1 << (len - 1));
     // The one of the last digit has no bit, and nothing follows it.
     let implied = if digits >> (most - 1) == 0 { 0 } else { 2 };
+    let count = len - implied;
     Part {
-        bits,
-        len: len - implied,
+        bits: bits % (1 << count),
+        len: count,
     }
 }
 
@@ -85,43 +87,43 @@ pub(crate) fn write_part(left: u64, part: Part, out: &mut BitWriter) -> u64
     left - count
 }
 
-/// Appends bits and then the code of a run of so many digits, as far as `left` bits reach. The answer is the
-/// bits that are left.
+/// Puts the code of a run of so many digits behind bits, and appends them where a word has no room for more,
+/// as far as `left` bits reach. The answer is the bits that are left.
 #[inline(always)]
-fn write_run(left: u64, prefix: Part, most: u64, digits: u64, out: &mut BitWriter) -> u64
+fn write_run(left: u64, part: &mut Part, most: u64, digits: u64, out: &mut BitWriter) -> u64
     requires some { 0 < digits }
     requires in_word { most ≤ 64 }
     requires within { digits < 2 ^ most }
-    requires few { prefix.len ≤ 40 }
-    requires small { prefix.bits < 2 ^ prefix.len }
-    requires fits { min left (prefix.len + length (code_from_run (field most digits))) ≤ out.old.room }
-    ensures { Writes left result out.old out.new (field prefix.len prefix.bits
-        ++ code_from_run (field most digits)) }
+    requires few { part.old.len ≤ 40 }
+    requires small { part.old.bits < 2 ^ part.old.len }
+    requires fits { min left (part.old.len + length (code_from_run (field most digits))) ≤ out.old.room }
+    ensures { LeavesPart left result out.old out.new (field part.old.len part.old.bits
+        ++ code_from_run (field most digits)) part.new.len part.new.bits }
 {
     let mut left = left;
-    let mut part = prefix;
+    let mut pending = *part;
     let mut most = most;
     let mut digits = digits;
     while digits > 255 {
-        part = join(part, double(digits % 256));
+        pending = join(pending, double(digits % 256));
         digits /= 256;
         most -= 8;
         // Room for eight digits more.
-        if part.len > 40 {
-            left = write_part(left, part, out);
-            part = Part { bits: 0, len: 0 };
+        if pending.len > 40 {
+            left = write_part(left, pending, out);
+            pending = Part { bits: 0, len: 0 };
         }
     }
-    write_part(left, join(part, short_run(most, digits)), out)
+    *part = join(pending, short_run(most, digits));
+    left
 }
 
-/// Appends bits that were put together, and the code of a plane of up to 64 digits in which the ranks below
-/// `n` have had a one above and a later one has its first, as far as `left` bits reach. The answer is the
-/// bits that are left.
+/// [`write_run`] of the whole code of a plane of up to 64 digits, in which the ranks below `n` have had a one
+/// above and a later one has its first.
 #[inline(always)]
 pub(crate) fn write_with(
     left: u64,
-    part: Part,
+    part: &mut Part,
     n: u64,
     size: u64,
     digits: u64,
@@ -131,11 +133,11 @@ pub(crate) fn write_with(
     requires in_plane { n < size }
     requires digits { digits < 2 ^ size }
     requires some { 0 < digits / 2 ^ n }
-    requires in_word { part.len ≤ 64 }
-    requires small { part.bits < 2 ^ part.len }
-    requires fits { min left (part.len + length (plane_code n (field size digits))) ≤ out.old.room }
-    ensures { Writes left result out.old out.new (field part.len part.bits
-        ++ plane_code n (field size digits)) }
+    requires in_word { part.old.len ≤ 64 }
+    requires small { part.old.bits < 2 ^ part.old.len }
+    requires fits { min left (part.old.len + length (plane_code n (field size digits))) ≤ out.old.room }
+    ensures { LeavesPart left result out.old out.new (field part.old.len part.old.bits
+        ++ plane_code n (field size digits)) part.new.len part.new.bits }
 {
     let group = Part { bits: 1, len: 1 };
     let prefix = Part {
@@ -144,9 +146,11 @@ pub(crate) fn write_with(
     };
     let rest = digits >> n;
     if part.len + n < 40 {
-        return write_run(left, join(join(part, prefix), group), size - n, rest, out);
+        *part = join(join(*part, prefix), group);
+        return write_run(left, part, size - n, rest, out);
     }
-    let left = write_part(left, part, out);
+    let left = write_part(left, *part, out);
     let left = write_part(left, prefix, out);
-    write_run(left, group, size - n, rest, out)
+    *part = group;
+    write_run(left, part, size - n, rest, out)
 }

@@ -52,7 +52,6 @@ fn read_one(n: usize, cursor: &mut Cursor<'_>) -> Option<PlanesInLanes>
             above: next.above,
         });
     }
-    // By way of a copy, so that only that lies in memory.
     let mut next = Cursor::new(cursor.left, &cursor.reader);
     let one = read_one_apart(n, &mut next)?;
     *cursor = next;

@@ -60,13 +60,12 @@ fn lone_planes<P: Plane>(from: usize, prec: u32, size: usize, planes: &[P]) -> B
     ensures { AreBegun from prec (take prec (planes_held size (map P.words planes.now))) result.part.len
         result.part.bits result.above result.next }
 {
-    let none = Begun {
-        part: Part { bits: 0, len: 0 },
-        above: 0,
-        next: from,
-    };
     if from == prec as usize || first_word(&planes[planes.len() - 1 - from], size) != 1 {
-        return none;
+        return Begun {
+            part: Part { bits: 0, len: 0 },
+            above: 0,
+            next: from,
+        };
     }
     // A group bit, the one of the first rank, and a group bit that says that no other follows.
     let mut part = Part { bits: 3, len: 3 };
@@ -124,8 +123,7 @@ pub(crate) fn write_planes_of_word<P: Plane>(
                 part = join(part, more);
             }
         } else {
-            left = write_with(left, part, above as u64, size as u64, digits, out);
-            part = Part { bits: 0, len: 0 };
+            left = write_with(left, &mut part, above as u64, size as u64, digits, out);
             let end = reach_in(plane, size);
             above = above.max(end);
         }

@@ -1,16 +1,17 @@
-use Rattle.std.proofs.Common.{◌≡◌, ℕ, ◌-◌, ◌/◌, ◌%◌, ◌^◌, ◌<◌, Bool, List, [], ◌++◌, length, sym, ap, ◌∙◌, arith, append_assoc, append-nil, length-append}
+use Rattle.std.proofs.Common.{◌≡◌, ℕ, ◌-◌, ◌/◌, ◌%◌, ◌^◌, ◌<◌, Bool, List, ◌++◌, length, sym, ap, ◌∙◌, arith, append_assoc, length-append}
 use Rattle.zf_bits.specs.Writer.{Writer}
 use Rattle.zf_spec.specs.Numbers.{field}
 use Rattle.zf_spec.specs.Planes.{code_from_run}
 use Rattle.zf_spec.proofs.Fields.{length-field}
 use Rattle.zf_planes.specs.Doubled.{doubled}
-use Rattle.zf_planes.proofs.Budgets.{Remains, Remains-start, Remains-same, Remains-fits, Remains-more, Remains-end}
+use Rattle.zf_planes.specs.Writes.{Remains}
+use Rattle.zf_planes.proofs.Budgets.{Remains-start, Remains-same, Remains-fits, Remains-more}
 use Rattle.zf_planes.proofs.Doubled.{run_goes_on}
 use Rattle.zf_planes.proofs.doubling.write_run.Goals as goal
 
 pub loop-digits-init : goal.loop-digits-init
 loop-digits-init c =
-    let prefix = c.args.prefix in
+    let prefix = c.args.part.now in
     let run = code_from_run (field c.args.most c.args.digits) in
     record {
       remains = Remains-start c.args.out.now c.args.left (field prefix.len prefix.bits ++ run) (omega (arith, c.requires.fits, length-append (field prefix.len prefix.bits) run, length-field prefix.len prefix.bits));
@@ -24,8 +25,8 @@ loop-digits-init c =
 pub overflow_sub-most : goal.overflow_sub-most
 overflow_sub-most c = let run = run_goes_on c.loop-digits.most c.loop-digits.digits c.loop-digits-test.true c.loop-digits.invariant.within in omega (arith, run.more)
 
-pub join-part-requires-clause-small : goal.join-part-requires-clause-small
-join-part-requires-clause-small c = c.loop-digits.invariant.small
+pub join-pending-requires-clause-small : goal.join-pending-requires-clause-small
+join-pending-requires-clause-small c = c.loop-digits.invariant.small
 
 -- eight digits more were put behind the bits
 joined_on : {old now : Writer} {budget left : ℕ} {all : List Bool} (most digits k v l w j x : ℕ) → 255 < digits → digits < 2 ^ most
@@ -41,14 +42,14 @@ joined_on most digits k v l w j x some within remains two joined =
 
 pub write_part-left-requires-clause-fits : goal.write_part-left-requires-clause-fits
 write_part-left-requires-clause-fits c =
-    let part = c.join-part.result in
-    omega (arith, Remains-fits (field part.len part.bits) _ (joined_on c.loop-digits.most c.loop-digits.digits _ c.loop-digits.part.bits _ c.double.result.bits _ c.join-part.result.bits c.loop-digits-test.true c.loop-digits.invariant.within c.loop-digits.invariant.remains c.double.ensures.bits c.join-part.ensures.bits), length-field part.len part.bits)
+    let part = c.join-pending.result in
+    omega (arith, Remains-fits (field part.len part.bits) _ (joined_on c.loop-digits.most c.loop-digits.digits _ c.loop-digits.pending.bits _ c.double.result.bits _ c.join-pending.result.bits c.loop-digits-test.true c.loop-digits.invariant.within c.loop-digits.invariant.remains c.double.ensures.bits c.join-pending.ensures.bits), length-field part.len part.bits)
 
-pub loop-digits-preserved-then-part-gt40 : goal.loop-digits-preserved-then-part-gt40
-loop-digits-preserved-then-part-gt40 c =
-    let part = c.join-part.result in
+pub loop-digits-preserved-then-pending-gt40 : goal.loop-digits-preserved-then-pending-gt40
+loop-digits-preserved-then-pending-gt40 c =
+    let part = c.join-pending.result in
     let run = run_goes_on c.loop-digits.most c.loop-digits.digits c.loop-digits-test.true c.loop-digits.invariant.within in
-    let written = Remains-more (field part.len part.bits) _ (joined_on c.loop-digits.most c.loop-digits.digits _ c.loop-digits.part.bits _ c.double.result.bits _ c.join-part.result.bits c.loop-digits-test.true c.loop-digits.invariant.within c.loop-digits.invariant.remains c.double.ensures.bits c.join-part.ensures.bits) c.write_part-left.ensures.bits in
+    let written = Remains-more (field part.len part.bits) _ (joined_on c.loop-digits.most c.loop-digits.digits _ c.loop-digits.pending.bits _ c.double.result.bits _ c.join-pending.result.bits c.loop-digits-test.true c.loop-digits.invariant.within c.loop-digits.invariant.remains c.double.ensures.bits c.join-pending.ensures.bits) c.write_part-left.ensures.bits in
     let spent : c.loop-digits.left - length (field part.len part.bits) ≡ c.write_part-left.result = omega (arith, length-field part.len part.bits, c.write_part-left.ensures.left) in
     record {
       remains = rw spent at written;
@@ -63,40 +64,22 @@ pub loop-digits-preserved : goal.loop-digits-preserved
 loop-digits-preserved c =
     let run = run_goes_on c.loop-digits.most c.loop-digits.digits c.loop-digits-test.true c.loop-digits.invariant.within in
     record {
-      remains = joined_on c.loop-digits.most c.loop-digits.digits _ c.loop-digits.part.bits _ c.double.result.bits _ c.join-part.result.bits c.loop-digits-test.true c.loop-digits.invariant.within c.loop-digits.invariant.remains c.double.ensures.bits c.join-part.ensures.bits;
+      remains = joined_on c.loop-digits.most c.loop-digits.digits _ c.loop-digits.pending.bits _ c.double.result.bits _ c.join-pending.result.bits c.loop-digits-test.true c.loop-digits.invariant.within c.loop-digits.invariant.remains c.double.ensures.bits c.join-pending.ensures.bits;
       some = omega (arith, c.loop-digits-test.true);
       in_word = omega (arith, c.loop-digits.invariant.in_word);
       within = run.below;
-      few = omega (arith, c.if-part-gt40.false);
-      small = c.join-part.ensures.small c.double.ensures.small;
+      few = omega (arith, c.if-pending-gt40.false);
+      small = c.join-pending.ensures.small c.double.ensures.small;
     }
 
 -- the rest of the run is in the last bits
 all_joined : {old now : Writer} {budget left : ℕ} {all : List Bool} (most digits k v l w j x : ℕ) → Remains old now budget left all (field k v ++ code_from_run (field most digits))
-    → field l w ≡ code_from_run (field most digits) → field j x ≡ field k v ++ field l w → Remains old now budget left all (field j x ++ [])
-all_joined most digits k v l w j x remains run joined =
-    Remains-same remains (ap (λ (bs : List Bool). field k v ++ bs) (sym run) ∙ sym joined ∙ sym (append-nil (field j x)))
-
-pub write_part-requires-clause-fits : goal.write_part-requires-clause-fits
-write_part-requires-clause-fits c =
-    let part = c.join.result in
-    omega (arith, Remains-fits (field part.len part.bits) [] (all_joined c.loop-digits.most c.loop-digits.digits _ c.loop-digits.part.bits _ c.short_run.result.bits _ c.join.result.bits c.loop-digits.invariant.remains c.short_run.ensures.bits c.join.ensures.bits), length-field part.len part.bits)
+    → field l w ≡ code_from_run (field most digits) → field j x ≡ field k v ++ field l w → Remains old now budget left all (field j x)
+all_joined most digits k v l w j x remains run joined = Remains-same remains (ap (λ (bs : List Bool). field k v ++ bs) (sym run) ∙ sym joined)
 
 pub returns : goal.returns
-returns c =
-    let part = c.join.result in
-    let prefix = c.args.prefix in
-    let run = code_from_run (field c.args.most c.args.digits) in
-    let all = all_joined c.loop-digits.most c.loop-digits.digits _ c.loop-digits.part.bits _ c.short_run.result.bits _ c.join.result.bits c.loop-digits.invariant.remains c.short_run.ensures.bits c.join.ensures.bits in
-    record {
-      bits = Remains-end (Remains-more (field part.len part.bits) [] all c.write_part.ensures.bits) (omega arith);
-      left = omega (
-        arith,
-        c.write_part.ensures.left,
-        all.spent,
-        length-append (field part.len part.bits) [],
-        length-field part.len part.bits,
-        length-append (field prefix.len prefix.bits) run,
-        length-field prefix.len prefix.bits,
-      );
-    }
+returns c = record {
+  code = all_joined c.loop-digits.most c.loop-digits.digits _ c.loop-digits.pending.bits _ c.short_run.result.bits _ c.join.result.bits c.loop-digits.invariant.remains c.short_run.ensures.bits c.join.ensures.bits;
+  small = c.join.ensures.small c.short_run.ensures.small;
+  len = omega (arith, c.join.ensures.len, c.short_run.ensures.len, c.loop-digits.invariant.few);
+}

@@ -1,11 +1,12 @@
-use Rattle.std.proofs.Common.{◌≡◌, ℕ, ◌+◌, ◌-◌, ◌*◌, ◌/◌, ◌%◌, ◌^◌, ◌<◌, ◌≤◌, min, Bool, true, List, [], ◌∷◌, ◌++◌, length, take, sym, ap, ◌∙◌, arith, append_assoc, append-nil, length-append}
+use Rattle.std.proofs.Common.{◌≡◌, ℕ, ◌+◌, ◌-◌, ◌*◌, ◌/◌, ◌%◌, ◌^◌, ◌<◌, ◌≤◌, min, Bool, true, List, [], ◌∷◌, ◌++◌, length, take, sym, ap, ◌∙◌, arith, append_assoc, length-append}
 use Rattle.std.proofs.lemmas.Nat.{one_shl}
 use Rattle.zf_spec.specs.Numbers.{field}
 use Rattle.zf_spec.specs.Planes.{code_from_run, plane_code}
 use Rattle.zf_spec.proofs.Fields.{length-field, field-mod}
 use Rattle.zf_bits.specs.Writer.{Writer, Appends}
 use Rattle.zf_bits.proofs.Appending.{Appends-same}
-use Rattle.zf_planes.proofs.Budgets.{Remains, Remains-start, Remains-same, Remains-more, Remains-end}
+use Rattle.zf_planes.specs.Writes.{Remains}
+use Rattle.zf_planes.proofs.Budgets.{Remains-but, Remains-whole, Remains-start, Remains-same, Remains-more}
 use Rattle.zf_planes.proofs.Doubled.{plane_with, rest_small}
 use Rattle.zf_planes.proofs.doubling.write_with.Goals as goal
 
@@ -41,27 +42,15 @@ write_run-requires-clause-fits c =
 
 pub returns-then-part-n-lt40 : goal.returns-then-part-n-lt40
 returns-then-part-n-lt40 c =
-    let part = c.args.part in
+    let part = c.args.part.now in
     let all = c.join-then-part-n-lt40.result in
-    let run = code_from_run (field (c.args.size - c.args.n) (c.args.digits / 2 ^ c.args.n)) in
-    let code = plane_code c.args.n (field c.args.size c.args.digits) in
     record {
-      bits =
-          Appends-same c.write_run.ensures.bits
-          (ap (take c.args.left)
+      code =
+          Remains-whole c.write_run.ensures.code
           (joined c.args.size c.args.n c.args.digits part.len part.bits c.join.result.len c.join.result.bits all.len all.bits
-          c.requires.in_plane c.requires.size c.requires.some c.requires.digits c.join.ensures.bits c.join-then-part-n-lt40.ensures.bits));
-      left = omega (
-        arith,
-        c.write_run.ensures.left,
-        with_long c.args.size c.args.n c.args.digits c.requires.in_plane c.requires.some c.requires.digits,
-        c.join.ensures.len,
-        c.join-then-part-n-lt40.ensures.len,
-        length-append (field all.len all.bits) run,
-        length-field all.len all.bits,
-        length-append (field part.len part.bits) code,
-        length-field part.len part.bits,
-      );
+          c.requires.in_plane c.requires.size c.requires.some c.requires.digits c.join.ensures.bits c.join-then-part-n-lt40.ensures.bits);
+      small = c.write_run.ensures.small;
+      len = c.write_run.ensures.len;
     }
 
 -- ---- one after another
@@ -86,7 +75,7 @@ pub write_part-left-requires-2-clause-fits : goal.write_part-left-requires-2-cla
 write_part-left-requires-2-clause-fits c =
     let n = c.args.n in
     let v = c.args.digits in
-    let remains = flushed c.args.left c.write_part-left.result c.args.size n v c.args.part.len c.args.part.bits c.requires.in_plane c.requires.some c.requires.digits c.requires.fits c.write_part-left.ensures.bits c.write_part-left.ensures.left in
+    let remains = flushed c.args.left c.write_part-left.result c.args.size n v c.args.part.now.len c.args.part.now.bits c.requires.in_plane c.requires.some c.requires.digits c.requires.fits c.write_part-left.ensures.bits c.write_part-left.ensures.left in
     omega (arith, remains.fits, length-append (field n v) (true ∷ code_from_run (field (c.args.size - n) (v / 2 ^ n))), length-field n v)
 
 pub write_run-requires-2-clause-within : goal.write_run-requires-2-clause-within
@@ -96,7 +85,7 @@ pub write_run-requires-2-clause-fits : goal.write_run-requires-2-clause-fits
 write_run-requires-2-clause-fits c =
     let n = c.args.n in
     let v = c.args.digits in
-    let remains = flushed c.args.left c.write_part-left.result c.args.size n v c.args.part.len c.args.part.bits c.requires.in_plane c.requires.some c.requires.digits c.requires.fits c.write_part-left.ensures.bits c.write_part-left.ensures.left in
+    let remains = flushed c.args.left c.write_part-left.result c.args.size n v c.args.part.now.len c.args.part.now.bits c.requires.in_plane c.requires.some c.requires.digits c.requires.fits c.write_part-left.ensures.bits c.write_part-left.ensures.left in
     let rest = begun c.args.left c.write_part-left.result c.write_part-left-2.result c.args.size n v (omega (arith, c.requires.in_plane, c.requires.size)) remains c.write_part-left-2.ensures.bits c.write_part-left-2.ensures.left in
     omega (arith, rest.fits)
 
@@ -104,22 +93,9 @@ pub returns : goal.returns
 returns c =
     let n = c.args.n in
     let v = c.args.digits in
-    let part = c.args.part in
-    let code = code_from_run (field (c.args.size - n) (v / 2 ^ n)) in
-    let run = true ∷ code in
+    let part = c.args.part.now in
+    let last = c.write_run-2.new.part in
+    let run = true ∷ code_from_run (field (c.args.size - n) (v / 2 ^ n)) in
     let remains = flushed c.args.left c.write_part-left.result c.args.size n v part.len part.bits c.requires.in_plane c.requires.some c.requires.digits c.requires.fits c.write_part-left.ensures.bits c.write_part-left.ensures.left in
     let rest = begun c.args.left c.write_part-left.result c.write_part-left-2.result c.args.size n v (omega (arith, c.requires.in_plane, c.requires.size)) remains c.write_part-left-2.ensures.bits c.write_part-left-2.ensures.left in
-    record {
-      bits = Remains-end (Remains-more run [] (Remains-same rest (sym (append-nil run))) c.write_run-2.ensures.bits) (omega arith);
-      left = omega (
-        arith,
-        c.write_part-left.ensures.left,
-        c.write_part-left-2.ensures.left,
-        c.write_run-2.ensures.left,
-        length-append (field 1 1) code,
-        length-field 1 1,
-        with_long c.args.size n v c.requires.in_plane c.requires.some c.requires.digits,
-        length-append (field part.len part.bits) (plane_code n (field c.args.size v)),
-        length-field part.len part.bits,
-      );
-    }
+    record { code = Remains-but run (field last.len last.bits) rest c.write_run-2.ensures.code; small = c.write_run-2.ensures.small; len = c.write_run-2.ensures.len }

@@ -1,7 +1,7 @@
 -- The digits from rank `at` on remain to be written.
 use Rattle.std.proofs.Common.{◌-◌, ◌≤◌, drop}
 use Rattle.zf_spec.specs.HeldPlanes.{digits_held}
-use Rattle.zf_planes.proofs.Budgets.{Remains}
+use Rattle.zf_planes.specs.Writes.{Remains}
 use Rattle.zf_planes.proofs.encoding.write_digits.Given as goal
 
 abbrev pub invariant-loop-at : goal.invariant-loop-at

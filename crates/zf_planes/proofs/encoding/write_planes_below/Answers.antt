@@ -4,7 +4,8 @@ use Rattle.zf_spec.specs.Planes.{code, code_from, plane_code, reach}
 use Rattle.zf_bits.specs.Writer.{Writer, Appends}
 use Rattle.zf_spec.specs.Numbers.{field}
 use Rattle.zf_spec.specs.HeldPlanes.{planes_held, digits_held}
-use Rattle.zf_planes.proofs.Budgets.{Remains, Remains-start, Remains-same, Remains-fits, Remains-more, Remains-end}
+use Rattle.zf_planes.specs.Writes.{Remains}
+use Rattle.zf_planes.proofs.Budgets.{Remains-start, Remains-same, Remains-fits, Remains-more, Remains-end}
 use Rattle.zf_planes.proofs.Lengths.{length-code_words-le}
 use Rattle.zf_spec.proofs.Fields.{field-zero}
 use Rattle.zf_bits.proofs.Appending.{Appends-same}

@@ -2,7 +2,7 @@
 use Rattle.std.proofs.Common.{map, ◌-◌, ◌≤◌, take, drop}
 use Rattle.zf_spec.specs.Planes.{code, code_from}
 use Rattle.zf_spec.specs.HeldPlanes.{planes_held}
-use Rattle.zf_planes.proofs.Budgets.{Remains}
+use Rattle.zf_planes.specs.Writes.{Remains}
 use Rattle.zf_planes.proofs.encoding.write_planes_below.Given as goal
 
 abbrev pub invariant-loop-i : goal.invariant-loop-i

@@ -7,7 +7,8 @@ use Rattle.zf_spec.specs.HeldPlanes.{digits_held}
 use Rattle.zf_spec.proofs.HeldPlanes.{length-digits_held}
 use Rattle.zf_bits.specs.Writer.{Writer, Appends}
 use Rattle.zf_bits.proofs.Appending.{Appends-same}
-use Rattle.zf_planes.proofs.Budgets.{Remains, Remains-start, Remains-same, Remains-fits, Remains-more, Remains-bit, Remains-end}
+use Rattle.zf_planes.specs.Writes.{Remains}
+use Rattle.zf_planes.proofs.Budgets.{Remains-start, Remains-same, Remains-fits, Remains-more, Remains-bit, Remains-end}
 use Rattle.zf_planes.proofs.Digits.{next_one, split_at_next, held_part}
 use Rattle.zf_planes.proofs.Runs.{tail_none, tail_run_at, tail_some, has_one-drop, has_one-drop_none}
 use Rattle.zf_planes.proofs.Zeros.{run_of_plane}

@@ -2,7 +2,7 @@
 use Rattle.std.proofs.Common.{◌-◌, ◌≤◌, drop}
 use Rattle.zf_spec.specs.Planes.{tail}
 use Rattle.zf_spec.specs.HeldPlanes.{digits_held}
-use Rattle.zf_planes.proofs.Budgets.{Remains}
+use Rattle.zf_planes.specs.Writes.{Remains}
 use Rattle.zf_planes.proofs.encoding.write_tail.Given as goal
 
 abbrev pub invariant-loop-n : goal.invariant-loop-n

@@ -2,7 +2,7 @@
 use Rattle.std.proofs.Common.{◌≡◌, ◌≤◌, max}
 use Rattle.zf_spec.specs.Planes.{code_from, reach_of_all}
 use Rattle.zf_planes.specs.Fours.{string_planes}
-use Rattle.zf_planes.proofs.Budgets.{Remains}
+use Rattle.zf_planes.specs.Writes.{Remains}
 use Rattle.zf_planes.proofs.four_writing.write_rest.Given as goal
 
 abbrev pub invariant-loop-planes : goal.invariant-loop-planes

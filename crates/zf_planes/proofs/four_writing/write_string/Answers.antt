@@ -4,7 +4,8 @@ use Rattle.zf_spec.specs.Planes.{code_from}
 use Rattle.zf_spec.proofs.Fields.{length-field}
 use Rattle.zf_bits.specs.Writer.{Writer, Appends}
 use Rattle.zf_planes.specs.Fours.{string_planes}
-use Rattle.zf_planes.proofs.Budgets.{Remains, Remains-start, Remains-same, Remains-fits, Remains-more, Remains-end}
+use Rattle.zf_planes.specs.Writes.{Remains}
+use Rattle.zf_planes.proofs.Budgets.{Remains-start, Remains-same, Remains-fits, Remains-more, Remains-end}
 use Rattle.zf_planes.proofs.four_writing.write_string.Goals as goal
 
 pub write_part-left-requires-clause-fits : goal.write_part-left-requires-clause-fits

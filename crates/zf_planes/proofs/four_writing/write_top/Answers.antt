@@ -6,7 +6,8 @@ use Rattle.zf_spec.specs.Planes.{code_from, reach_of_all}
 use Rattle.zf_bits.specs.Writer.{Writer}
 use Rattle.zf_planes.specs.Fours.{string_planes}
 use Rattle.zf_planes.specs.Spread.{top_digit, top_planes, lone_planes, lone_code}
-use Rattle.zf_planes.proofs.Budgets.{Remains, Remains-start, Remains-same, Remains-fits, Remains-more, Remains-end}
+use Rattle.zf_planes.specs.Writes.{Remains}
+use Rattle.zf_planes.proofs.Budgets.{Remains-start, Remains-same, Remains-fits, Remains-more, Remains-end}
 use Rattle.zf_planes.proofs.Strings.{code_from-append, reach_of_string-le, Remains-above}
 use Rattle.zf_planes.proofs.TopPlanes.{below, string-split, top_planes-sizes, no_top_planes}
 use Rattle.zf_planes.proofs.Lone.{lone_first}

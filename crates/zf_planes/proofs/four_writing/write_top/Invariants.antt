@@ -2,7 +2,7 @@
 use Rattle.std.proofs.Common.{◌≤◌}
 use Rattle.zf_spec.specs.Planes.{code_from}
 use Rattle.zf_planes.specs.Spread.{top_planes}
-use Rattle.zf_planes.proofs.Budgets.{Remains}
+use Rattle.zf_planes.specs.Writes.{Remains}
 use Rattle.zf_planes.proofs.four_writing.write_top.Given as goal
 
 abbrev pub invariant-loop-planes : goal.invariant-loop-planes

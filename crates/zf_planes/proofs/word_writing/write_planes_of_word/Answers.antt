@@ -4,7 +4,7 @@ use Rattle.zf_spec.specs.Numbers.{field}
 use Rattle.zf_spec.specs.Planes.{plane_code, code_from, reach}
 use Rattle.zf_spec.specs.HeldPlanes.{planes_held}
 use Rattle.zf_spec.proofs.Fields.{length-field}
-use Rattle.zf_planes.proofs.Budgets.{Remains-same, Remains-fits, Remains-more, Remains-end}
+use Rattle.zf_planes.proofs.Budgets.{Remains-through, Remains-same, Remains-fits, Remains-more, Remains-end}
 use Rattle.zf_planes.proofs.Unpacking.{length-top_held}
 use Rattle.zf_planes.proofs.PlainPlanes.{next_word}
 use Rattle.zf_planes.proofs.word_writing.write_planes_of_word.Given.{Over}
@@ -73,17 +73,18 @@ loop-i-preserved g c =
     let rest = drop (c.loop-i.i + 1) (take c.args.prec (planes_held c.args.size (map g.P.Plane.words c.args.planes.now))) in
     let next = next_word g.P.Plane.words c.loop-i.above c.args.prec c.args.size c.loop-i.i part.len part.bits c.first_word-digits.result c.args.planes.now c.index-planes-planes.result c.loop-i.invariant.remains
     c.index-planes-planes.is c.loop-i-test.true c.requires.planes c.first_word-digits.ensures.digits in
-    let written = Remains-more (field part.len part.bits ++ code) _ (Remains-same next (sym (append_assoc (field part.len part.bits) code _))) c.write_with-left.ensures.bits in
-    let spent : c.loop-i.left - length (field part.len part.bits ++ code) ≡ c.write_with-left.result =
-    omega (arith, c.write_with-left.ensures.left, length-append (field part.len part.bits) code, length-field part.len part.bits) in
+    let new = c.write_with-left.new.part in
     let top : c.max-above.result ≡ max c.loop-i.above c.reach_in-end.result = omega (arith, c.max-above.ensures) in
     let reached : max c.loop-i.above (reach ds) ≡ c.max-above.result = omega (arith, ap reach c.first_word-digits.ensures.digits, c.reach_in-end.ensures.value, top) in
     record {
-      remains = Remains-same (rw spent at written) (ap (λ n. code_from n rest) reached);
+      remains =
+          Remains-same
+          (Remains-through (field part.len part.bits ++ code) (field new.len new.bits) _ (Remains-same next (sym (append_assoc (field part.len part.bits) code _))) c.write_with-left.ensures.code)
+          (ap (λ n. field new.len new.bits ++ code_from n rest) reached);
       above = omega (arith, c.loop-i.invariant.above, c.reach_in-end.ensures.bound, top);
       place = omega (arith, c.loop-i-test.true);
-      small = omega arith;
-      in_word = omega arith;
+      small = c.write_with-left.ensures.small;
+      in_word = c.write_with-left.ensures.len;
     }
 
 -- ---- no bit or no plane is left

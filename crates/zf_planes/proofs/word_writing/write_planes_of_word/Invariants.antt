@@ -3,7 +3,7 @@ use Rattle.std.proofs.Common.{map, ◌-◌, ◌^◌, ◌<◌, ◌≤◌, ◌++�
 use Rattle.zf_spec.specs.Numbers.{field}
 use Rattle.zf_spec.specs.Planes.{code_from}
 use Rattle.zf_spec.specs.HeldPlanes.{planes_held}
-use Rattle.zf_planes.proofs.Budgets.{Remains}
+use Rattle.zf_planes.specs.Writes.{Remains}
 use Rattle.zf_planes.proofs.word_writing.write_planes_of_word.Given as goal
 
 abbrev pub invariant-loop-i : goal.invariant-loop-i
