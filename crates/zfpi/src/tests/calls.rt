@@ -32,8 +32,9 @@ pub const BYTES: Devices = Devices { piece: 1, ..WHOLE };
 
 pub const UNREADABLE: Devices = Devices { read: 0, ..WHOLE };
 
-/// Both kinds of devices that never fail, for calls that do the same on each. (A table is a `static`: the proof
-/// of a function that names a `const` goes over all that stands in it.)
+/// Both kinds of devices that never fail, for calls that do the same on each.
+///
+/// Tables are statics: a constant's rows can become steps of the test that names it, and be proved as such.
 pub static BOTH: [Devices; 2] = [WHOLE, BYTES];
 
 /// A call of the program on a shelf that holds `file` as `a`, and how it ends: the status, what is written,

@@ -10,8 +10,8 @@ use std::alloc::{AllocError, Global};
 use std::test::Fail;
 use zf_dev::{Failed, LoadError, MemSink, MemSource, Shelf};
 
-// Words, whether the values are zeros in place of squares, what the stream begins with, its length, and whether
-// the values come back as they were. Behind a beginning that is named all is zero.
+// Words, whether the values are zeros in place of squares, what the stream begins with, its length, and
+// whether the values come back as they were. Behind a beginning that is named all is zero.
 type Large = (&'static str, bool, &'static [u8], usize, bool);
 
 static LARGE: [Large; 5] = [
