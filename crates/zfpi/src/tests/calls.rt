@@ -32,6 +32,11 @@ pub const BYTES: Devices = Devices { piece: 1, ..WHOLE };
 
 pub const UNREADABLE: Devices = Devices { read: 0, ..WHOLE };
 
+/// Both kinds of devices that never fail, for calls that do the same on each.
+///
+/// Tables are statics: a constant's rows can become steps of the test that names it, and be proved as such.
+pub static BOTH: [Devices; 2] = [WHOLE, BYTES];
+
 /// A call of the program on a shelf that holds `file` as `a`, and how it ends: the status, what is written,
 /// the error line, and the file `a` then.
 #[derive(Clone, Copy)]
@@ -70,6 +75,11 @@ impl Ended {
             && self.src.ends() <= 1
     }
 
+    /// Whether the work was done, with no line on the error output.
+    pub fn is_quiet(&self) -> bool {
+        self.status == Status::Done && self.err.bytes().is_empty()
+    }
+
     /// How many calls of the devices failed.
     pub fn faults(&self) -> u64 {
         let streams = self.src.faults().saturating_add(self.out.faults());
@@ -81,6 +91,15 @@ impl Ended {
 // The other file of the shelf, which no command is to touch.
 const KEPT: &[u8] = b"abc";
 
+/// The words of a line.
+pub fn words_of(alloc: Global, line: &str) -> Result<Vec<String>, AllocError> {
+    let mut all = Vec::new(alloc);
+    for word in line.split_whitespace() {
+        all.push(String::from_str(alloc, word)?)?;
+    }
+    Ok(all)
+}
+
 /// Calls the program on a shelf that holds this file as `a`.
 pub fn call(
     alloc: Global,
@@ -89,10 +108,7 @@ pub fn call(
     file: &[u8],
     devices: &Devices,
 ) -> Result<Ended, AllocError> {
-    let mut all = Vec::new(alloc);
-    for word in words.split_whitespace() {
-        all.push(String::from_str(alloc, word)?)?;
-    }
+    let all = words_of(alloc, words)?;
     let piece = devices.piece.max(1);
     let bytes = Vec::from_slice(alloc, input)?;
     let mut src = MemSource::new(bytes, [devices.read].to_vec(alloc)?, piece);
@@ -109,6 +125,13 @@ pub fn call(
         err,
         shelf,
     })
+}
+
+/// These bytes, and zeros behind them up to this length.
+pub fn padded(alloc: Global, prefix: &[u8], len: usize) -> Result<Vec<u8>, AllocError> {
+    let mut bytes = Vec::from_slice(alloc, prefix)?;
+    bytes.resize(len, 0)?;
+    Ok(bytes)
 }
 
 /// Whether a call ends as its row says, on these devices.

@@ -1,6 +1,6 @@
 //! Damage and failing devices: calls that differ in one number, which goes over a range.
 
-use super::calls::{Devices, Ended, NEVER, WHOLE, call};
+use super::calls::{Devices, Ended, NEVER, call, padded};
 use super::known::{FILLED, LONG, ONE, UNUSED, ZERO, ZEROS};
 use crate::status::Status;
 use std::alloc::{AllocError, Global};
@@ -58,7 +58,7 @@ macro_rules! cases {
     };
 }
 
-const CASES: [Case; 14] = cases! {
+static CASES: [Case; 14] = cases! {
     // A cut stream says where it ends.
     "restore", ONE, 0, ZEROS, 1000, Change::Input, 0 => &[(11, Status::Header(HeaderFault::Short)),
         (16, Status::Truncated(0)), (23, Status::Truncated(1)), (24, Status::Done)], b"\x01\0\0\0", 17, 0;
@@ -119,8 +119,11 @@ fn cut<'a>(bytes: &'a [u8], case: &Case, part: Change, number: u64) -> &'a [u8] 
 
 // Whether the call of this number ends with this status, and the devices hold what they should then.
 fn ends_so(alloc: Global, case: &Case, number: u64, status: Status) -> Result<bool, AllocError> {
-    let mut whole = Vec::from_slice(alloc, case.input)?;
-    whole.resize(case.input.len().saturating_add(case.zeros), 0)?;
+    let whole = padded(
+        alloc,
+        case.input,
+        case.input.len().saturating_add(case.zeros),
+    )?;
     let input = cut(&whole, case, Change::Input, number);
     let file = cut(case.file, case, Change::File, number);
     let devices = Devices {

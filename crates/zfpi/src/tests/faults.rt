@@ -27,7 +27,7 @@ macro_rules! rows {
 }
 
 // Devices of which one call fails.
-const FAULTS: [(Devices, Row); 23] = rows! {
+static FAULTS: [(Devices, Row); 23] = rows! {
     Devices { read: 0, ..WHOLE }, ZEROS, "run a lines 1", b"set 0 1\nget 0\nflush\nget 0\nstats\n" =>
         Status::ReadFault, b"", b"zfpi: read fault\n";
     Devices { write: 1, ..WHOLE }, ZEROS, "run a lines 1", b"set 0 1\nget 0\nflush\nget 0\nstats\n" =>
@@ -85,7 +85,7 @@ fn a_device_that_fails_is_told(rt: HostRuntime) -> Result<(), Fail> {
 }
 
 // Input that is refused. What is written is a prefix of what the row says.
-const REFUSALS: [(Devices, Row); 25] = rows! {
+static REFUSALS: [(Devices, Row); 25] = rows! {
     WHOLE, OTHER, "compress int32 2 reversible", b"\0\0\0" => Status::RawShort(3),
         b"zfp\x05\x10\0\0\0\0\0\0\x88\0\0\0\0", b"zfpi: input ends after 3 bytes\n";
     WHOLE, OTHER, "compress int32 2 reversible", b"\0\0\0\0\0\0\0\0\0" => Status::RawLong,

@@ -22,7 +22,7 @@ macro_rules! rows {
 }
 
 // Files that are no array of this command, and names of none.
-const FILES: [Row; 26] = rows! {
+static FILES: [Row; 26] = rows! {
     "run a", ZERO => Status::NotRate(2176), b"", b"zfpi: mode 2176 has no cached array\n";
     "run a", b"zfp\x05\x30\0\0\0\0\0\0\x80\x03\0\0\0" => Status::NotRate(2048), b"",
         b"zfpi: mode 2048 has no cached array\n";
@@ -82,7 +82,7 @@ fn files_that_are_no_array_are_left_alone(rt: HostRuntime) -> Result<(), Fail> {
 }
 
 // Bounds and samples.
-const SUMS: [Row; 17] = rows! {
+static SUMS: [Row; 17] = rows! {
     "bound a 100", SMALL => Status::Done, b"plane 0 bound 4\n", b"";
     "bound a 3", b"zfp\x05\x34\0\0\x30\0\0\xf0\x07\0\0\0`\x05\0\0\0\0\0\0\0\0\0\0\0\0\0\0\0" =>
         Status::Done, b"plane 0 bound 20\n", b"";

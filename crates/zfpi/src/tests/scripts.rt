@@ -1,6 +1,6 @@
 //! Scripts: `run` over one line or two for a block, and `look`.
 
-use super::calls::{BYTES, Row, WHOLE, ends_so};
+use super::calls::{BOTH, Row, ends_so};
 use super::known::{SIXTEEN, TWO, UNUSED, ZEROS};
 use crate::status::Status;
 use std::test::Fail;
@@ -36,7 +36,7 @@ macro_rules! scripts {
     };
 }
 
-const SCRIPTS: [Row; 29] = scripts! {
+static SCRIPTS: [Row; 29] = scripts! {
     ZEROS, "run a lines 1", b"set 0 1\nget 0\nflush\nget 0\nstats\n" => Status::Done,
         b"1\n0\nhits 1 misses 2 writes 1\n", b"", ZEROS;
     ZEROS, "run a lines 1", b"set 0 1\nget 4\nget 0" => Status::Done, b"0\n0\n", b"", ZEROS;
@@ -118,7 +118,7 @@ const SCRIPTS: [Row; 29] = scripts! {
 #[test]
 fn scripts_are_answered_and_the_array_is_saved(rt: HostRuntime) -> Result<(), Fail> {
     for row in SCRIPTS.iter() {
-        for devices in [WHOLE, BYTES].iter() {
+        for devices in BOTH.iter() {
             assert!(rt; ends_so(rt.alloc(), row, devices)?);
         }
     }

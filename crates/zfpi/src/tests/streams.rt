@@ -1,8 +1,7 @@
 //! `compress`, `restore` and `info`, and the files of `new`: the worked rows of their documentation.
 
-use super::calls::{BYTES, WHOLE, call};
+use super::calls::{BOTH, WHOLE, call, padded};
 use super::known::{ONE, OTHER, ZERO};
-use crate::status::Status;
 use std::test::Fail;
 
 type Stream = (&'static str, &'static [u8], &'static [u8], usize);
@@ -14,7 +13,7 @@ macro_rules! streams {
     };
 }
 
-const STREAMS: [Stream; 39] = streams! {
+static STREAMS: [Stream; 39] = streams! {
     "compress int32 4 precision 32", b"\x01\0\0\0\x02\0\0\0\x03\0\0\0\x04\0\0\0" =>
         b"zfp\x05\x30\0\0\0\0\0\xf0\x81\0\0\0`'\0\0\0\0\0\0\0", 0;
     "compress int32 4 precision 1", b"\0\0\0\xc0\0\0\0\xc0\0\0\0\xc0\0\0\0\xc0" =>
@@ -79,11 +78,14 @@ const STREAMS: [Stream; 39] = streams! {
 #[test]
 fn values_and_streams_become_each_other(rt: HostRuntime) -> Result<(), Fail> {
     for (words, input, out, left) in STREAMS.iter() {
-        for devices in [WHOLE, BYTES].iter() {
+        for devices in BOTH.iter() {
             let ended = call(rt.alloc(), words, input, OTHER, devices)?;
-            assert!(rt; ended.status == Status::Done && ended.out.bytes() == *out);
-            assert!(rt; ended.err.bytes().is_empty() && ended.src.left().len() == *left);
-            assert!(rt; ended.holds(OTHER));
+            assert!(rt;
+                ended.is_quiet()
+                    && ended.holds(OTHER)
+                    && ended.out.bytes() == *out
+                    && ended.src.left().len() == *left
+            );
         }
     }
     Ok(())
@@ -96,7 +98,7 @@ macro_rules! files {
     };
 }
 
-const FILES: [(&str, &str, &[u8], usize); 10] = files! {
+static FILES: [(&str, &str, &[u8], usize); 10] = files! {
     "new a int32 8 64", "a", b"zfp\x05p\0\0\0\0\0\xf0\x03" => 32;
     "new a int32 8 65", "a", b"zfp\x05p\0\0\0\0\0\0\x04" => 32;
     "new kept int32 8 1", "kept", b"zfp\x05p" => 16;
@@ -113,10 +115,8 @@ const FILES: [(&str, &str, &[u8], usize); 10] = files! {
 fn new_saves_zeros(rt: HostRuntime) -> Result<(), Fail> {
     for (words, name, prefix, len) in FILES.iter() {
         let ended = call(rt.alloc(), words, b"", b"before", &WHOLE)?;
-        let mut file = Vec::from_slice(rt.alloc(), prefix)?;
-        file.resize(*len, 0)?;
-        assert!(rt; ended.status == Status::Done && ended.err.bytes().is_empty());
-        assert!(rt; ended.shelf.file(name) == Some(file.as_slice()));
+        let file = padded(rt.alloc(), prefix, *len)?;
+        assert!(rt; ended.is_quiet() && ended.shelf.file(name) == Some(file.as_slice()));
     }
     Ok(())
 }

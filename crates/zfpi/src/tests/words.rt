@@ -1,12 +1,12 @@
 //! Words that are no command.
 
-use super::calls::{Devices, WHOLE, call};
+use super::calls::{Devices, Ended, WHOLE, call};
 use super::known::ZEROS;
 use crate::status::Status;
 use std::test::Fail;
 
 // The words, and how many of them begin a command.
-const WORDS: [(&str, u64); 81] = [
+static WORDS: [(&str, u64); 81] = [
     ("", 0),
     ("frob", 0),
     ("compress int32 0 reversible", 2),
@@ -105,14 +105,26 @@ const FAILING: Devices = Devices {
 
 const SCRIPT: &[u8] = b"set 0 9\nget 0\n";
 
+impl Ended {
+    // Whether no device but the error output was used.
+    fn is_untouched(&self) -> bool {
+        self.src.left() == SCRIPT
+            && self.out.bytes().is_empty()
+            && self.faults() == 0
+            && self.holds(ZEROS)
+    }
+}
+
 #[test]
 fn other_words_are_no_command(rt: HostRuntime) -> Result<(), Fail> {
     for (words, number) in WORDS.iter() {
         let ended = call(rt.alloc(), words, SCRIPT, ZEROS, &FAILING)?;
         let line = format!(in rt.alloc(); "zfpi: usage: word {number}\n")?;
-        assert!(rt; ended.status == Status::Usage(*number) && ended.err.bytes() == line.as_bytes());
-        assert!(rt; ended.src.left() == SCRIPT && ended.out.bytes().is_empty());
-        assert!(rt; ended.faults() == 0 && ended.holds(ZEROS));
+        assert!(rt;
+            ended.status == Status::Usage(*number)
+                && ended.err.bytes() == line.as_bytes()
+                && ended.is_untouched()
+        );
     }
     Ok(())
 }
