@@ -234,8 +234,7 @@ module _ {X : Type 0} (value : X → ℤ) (w : Width) (d : ℕ) (s : Stored) (c 
     module _ (r : List X) (is_r : r ≡ part (line_at c.lines (line_of c b)) a n) where
       pub ends_as : (ws : List X) → held_by value s (record c { lines = rows.with_part c.lines (line_of c b) a n ws }) ≡ with_part now b a n (map value (over r ws))
       ends_as ws =
-          let S = state_of value c (format_of s) (code_at s) in
-          let made = ap (array_of s.header) ((written ws).state ∙ ap (with_values S b) (over_is value (format_of s) b (line_at c.lines (line_of c b)) a n row_whole row_within ws)) in
+          let made = ap (array_of s.header) ((written ws).state ∙ ap (with_values _ b) (over_is value (format_of s) b (line_at c.lines (line_of c b)) a n row_whole row_within ws)) in
           let End = λ (h : Header) (u : State (List Bool)) (f : Format (List Bool)) (vs : List ℤ) (q : List X). array_of h (with_values u b (existing_of f b (spliced vs a n (map value (over q ws))))) in
           made
           ∙ (λ i. End (sym (header_now value w d s c room joined now is) i) (sym (state_now value w d s c room joined now is) i) (sym (format_now value w d s c room joined now is) i) (sym values_are i) (sym is_r i))
@@ -257,8 +256,7 @@ module _ {X : Type 0} (value : X → ℤ) (w : Width) (d : ℕ) (s : Stored) (c 
     state_spliced vs =
         let below : b < blocks now.header.shape = subst (λ (h : Header). b < blocks h.shape) (sym (header_now value w d s c room joined now is)) (in_array value s c joined.count joined.fits (line_of c b) b names_b) in
         let bounded = subst (λ (h : Header). IsBounded h (state now)) (sym (header_now value w d s c room joined now is)) (subst (λ (u : State (List Bool)). IsBounded s.header u) (sym (state_now value w d s c room joined now is)) bounded_of) in
-        let values = existing_of (format now) b (spliced ((state now).values b) a n vs) in
-        state_array now.header (with_values (state now) b values) (bounded_values now.header (state now) b values below bounded)
+        state_array now.header (with_values (state now) b _) (bounded_values now.header (state now) b _ below bounded)
 
 pub header_block : (now : Held) (b : ℕ) (vs : List ℤ) → (with_block now b vs).header ≡ now.header
 unfolding array_of

@@ -2,7 +2,6 @@
 use Rattle.std.proofs.Common.{◌≡◌, refl, sym, ap, ◌∙◌, ℕ, zero, suc, ◌+◌, ◌-◌, ◌*◌, ◌^◌, ◌<◌, ◌≤◌, Bool, true, false, arith, pow-suc}
 use Rattle.std.proofs.Math.Pow.{pow_mono}
 use Rattle.zf_cached.specs.Changes.{first_doubled}
-use Rattle.zf_cache.specs.Kept.{IsLineCount}
 
 module _ (test : ℕ → Bool) where
   pub stops : (n p : ℕ) → test p ≡ true → first_doubled test n p ≡ p
@@ -15,9 +14,6 @@ module _ (test : ℕ → Bool) where
   -- after i doublings p is looked at, and no number before it has passed
   abbrev pub Tried : ℕ → ℕ → Type 0
   Tried i p = (first_doubled test 16 1 ≡ first_doubled test (16 - i) p) × (p ≡ 2 ^ i) × (p ≤ 2 ^ 16)
-
-  pub tried_none : Tried 0 1
-  tried_none = (refl, refl, omega arith)
 
   pub tried_more : (i p : ℕ) → Tried i p → i < 16 → test p ≡ false → Tried (i + 1) (p * 2)
   tried_more i p h lt e =
@@ -34,6 +30,3 @@ module _ (test : ℕ → Bool) where
 
   pub ends : (i p : ℕ) → Tried i p → 16 ≤ i → first_doubled test 16 1 ≡ p
   ends i p h past = let none : 16 - i ≡ 0 = omega arith in h.0 ∙ ap (λ k. first_doubled test k p) none
-
-  pub is_count : (i p : ℕ) → Tried i p → i ≤ 16 → IsLineCount p
-  is_count i p h le = (i, le, h.1)

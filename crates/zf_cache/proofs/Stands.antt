@@ -8,12 +8,13 @@ use Rattle.zf_base.proofs.Formats.{with_at-same, with_at-other, encoded-existing
 use Rattle.zf_cached.specs.State.{Counts, State, is_block, risen}
 use Rattle.zf_cached.specs.Touch.{write_back, write_back_dirty, write_back_line, soiled, with_values}
 use Rattle.zf_cached.proofs.States.{same_state}
+use Rattle.zf_cached.proofs.Caching.{is_block-some}
 use Rattle.zf_lines.specs.Rows.{line_at}
 use Rattle.zf_cache.specs.Kept.{IsIn, IsAway, tag_at, block_in, clean_tag, dirty_tag, dirty_of}
 use Rattle.zf_cache.specs.Rules.{IsRule, one_line}
 use Rattle.zf_cache.specs.Standing.{evicted}
 use Rattle.zf_cache.specs.Steps.{taken_in}
-use Rattle.zf_cache.proofs.Tags.{even, same_or_not, is_or_not, names, named, names-clean, names-dirty, is_block-same, is_block-other, dirty_of-some, dirty_of-none, tag-set_same, tag-set_other}
+use Rattle.zf_cache.proofs.Tags.{even, same_or_not, is_or_not, names, named, names-clean, names-dirty, is_block-other, dirty_of-some, dirty_of-none, tag-set_same, tag-set_other}
 
 -- ---- the definitions of write-back, case by case
 
@@ -68,7 +69,7 @@ module _ (place : ℕ → List ℕ → ℕ → ℕ) {X Code : Type 0} (value : X
   -- a block that is in line l: its values, and whether it is dirty
   pub vals-in : (lines : List (List X)) (tags : List ℕ) (k : ℕ → Code) (b l : ℕ) → place n tags b ≡ l → IsIn tags l b → vals lines tags k b ≡ in_line lines l b
   vals-in lines tags k b l at is =
-      ap (λ (t : Bool). elim t [ true ↦ in_line lines (place n tags b) b | false ↦ meant f b (k b) ]) (is_block-same _ b (ap (λ j. block_in (tag_at tags j)) at ∙ is))
+      ap (λ (t : Bool). elim t [ true ↦ in_line lines (place n tags b) b | false ↦ meant f b (k b) ]) (is_block-some _ b (ap (λ j. block_in (tag_at tags j)) at ∙ is))
       ∙ ap (λ j. in_line lines j b) at
 
   pub dirty-in : (tags : List ℕ) (b l : ℕ) → place n tags b ≡ l → soiled_in tags b ≡ (tag_at tags l == dirty_tag b)

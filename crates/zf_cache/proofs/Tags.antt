@@ -1,5 +1,5 @@
 -- What tags name.
-use Rattle.std.proofs.Common.{◌≡◌, ◌≢◌, ◌⊎◌, inl, inr, refl, sym, ap, ◌∙◌, ℕ, zero, suc, ◌+◌, ◌-◌, ◌*◌, ◌/◌, ◌%◌, ◌^◌, ◌<◌, ◌≤◌, ◌==◌, true, false, Option, Some, None, List, [], ◌∷◌, length, set, replicate, eq-eqb, arith}
+use Rattle.std.proofs.Common.{◌≡◌, ◌≢◌, ◌⊎◌, inl, inr, refl, sym, ap, ◌∙◌, ℕ, zero, suc, ◌+◌, ◌-◌, ◌*◌, ◌/◌, ◌%◌, ◌^◌, ◌<◌, ◌≤◌, ◌==◌, true, false, Option, Some, None, List, [], ◌∷◌, length, set, replicate, arith}
 use Rattle.std.proofs.lemmas.Bool.{ne_eqb}
 use Rattle.std.proofs.lemmas.Nat.{pow_pos, and_mask}
 use Rattle.std.proofs.Math.Pow.{pow_mono}
@@ -34,9 +34,6 @@ names-clean b = names (clean_tag b) b (omega arith)
 
 pub names-dirty : (b : ℕ) → block_in (dirty_tag b) ≡ Some b
 names-dirty b = names (dirty_tag b) b (omega arith)
-
-pub is_block-same : (o : Option ℕ) (b : ℕ) → o ≡ Some b → is_block o b ≡ true
-is_block-same o b e = ap (λ p. is_block p b) e ∙ eq-eqb b b refl
 
 pub is_block-other : (o : Option ℕ) (b : ℕ) → o ≢ Some b → is_block o b ≡ false
 is_block-other None b ne = refl
@@ -80,10 +77,9 @@ undirty tag e = ap (λ (r : ℕ). elim (r == 1) [ true ↦ block_in tag | false 
 -- tags that are all 0
 pub zeros_of : (tags : List ℕ) (n : ℕ) → length tags ≡ n → ((m : ℕ) → m < n → tag_at tags m ≡ 0) → tags ≡ replicate n 0
 zeros_of [] zero e zeros = refl
-zeros_of [] (suc n) e zeros = absurd (omega (arith, e))
-zeros_of (t ∷ tags) zero e zeros = absurd (omega (arith, e))
 zeros_of (t ∷ tags) (suc n) e zeros = let more : length tags ≡ n = omega (arith, e) in
     λ i. zeros zero (omega arith) i ∷ zeros_of tags n more (λ m lt. zeros (suc m) (omega arith)) i
+zeros_of x y e zeros = absurd (omega (arith, e))
 
 -- a number of lines is one that masks cut to
 pub counts_lines : (n : ℕ) → IsLineCount n → (0 < n) × (n ≤ 2 ^ 16)

@@ -8,18 +8,19 @@ use Rattle.zf_cached.specs.State.{Counts, State}
 use Rattle.zf_cached.specs.Touch.{write_back, write_back_dirty, write_back_line, hit, miss}
 use Rattle.zf_cached.specs.Changes.{write_back_lines, emptied, flush, discard}
 use Rattle.zf_cached.proofs.States.{same_state}
+use Rattle.zf_cached.proofs.Caching.{is_block-some}
 use Rattle.zf_cache.specs.Kept.{Kept, IsAway, tag_at, block_in, clean_tag, dirty_tag}
 use Rattle.zf_cache.specs.Rules.{one_line}
 use Rattle.zf_cache.specs.Standing.{state_at, state_of, FitsAt, evicted}
 use Rattle.zf_cache.specs.Steps.{taken_in, touch_in}
-use Rattle.zf_cache.proofs.Tags.{same_or_not, is_block-same, is_block-other}
+use Rattle.zf_cache.proofs.Tags.{same_or_not, is_block-other}
 use Rattle.zf_cache.proofs.Stands.{standing_at, standing, soiled_in, Fit, write_back_line-none, write_back_line-some, write_back_dirty-false, write_back_dirty-true, undirty_values, vals-out, dirty-out}
 
 module _ {Code : Type 0} (f : Format Code) (s : State Code) (b : ℕ) where
   -- a block that is in a line is hit there
   pub touches_here : (l : ℕ) → s.held l ≡ Some b → hit s ≡ touch_in f s l b
   unfolding touch_in
-  touches_here l e = sym (ap (λ (t : Bool). elim t [ true ↦ hit s | false ↦ miss f s l b ]) (is_block-same _ b e))
+  touches_here l e = sym (ap (λ (t : Bool). elim t [ true ↦ hit s | false ↦ miss f s l b ]) (is_block-some _ b e))
 
   -- one that is not is missed: the line is emptied, and takes the block in
   pub touches_away : (l : ℕ) → s.held l ≢ Some b → taken_in (evicted f s l) l b ≡ touch_in f s l b

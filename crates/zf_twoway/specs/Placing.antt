@@ -11,7 +11,8 @@ use Rattle.zf_cached.specs.State.{is_block}
 use Rattle.zf_cached.specs.Placing.{Line, IsPlacing}
 use Rattle.zf_cache.specs.Kept.{IsIn, tag_at, block_in, dirty_tag, dirty_of}
 use Rattle.zf_cache.specs.Rules.{IsRule, IsTold}
-use Rattle.zf_cache.proofs.Tags.{named, is_or_not, is_block-same, is_block-other}
+use Rattle.zf_cached.proofs.Caching.{is_block-some}
+use Rattle.zf_cache.proofs.Tags.{named, is_or_not, is_block-other}
 
 -- the first line of block b among n lines: its number modulo n
 abbrev pub first_line : ℕ → ℕ → ℕ
@@ -99,14 +100,14 @@ skewed-first n tags b is =
     let first = first_line n b in let second = second_line n b in let t = tag_at tags first in
     let u = tag_at tags second in
     ap (λ x. place_by x (is_block (block_in u) b) (taking_line t u first second) first second)
-    (is_block-same (block_in t) b is)
+    (is_block-some (block_in t) b is)
 
 pub skewed-second : (n : ℕ) (tags : List ℕ) (b : ℕ) → (IsIn tags (first_line n b) b → ⊥)
     → IsIn tags (second_line n b) b → skewed n tags b ≡ second_line n b
 skewed-second n tags b out is =
     let first = first_line n b in let second = second_line n b in let t = tag_at tags first in
     let u = tag_at tags second in
-    (λ i. place_by (is_block-other (block_in t) b out i) (is_block-same (block_in u) b is i)
+    (λ i. place_by (is_block-other (block_in t) b out i) (is_block-some (block_in u) b is i)
     (taking_line t u first second) first second)
 
 -- a block whose number is below the number of lines has the line of its number as its second line, too
@@ -189,14 +190,14 @@ module _ (n : ℕ) (held : ℕ → Option ℕ) (dirty : ℕ → Bool) (b : ℕ) 
   pub in_first : held (first_line n b) ≡ Some b → two_lines n held dirty b ≡ first_line n b
   in_first is =
       let first = first_line n b in let second = second_line n b in
-      ap (λ x. place_by x (is_block (held second) b) goes first second) (is_block-same (held first) b is)
+      ap (λ x. place_by x (is_block (held second) b) goes first second) (is_block-some (held first) b is)
 
   pub in_second : (held (first_line n b) ≡ Some b → ⊥) → held (second_line n b) ≡ Some b
       → two_lines n held dirty b ≡ second_line n b
   in_second out is =
       let first = first_line n b in let second = second_line n b in
       (λ i. place_by (is_block-other (held first) b out i)
-      (is_block-same (held second) b is i) goes first second)
+      (is_block-some (held second) b is i) goes first second)
 
   pub in_neither : (held (first_line n b) ≡ Some b → ⊥) → (held (second_line n b) ≡ Some b → ⊥)
       → two_lines n held dirty b ≡ goes

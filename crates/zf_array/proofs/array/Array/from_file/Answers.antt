@@ -47,12 +47,11 @@ pub returns-clause-state : goal.returns-clause-state
 unfolding array_of
 returns-clause-state g c =
     let t = c.in_ok-store.store in
-    let e = c.in_ok-cache.cache in
     let is = c.in_ok-store.ensures.ok in
     let h = c.args.h.now in
     let count = is.count ∙ ap (λ (k : Header). blocks k.shape) (sym is.header) in
-    let a = held_by g.T.Lane.value t e in
-    opens g.T.Lane.value t e c.raised.result count c.in_ok-cache.ensures.empty c.in_ok-cache.ensures.counts
+    let a = held_by g.T.Lane.value t _ in
+    opens g.T.Lane.value t _ c.raised.result count c.in_ok-cache.ensures.empty c.in_ok-cache.ensures.counts
     (room_of t c.in_ok-cache.cache c.blocks-blocks.result c.in_ok-cache.ensures.room (c.blocks-blocks.ensures.value ∙ ap (λ (k : Header). blocks k.shape) (sym is.header)))
     ∙ ap (opened (format a) (code_at (stored a))) c.raised.ensures.value
     ∙ ap (λ (k : Header). let s : Stored = record { header = k; codes = a.codes } in opened (format_of s) (code_at s) (raised c.args.lines)) is.header

@@ -33,11 +33,10 @@ returns-clause-stored g c =
 pub returns-clause-state : goal.returns-clause-state
 returns-clause-state g c =
     let t = c.in_ok-store.store in
-    let e = c.in_ok-cache.cache in
     let room = room_of t c.in_ok-cache.cache c.blocks-blocks.result c.in_ok-cache.ensures.room (c.blocks-blocks.ensures.value ∙ ap (λ (u : Stored). blocks u.header.shape) (sym c.in_ok-store.ensures)) in
-    let fits = empty_fits g.T.Lane.value (format_of t) (code_at t) e c.raised.result c.in_ok-cache.ensures.empty room in
-    let is = stored_held g.T.Lane.value t e c.header.ensures.whole.count fits ∙ c.in_ok-store.ensures in
-    opens g.T.Lane.value t e c.raised.result c.header.ensures.whole.count c.in_ok-cache.ensures.empty c.in_ok-cache.ensures.counts room
+    let fits = empty_fits g.T.Lane.value (format_of t) (code_at t) _ c.raised.result c.in_ok-cache.ensures.empty room in
+    let is = stored_held g.T.Lane.value t _ c.header.ensures.whole.count fits ∙ c.in_ok-store.ensures in
+    opens g.T.Lane.value t _ c.raised.result c.header.ensures.whole.count c.in_ok-cache.ensures.empty c.in_ok-cache.ensures.counts room
     ∙ ap (λ (s : Stored). opened (format_of s) (code_at s) c.raised.result) is
     ∙ ap (opened (format_of (zeros g.T.Lane.TY c.args.shape c.args.bits)) (code_at (zeros g.T.Lane.TY c.args.shape c.args.bits))) c.raised.ensures.value
     ∙ new_is g.T.Lane.width g.T.Lane.TY c.args.shape c.args.bits c.args.lines g.met.T.Lane.width_of_type

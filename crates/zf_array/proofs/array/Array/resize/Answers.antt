@@ -32,20 +32,18 @@ pub returns-clause-stored : goal.returns-clause-stored
 returns-clause-stored g c =
     let s = c.self.inside in
     let t = c.in_ok-store.store in
-    let e = c.in_ok-cache.cache in
     let room = room_of t c.in_ok-cache.cache c.blocks-blocks.result c.in_ok-cache.ensures.room (c.blocks-blocks.ensures.value ∙ ap (λ (u : Stored). blocks u.header.shape) (sym c.in_ok-store.ensures)) in
-    let fits = empty_fits g.T.Lane.value (format_of t) (code_at t) e (length s.cache.tags) c.in_ok-cache.ensures.empty room in
+    let fits = empty_fits g.T.Lane.value (format_of t) (code_at t) _ (length s.cache.tags) c.in_ok-cache.ensures.empty room in
     let ty = same_ty g.T.Lane.TY s.store.header.ty (sym g.met.T.Lane.width_of_type ∙ c.self.invariant.same_type) ∙ ap (λ (h : Header). h.ty) (sym (header_now g.T.Lane.value g.T.Lane.width g.row.D s.store s.cache (vec_len s.buffer) c.self.invariant c.args.self.now c.self.view_is)) in
-    stored_held g.T.Lane.value t e c.header.ensures.whole.count fits ∙ c.in_ok-store.ensures
+    stored_held g.T.Lane.value t _ c.header.ensures.whole.count fits ∙ c.in_ok-store.ensures
     ∙ ap (λ y. zeros y c.args.shape c.bits.result) ty ∙ ap (zeros c.args.self.now.header.ty c.args.shape) c.bits.ensures.value
 
 pub returns-clause-ok : goal.returns-clause-ok
 returns-clause-ok g c =
     let s = c.self.inside in
     let t = c.in_ok-store.store in
-    let e = c.in_ok-cache.cache in
     let room = room_of t c.in_ok-cache.cache c.blocks-blocks.result c.in_ok-cache.ensures.room (c.blocks-blocks.ensures.value ∙ ap (λ (u : Stored). blocks u.header.shape) (sym c.in_ok-store.ensures)) in
-    let a = held_by g.T.Lane.value t e in
-    resizes g.T.Lane.value s.store s.cache t e g.T.Lane.TY c.args.shape c.bits.result c.in_ok-store.ensures c.in_ok-cache.ensures.empty c.in_ok-cache.ensures.counts room
+    let a = held_by g.T.Lane.value t _ in
+    resizes g.T.Lane.value s.store s.cache t _ g.T.Lane.TY c.args.shape c.bits.result c.in_ok-store.ensures c.in_ok-cache.ensures.empty c.in_ok-cache.ensures.counts room
     ∙ ap (λ k. resized (format a) (replicate k false) (state_of g.T.Lane.value s.cache (format_of s.store) (code_at s.store))) c.bits.ensures.value
     ∙ ap (resized (format a) (replicate (block_bits c.args.self.now.header.mode) false)) (sym (state_now g.T.Lane.value g.T.Lane.width g.row.D s.store s.cache (vec_len s.buffer) c.self.invariant c.args.self.now c.self.view_is))

@@ -13,7 +13,6 @@ use Rattle.zf_array.proofs.array.Array.save_bytes.Goals as goal
 pub returns : goal.returns
 returns g c =
     let s = c.self.inside in
-    let now = c.args.self.now in
     let head = header_now g.T.Lane.value g.T.Lane.width g.row.D s.store s.cache (vec_len s.buffer) c.self.invariant c.args.self.now c.self.view_is in
     let same = c.self.invariant.same_type ∙ ap (λ (h : Header). width_of h.ty) (sym head) in
     let rate = subst (λ (h : Header). IsRate h.mode) (sym head) c.self.invariant.rate in
@@ -23,6 +22,6 @@ returns g c =
       record {
         unchanged = tt;
         value = c.deref.ensures.value ∙ take_at c.write_file.new.out _ s.buffer.len long ∙ c.write_file.ensures ∙ ap file_of (sym (stored_now g.T.Lane.value g.T.Lane.width g.row.D s.store s.cache (vec_len s.buffer) c.self.invariant c.args.self.now c.self.view_is));
-        saved = c.deref.ensures.value ∙ take_at c.write_file.new.out _ s.buffer.len long ∙ c.write_file.ensures ∙ ap file_of (sym (stored_now g.T.Lane.value g.T.Lane.width g.row.D s.store s.cache (vec_len s.buffer) c.self.invariant c.args.self.now c.self.view_is)) ∙ saved_is g.T.Lane.width now same rate count;
+        saved = c.deref.ensures.value ∙ take_at c.write_file.new.out _ s.buffer.len long ∙ c.write_file.ensures ∙ ap file_of (sym (stored_now g.T.Lane.value g.T.Lane.width g.row.D s.store s.cache (vec_len s.buffer) c.self.invariant c.args.self.now c.self.view_is)) ∙ saved_is g.T.Lane.width _ same rate count;
       },
     )
