@@ -7,8 +7,7 @@ ghost use Rattle.zf_spec.specs.Planes.{planes_of};
 ghost use Rattle.zf_spec.specs.HeldPlanes.{planes_held, IsClearFrom};
 ghost use Rattle.zf_coef.specs.HeldDigits.{digits_in};
 ghost use Rattle.zf_coef.specs.Groups.{word_of, HasWord, IsHalfAt, IsGroup, PutsGroup, PutsHalf, PutsNone};
-ghost use Rattle.zf_coef.specs.Groups.{KeepsOthers};
-ghost use Rattle.zf_coef.specs.Groups.{HoldsFrom, HoldsFolded};
+ghost use Rattle.zf_coef.specs.Groups.{KeepsOthers, HoldsFrom, HoldsFolded};
 ghost use Rattle.zf_coef.specs.Turned.{bit_of};
 
 use crate::needed::any_digits;
