@@ -35,7 +35,7 @@ fn copy_once<S: Source, O: Sink>(src: &mut S, out: &mut O, buf: &mut [u8]) -> Re
 }
 
 // Calls of a copy, and what the buffer holds then.
-const COPIES: [(usize, [u8; 8]); 3] = [(8, *b"hello wo"), (3, *b"rldlo wo"), (0, *b"rldlo wo")];
+static COPIES: [(usize, [u8; 8]); 3] = [(8, *b"hello wo"), (3, *b"rldlo wo"), (0, *b"rldlo wo")];
 
 #[test]
 fn all_bytes_come_in_pieces(rt: HostRuntime) -> Result<(), Fail> {
@@ -44,7 +44,8 @@ fn all_bytes_come_in_pieces(rt: HostRuntime) -> Result<(), Fail> {
         let mut src = MemSource::new(TEXT.to_vec(alloc)?, Vec::new(alloc), piece);
         let mut out = MemSink::new(alloc, Vec::new(alloc), piece);
         let mut buf = [0; 8];
-        for (count, held) in COPIES {
+        for row in COPIES.iter() {
+            let (count, held) = *row;
             assert!(rt; copy_once(&mut src, &mut out, &mut buf) == Ok(count) && buf == held);
         }
         assert!(rt; out.bytes() == TEXT.as_slice());
@@ -65,7 +66,8 @@ fn an_end_that_was_seen_is_not_seen_again(rt: HostRuntime) -> Result<(), Fail> {
         begun: PhantomData,
     };
     let mut buf = [0; 8];
-    for (count, held) in COPIES {
+    for row in COPIES.iter() {
+        let (count, held) = *row;
         assert!(rt; fill(&mut until_end, &mut buf) == Ok(count) && buf == held);
     }
     assert!(rt; until_end.src.ends() == 1);
@@ -74,7 +76,7 @@ fn an_end_that_was_seen_is_not_seen_again(rt: HostRuntime) -> Result<(), Fail> {
 
 // Call 1 of a source and of a sink fails. The most bytes of a call, the answers of two fills and what is left
 // then, and the answers of two writes and what is written then.
-const LISTED: [(
+static LISTED: [(
     usize,
     [Result<usize, Failed>; 2],
     &[u8],
@@ -119,7 +121,8 @@ fn write_twice(out: &mut MemSink) -> [Result<(), Failed>; 2] {
 #[test]
 fn a_listed_call_fails_and_the_next_goes_on(rt: HostRuntime) -> Result<(), Fail> {
     let alloc = rt.alloc();
-    for (piece, fills, left, writes, written) in LISTED {
+    for row in LISTED.iter() {
+        let (piece, fills, left, writes, written) = *row;
         assert!(rt; piece > 0);
         let mut src = MemSource::new(TEXT.to_vec(alloc)?, [1].to_vec(alloc)?, piece);
         assert!(rt; fill_twice(&mut src) == fills && src.left() == left && src.faults() == 1);

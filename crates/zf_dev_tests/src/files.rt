@@ -35,7 +35,7 @@ fn are_answered<S: Shelf>(alloc: Global, shelf: &mut S, steps: &[Step]) -> bool 
 }
 
 // Calls of a shelf whose calls 2 and 5 fail, and then a file and what it holds.
-const IN_MEMORY: [(&[Step], &str, Option<&[u8]>); 4] = [
+static IN_MEMORY: [(&[Step], &str, Option<&[u8]>); 4] = [
     (
         &[
             Step::Load("a", 9, Err(LoadError::Missing)),
@@ -94,7 +94,7 @@ fn out_of_memory_is_told_apart(rt: HostRuntime) -> Result<(), Fail> {
 
 // In a folder of its own, since a save waits for the lock of the folder, and who runs the test may have that
 // of this one.
-const SAVED: [Step; 7] = [
+static SAVED: [Step; 7] = [
     Step::Load("shelf-a/a", 9, Err(LoadError::Missing)),
     Step::Save("shelf-a/a", b"first", Ok(())),
     Step::Load("shelf-a/a", 5, Ok(b"first")),
@@ -117,7 +117,7 @@ fn a_real_shelf_loads_and_saves_files(rt: HostRuntime) -> Result<(), Fail> {
 
 // The calls, and the faults from the first one on. No file can be put in the place of a folder, nor into a
 // folder that is not there.
-const NO_FILES: [(&[Step], u64); 2] = [
+static NO_FILES: [(&[Step], u64); 2] = [
     (
         &[
             Step::Load("shelf-c", 9, Err(LoadError::Failed)),
@@ -157,7 +157,7 @@ fn taken(alloc: Global, piece: usize, max: u64, fail: &[u64]) -> Result<usize, T
 }
 
 // The most bytes of a call, how many bytes there may be, the calls that fail, and the answer.
-const TAKEN: [(usize, u64, &[u64], Result<usize, TakeError>); 7] = [
+static TAKEN: [(usize, u64, &[u64], Result<usize, TakeError>); 7] = [
     (1, 10_000, &[], Ok(10_000)),
     (5_000, 10_000, &[], Ok(10_000)),
     (5_000, u64::MAX, &[], Ok(10_000)),

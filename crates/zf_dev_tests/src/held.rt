@@ -88,7 +88,7 @@ const NEVER: usize = usize::MAX;
 // The most bytes that the stream takes a call, and which call of it fails; pieces of so many bytes that are
 // written, and a flush at each 0; how many of these steps fail, and how many bytes each call of the stream
 // moves.
-const WRITES: [(usize, usize, [usize; 4], u64, [usize; 4]); 7] = [
+static WRITES: [(usize, usize, [usize; 4], u64, [usize; 4]); 7] = [
     // Small pieces are held, up to 65,536 bytes.
     (
         NEVER,
@@ -139,7 +139,8 @@ fn a_sink_hands_on_large_pieces(rt: HostRuntime) -> Result<(), Fail> {
     for k in 0..200_000u32 {
         bytes.push((k % 256) as u8)?;
     }
-    for (most, fail, steps, failed, sizes) in WRITES {
+    for row in WRITES.iter() {
+        let (most, fail, steps, failed, sizes) = *row;
         let mut log = Log::new();
         let mut out = RealSink::new(Taking {
             log: &mut log,
@@ -154,7 +155,7 @@ fn a_sink_hands_on_large_pieces(rt: HostRuntime) -> Result<(), Fail> {
 
 // Whether the source is told that it will be read to its end; for how many bytes it is asked, how many it
 // gives, and how many each call of the stream moves.
-const READS: [(bool, [usize; 4], [usize; 4], [usize; 4]); 2] = [
+static READS: [(bool, [usize; 4], [usize; 4], [usize; 4]); 2] = [
     (
         false,
         [3, 10, 70_000, 5],
@@ -193,7 +194,8 @@ fn gives<S: Source>(
 #[test]
 fn a_source_reads_ahead_where_it_is_told(rt: HostRuntime) -> Result<(), Fail> {
     let mut buf = zeros(rt.alloc(), 70_000)?;
-    for (ahead, asked, given, sizes) in READS {
+    for row in READS.iter() {
+        let (ahead, asked, given, sizes) = *row;
         let mut log = Log::new();
         let mut src = RealSource::new(Giving {
             log: &mut log,

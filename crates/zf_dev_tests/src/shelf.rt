@@ -129,7 +129,7 @@ fn outside<R: Files + AllocGlobal>(rt: &R, step: &Step) -> io::Result<bool> {
 
 // Each row leaves nothing behind. The files lie in a folder of their own: who runs the test may have the lock
 // of the one that it runs in, and a save would wait for that.
-const STEPS: [(&str, &[Step]); 9] = [
+static STEPS: [(&str, &[Step]); 9] = [
     (
         "a save where there was no file, and another one made it",
         &[
