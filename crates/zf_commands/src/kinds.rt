@@ -72,7 +72,7 @@ pub enum ViewCmd {
 }
 
 /// The kind of a command.
-#[inline]
+#[inline(always)]
 pub fn kind_of(cmd: Cmd) -> Kind
     ensures { cmd ≡ cmd_of_kind result }
 {

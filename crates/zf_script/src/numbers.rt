@@ -69,7 +69,7 @@ fn negative_in(digits: &[u8]) -> Option<i128>
 
 /// One to four numbers with this byte between two of them: how many they are, and the numbers, with `unused`
 /// along the other axes.
-#[inline]
+#[inline(always)]
 pub(crate) fn sizes_in(byte: u8, unused: u64, word: &[u8]) -> Option<(u8, Pos)>
     requires { IsNoDigit byte }
     ensures sizes { IfSome result (λ r. IsSizesWord byte unused word.now r.0 r.1) }
@@ -116,7 +116,7 @@ fn number_before(byte: u8, word: &[u8]) -> Option<(u64, Option<&[u8]>)>
 }
 
 /// One number for each axis, with this byte between two of them, and `unused` along the other axes.
-#[inline]
+#[inline(always)]
 pub(crate) fn axes_in(dims: u8, byte: u8, unused: u64, word: &[u8]) -> Option<Pos>
     requires no_digit { IsNoDigit byte }
     requires dimension { IsDimension dims }

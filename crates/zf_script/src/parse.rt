@@ -17,7 +17,7 @@ use zf_base::Pos;
 
 /// The command of a line for an array of so many dimensions, 1 to 4. `Word`: the line is no command; no other
 /// refusal comes.
-#[inline]
+#[inline(always)]
 pub fn parse_line(dims: u8, line: &[u8]) -> Result<Cmd, Refusal>
     requires dimension { IsDimension dims }
     ensures ok { IfOk result (λ cmd. read_line dims line.now ≡ Some (command_of dims cmd)) }
@@ -28,7 +28,7 @@ pub fn parse_line(dims: u8, line: &[u8]) -> Result<Cmd, Refusal>
 }
 
 // The command whose words a line has.
-#[inline]
+#[inline(always)]
 fn command_in(dims: u8, line: &[u8]) -> Option<Cmd>
     requires dimension { IsDimension dims }
     ensures command { IfSome result (λ cmd. IsCommand dims (cut_at space line.now) cmd) }
@@ -42,7 +42,7 @@ fn command_in(dims: u8, line: &[u8]) -> Option<Cmd>
 
 // The command that begins with a word and has the words behind its space. The word of a view is its number
 // directly behind `@`.
-#[inline]
+#[inline(always)]
 fn begun(dims: u8, first: &[u8], rest: &[u8]) -> Option<Cmd>
     requires dimension { IsDimension dims }
     ensures command { IfSome result (λ cmd. IsCommand dims (first.now ∷ cut_at space rest.now) cmd) }
@@ -71,7 +71,7 @@ fn alone(verb: Verb) -> Option<Cmd>
 }
 
 // The command that a verb is with the words behind its space.
-#[inline]
+#[inline(always)]
 fn with_words(dims: u8, verb: Verb, rest: &[u8]) -> Option<Cmd>
     requires dimension { IsDimension dims }
     ensures command { IfSome result (λ cmd. IsCommand dims (verb_word verb ∷ cut_at space rest.now) cmd) }
@@ -115,7 +115,7 @@ fn with_words(dims: u8, verb: Verb, rest: &[u8]) -> Option<Cmd>
 }
 
 /// A position and a value.
-#[inline]
+#[inline(always)]
 pub(crate) fn position_and_value_in(dims: u8, words: &[u8]) -> Option<(Pos, i128)>
     requires dimension { IsDimension dims }
     ensures both { IfSome result (λ r. IsPositionAndValue dims (cut_at space words.now) r.0 r.1) }
