@@ -41,7 +41,7 @@ run_doubled (false ∷ xs) ys one = zero_once (xs ++ ys) (has_one-behind xs ys o
 zeros_end : (k : ℕ) → code_from_run (true ∷ replicate (suc k) false) ≡ true ∷ false ∷ []
 zeros_end k = ap (λ t. true ∷ cond t (true ∷ code_from_run (replicate (suc k) false)) (false ∷ [])) (has_one-zeros (suc k))
 
-has_one-zeros_behind : (ds : List Bool) (k : ℕ) → has_one (ds ++ replicate k false) ≡ has_one ds
+pub has_one-zeros_behind : (ds : List Bool) (k : ℕ) → has_one (ds ++ replicate k false) ≡ has_one ds
 has_one-zeros_behind [] k = has_one-zeros k
 has_one-zeros_behind (true ∷ ds) k = refl
 has_one-zeros_behind (false ∷ ds) k = has_one-zeros_behind ds k

@@ -4,6 +4,7 @@
 --     Doubled      the code of runs, and its tables
 --     Gathering    bits of several planes in one word
 --     PlainPlanes  planes that bring no new rank
+--     Narrow       planes in which the first three ranks alone have ones
 --     WordPlanes   planes in one word by the bits of their code
 --     Lengths      how long the tail of a plane is
 --     Budgets      a list that is written in parts, as far as a budget reaches
@@ -31,6 +32,7 @@ pub mod Tables
 pub mod Doubled
 pub mod Gathering
 pub mod PlainPlanes
+pub mod Narrow
 pub mod WordPlanes
 pub mod Lengths
 pub mod Budgets

@@ -1,5 +1,5 @@
 -- Planes that bring no new rank, and planes in one word that are written one after another.
-use Rattle.std.proofs.Common.{◌≡◌, ℕ, zero, suc, ◌+◌, ◌-◌, ◌*◌, ◌/◌, ◌^◌, ◌<◌, ◌≤◌, ◌⊎◌, ⊎_elim, max, Bool, true, false, List, ◌∷◌, ◌++◌, length, map, take, drop, get_or, replicate, sym, ap, ◌∙◌, arith, lit<, pow_pos}
+use Rattle.std.proofs.Common.{◌≡◌, ℕ, ◌+◌, ◌-◌, ◌*◌, ◌/◌, ◌^◌, ◌<◌, ◌≤◌, ◌⊎◌, ⊎_elim, max, Bool, false, List, ◌++◌, length, map, take, drop, get_or, replicate, sym, ap, ◌∙◌, arith, lit<, pow_pos}
 use Rattle.std.proofs.Math.Nat.{pow-le-pow_right}
 use Rattle.zf_bits.specs.Writer.{Writer}
 use Rattle.zf_spec.specs.Numbers.{field}
@@ -7,7 +7,6 @@ use Rattle.zf_spec.specs.Planes.{plane_code, code_from, reach}
 use Rattle.zf_spec.specs.HeldPlanes.{digits_held, planes_held}
 use Rattle.zf_spec.proofs.Fields.{length-field, field-add, field-zero}
 use Rattle.zf_spec.proofs.Reach.{reach-le}
-use Rattle.zf_spec.proofs.PlaneCode.{tail-zeros}
 use Rattle.zf_planes.proofs.Placing.{reach_behind}
 use Rattle.zf_planes.specs.Writes.{Remains}
 use Rattle.zf_planes.proofs.Budgets.{Remains-same}
@@ -37,15 +36,6 @@ plain_small n v none =
     let order : n ≤ n + 1 = omega arith in
     let parts : 2 ^ n * (v / 2 ^ n) ≡ 0 = ap (λ q. 2 ^ n * q) none ∙ omega arith in
     omega (arith, none, parts, pow_pos n, pow-le-pow_right {n = 2} (lit< tt) order)
-
--- the first plane, in which the first rank alone has a one
-pub first_alone : (size : ℕ) → 1 < size → (plane_code 0 (field size 1) ≡ field 3 3) × (max 0 (reach (field size 1)) ≡ 1)
-first_alone zero some = absurd (omega arith)
-first_alone (suc zero) some = absurd (omega arith)
-first_alone (suc (suc z)) some =
-    let zeros : field (suc z) 0 ≡ replicate (suc z) false = field-zero (suc z) in
-    let none = reach_below 1 (suc (suc z)) 1 (omega arith) (omega arith) in
-    (ap (λ (ds : List Bool). plane_code 0 (true ∷ ds)) zeros ∙ ap (λ (bs : List Bool). true ∷ true ∷ bs) (tail-zeros z), omega (arith, none))
 
 -- behind bits that are not written yet comes the next plane, of which the digits are at hand
 pub next_word : {A : Type 0} {old now : Writer} {budget left : ℕ} {whole : List Bool} (words : A → List ℕ) (above prec size i len bits digits : ℕ) (planes : List A) (plane : A)

@@ -28,10 +28,9 @@ fn double(digits: u64) -> Part
     ensures len { result.len ≤ 16 }
 {
     let entry = doubled_entry(digits);
-    Part {
-        bits: u64::from(entry % 65536),
-        len: u64::from(entry / 65536),
-    }
+    let bits = u64::from(entry % 65536);
+    let len = u64::from(entry / 65536);
+    Part { bits, len }
 }
 
 /// The code of a run of so many digits, of which only the first eight have ones.
@@ -140,10 +139,8 @@ pub(crate) fn write_with(
         ++ plane_code n (field size digits)) part.new.len part.new.bits }
 {
     let group = Part { bits: 1, len: 1 };
-    let prefix = Part {
-        bits: digits % (1 << n),
-        len: n,
-    };
+    let bits = digits % (1 << n);
+    let prefix = Part { bits, len: n };
     let rest = digits >> n;
     if part.len + n < 40 {
         *part = join(join(*part, prefix), group);

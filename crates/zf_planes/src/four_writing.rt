@@ -14,11 +14,11 @@ use zf_bits::BitWriter;
 
 /// The code of planes.
 #[derive(Clone, Copy)]
-struct PlanesCode {
+pub(crate) struct PlanesCode {
     /// Its bits.
-    part: Part,
+    pub(crate) part: Part,
     /// How far the ones of the planes reach, and of those above them.
-    above: usize,
+    pub(crate) above: usize,
     ghost within: { above ≤ 4 },
 }
 
@@ -132,7 +132,7 @@ fn below_top(count: u32, words: &[u64; 4]) -> [u64; 4]
 
 /// The code of the first two planes of a string, where the ranks below `n` have had a one above.
 #[inline(always)]
-fn code_of_two(n: usize, string: u64) -> PlanesCode
+pub(crate) fn code_of_two(n: usize, string: u64) -> PlanesCode
     requires in_plane { n < 3 }
     ensures { IsCodeOfTwo n string result.part.len result.part.bits result.above }
 {
@@ -192,11 +192,8 @@ fn write_rest(left: u64, above: &mut usize, planes: u32, string: u64, out: &mut 
         string /= 16;
         planes -= 1;
     }
-    let digits = Part {
-        bits: string,
-        len: 4 * u64::from(planes),
-    };
-    write_part(left, digits, out)
+    let len = 4 * u64::from(planes);
+    write_part(left, Part { bits: string, len }, out)
 }
 
 /// Appends the code of the planes of a string, as far as `left` bits reach, where the ranks below `above`

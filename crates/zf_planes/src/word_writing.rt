@@ -9,6 +9,7 @@ ghost use Rattle.zf_planes.specs.Writes.{Writes};
 ghost use Rattle.zf_planes.specs.WordPlanes.{IsPlainCode, AreBegun};
 
 use crate::doubling::{Part, join, write_part, write_with};
+use crate::four_writing::code_of_two;
 use crate::words::{first_word, reach_in};
 use zf_bits::{BitWriter, Plane};
 
@@ -49,38 +50,43 @@ struct Begun {
     next: usize,
 }
 
-/// The code of the planes in which the first rank alone has ones, from the one of number `from` on, if that
-/// is one of them, as far as it fits a word. Where values are smooth, these are many.
+/// The code of the planes in which the first three ranks alone have ones, from the one of number `from` on, as
+/// far as it surely fits a word. Where values are smooth, these are many. The table of planes of four digits
+/// knows them two at a time; once all three ranks have had a one, each is written as it is.
 #[inline(always)]
-fn lone_planes<P: Plane>(from: usize, prec: u32, size: usize, planes: &[P]) -> Begun
-    requires some { 1 < size }
+fn narrow_planes<P: Plane>(from: usize, prec: u32, size: usize, planes: &[P]) -> Begun
+    requires some { 3 < size }
     requires size { size ≤ 64 }
     requires planes { prec ≤ length planes.now }
     requires from { from ≤ prec }
-    ensures { AreBegun from prec (take prec (planes_held size (map P.words planes.now))) result.part.len
+    ensures { AreBegun from prec size (take prec (planes_held size (map P.words planes.now))) result.part.len
         result.part.bits result.above result.next }
 {
-    if from == prec as usize || first_word(&planes[planes.len() - 1 - from], size) != 1 {
-        return Begun {
-            part: Part { bits: 0, len: 0 },
-            above: 0,
-            next: from,
-        };
-    }
-    // A group bit, the one of the first rank, and a group bit that says that no other follows.
-    let mut part = Part { bits: 3, len: 3 };
-    let mut i = from + 1;
-    while i < prec as usize && part.len < 62 {
-        let digits = first_word(&planes[planes.len() - 1 - i], size);
-        if digits > 1 {
+    let mut part = Part { bits: 0, len: 0 };
+    let mut above = 0;
+    let mut i = from;
+    while i + 1 < prec as usize && above < 3 && part.len <= 50 {
+        let first = first_word(&planes[planes.len() - 1 - i], size);
+        let second = first_word(&planes[planes.len() - 1 - (i + 1)], size);
+        if first | second > 7 {
             break;
         }
-        part = join(part, plain_plane(1, size as u64, digits));
+        let two = code_of_two(above, first + 16 * second);
+        part = join(part, two.part);
+        above = two.above;
+        i += 2;
+    }
+    while above == 3 && i < prec as usize && part.len <= 60 {
+        let digits = first_word(&planes[planes.len() - 1 - i], size);
+        if digits > 7 {
+            break;
+        }
+        part = join(part, plain_plane(3, size as u64, digits));
         i += 1;
     }
     Begun {
         part,
-        above: 1,
+        above,
         next: i,
     }
 }
@@ -96,7 +102,7 @@ pub(crate) fn write_planes_of_word<P: Plane>(
     planes: &[P],
     out: &mut BitWriter,
 ) -> u64
-    requires some { 1 < size }
+    requires some { 3 < size }
     requires size { size ≤ 64 }
     requires planes { prec ≤ length planes.now }
     requires from { from ≤ prec }
@@ -105,7 +111,7 @@ pub(crate) fn write_planes_of_word<P: Plane>(
     ensures { Writes left result out.old out.new (code_from 0
         (drop from (take prec (planes_held size (map P.words planes.now))))) }
 {
-    let begun = lone_planes(from, prec, size, planes);
+    let begun = narrow_planes(from, prec, size, planes);
     let mut left = left;
     let mut part = begun.part;
     let mut above = begun.above;

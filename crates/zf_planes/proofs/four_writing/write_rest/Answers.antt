@@ -43,27 +43,27 @@ loop-planes-preserved c =
 
 -- ---- the digits of the planes that are left
 
-rest_is : (c : goal.After-write_part-arg-2-1) → Remains c.args.out.now c.loop-planes.out c.args.left c.loop-planes.left (code_from c.args.above.now (string_planes c.args.planes c.args.string)) (field (4 * c.from.result) c.loop-planes.string ++ [])
+rest_is : (c : goal.After-write_part-arg-2-1) → Remains c.args.out.now c.loop-planes.out c.args.left c.loop-planes.left (code_from c.args.above.now (string_planes c.args.planes c.args.string)) (field (4 * c.from-len.result) c.loop-planes.string ++ [])
 rest_is c =
     let now = c.loop-planes in
-    let len = 4 * c.from.result in
+    let len = 4 * c.from-len.result in
     elim c.loop-planes-test.branch [
-      | then-loop-planes-test+then-left-gt0+else-above-lt3 w ↦ digits_left now.above now.planes now.string len w.if-above-lt3.false now.invariant.above (omega (arith, c.from.ensures)) now.invariant.remains
+      | then-loop-planes-test+then-left-gt0+else-above-lt3 w ↦ digits_left now.above now.planes now.string len w.if-above-lt3.false now.invariant.above (omega (arith, c.from-len.ensures)) now.invariant.remains
       | then-loop-planes-test+else-left-gt0 w ↦ Remains-none (code_from now.above (string_planes now.planes now.string)) (field len now.string ++ []) (omega (arith, w.if-left-gt0.false)) now.invariant.remains
       | else-loop-planes-test w ↦
           let none = string_end now.planes now.above now.string w.loop-planes-test.false in
-          let empty : len ≡ 0 = omega (arith, c.from.ensures, w.loop-planes-test.false) in
+          let empty : len ≡ 0 = omega (arith, c.from-len.ensures, w.loop-planes-test.false) in
           Remains-same now.invariant.remains (none.0 ∙ sym (ap (λ n. field n now.string ++ []) empty))
     ]
 
 pub write_part-requires-clause-fits : goal.write_part-requires-clause-fits
 write_part-requires-clause-fits c =
-    let len = 4 * c.from.result in
+    let len = 4 * c.from-len.result in
     omega (arith, Remains-fits (field len c.loop-planes.string) [] (rest_is c), length-field len c.loop-planes.string)
 
 pub returns : goal.returns
 returns c =
-    let len = 4 * c.from.result in
+    let len = 4 * c.from-len.result in
     let now = c.loop-planes in
     let all = Remains-more (field len c.loop-planes.string) [] (rest_is c.before) c.write_part.ensures.bits in
     record {

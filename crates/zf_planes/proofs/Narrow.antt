@@ -1,0 +1,92 @@
+-- Planes in which the first three ranks alone have ones, by the code of planes of four digits.
+use Rattle.std.proofs.Common.{◌≡◌, ℕ, zero, suc, ◌+◌, ◌-◌, ◌*◌, ◌/◌, ◌%◌, ◌^◌, ◌<◌, ◌≤◌, max, Bool, true, false, cond, List, [], ◌∷◌, ◌++◌, length, map, take, drop, get_or, replicate, refl, sym, ap, ◌∙◌, arith, append_assoc}
+use Rattle.std.proofs.Math.Nat.{div-eq_of_lt}
+use Rattle.zf_spec.specs.Numbers.{field}
+use Rattle.zf_spec.specs.Planes.{has_one, code_from_run, tail, plane_code, code_from, reach}
+use Rattle.zf_spec.specs.HeldPlanes.{digits_held, planes_held}
+use Rattle.zf_spec.proofs.Fields.{field-add, field-zero, length-field}
+use Rattle.zf_spec.proofs.PlaneCode.{tail-zeros}
+use Rattle.zf_spec.proofs.Full.{tail-some}
+use Rattle.zf_planes.specs.Fours.{IsCodeOfTwo}
+use Rattle.zf_planes.proofs.Doubled.{has_one-zeros_behind, run_zeros_behind}
+use Rattle.zf_planes.proofs.PlainPlanes.{reach_below}
+use Rattle.zf_planes.proofs.Placing.{reach_behind}
+use Rattle.zf_planes.proofs.Unpacking.{code_next}
+
+-- ---- how many zeros are behind makes no difference
+
+tail_none : (ds : List Bool) (k : ℕ) → has_one ds ≡ false → tail (ds ++ replicate (suc k) false) ≡ false ∷ []
+tail_none [] k none = tail-zeros k
+tail_none (d ∷ ds) k none = ap (λ t. cond t (true ∷ code_from_run ((d ∷ ds) ++ replicate (suc k) false)) (false ∷ [])) (has_one-zeros_behind (d ∷ ds) (suc k) ∙ none)
+
+narrow_tail : (ds : List Bool) (k : ℕ) → tail (ds ++ replicate (suc k) false) ≡ tail (ds ++ false ∷ [])
+narrow_tail ds k = by (has_one ds) refl
+  where
+    by : (t : Bool) → has_one ds ≡ t → tail (ds ++ replicate (suc k) false) ≡ tail (ds ++ false ∷ [])
+    by true one =
+        tail-some (ds ++ replicate (suc k) false) (has_one-zeros_behind ds (suc k) ∙ one)
+        ∙ ap (λ (bs : List Bool). true ∷ bs) (run_zeros_behind ds k one)
+        ∙ sym (tail-some (ds ++ false ∷ []) (has_one-zeros_behind ds 1 ∙ one))
+    by false none = tail_none ds k none ∙ sym (tail_none ds 0 none)
+
+narrow_plane : (n : ℕ) (ds : List Bool) (k : ℕ) → n ≤ length ds → plane_code n (ds ++ replicate (suc k) false) ≡ plane_code n (ds ++ false ∷ [])
+narrow_plane zero ds k within = narrow_tail ds k
+narrow_plane (suc n) [] k within = absurd (omega arith)
+narrow_plane (suc n) (d ∷ ds) k within = ap (λ (bs : List Bool). d ∷ bs) (narrow_plane n ds k (omega arith))
+
+-- ---- digits of three ranks
+
+narrow_field : (size v : ℕ) → 3 < size → v < 8 → field size v ≡ field 3 v ++ replicate (suc (size - 4)) false
+narrow_field size v some low =
+    let z = suc (size - 4) in
+    let parts : 3 + z ≡ size = omega arith in
+    let none : v / 2 ^ 3 ≡ 0 = div-eq_of_lt low in
+    ap (λ k. field k v) (sym parts) ∙ field-add 3 z v ∙ ap (λ u. field 3 v ++ field z u) none ∙ ap (λ (bs : List Bool). field 3 v ++ bs) (field-zero z)
+
+pub narrow_code : (n size v : ℕ) → n ≤ 3 → 3 < size → v < 8 → plane_code n (field size v) ≡ plane_code n (field 4 v)
+narrow_code n size v three some low =
+    ap (plane_code n) (narrow_field size v some low)
+    ∙ narrow_plane n (field 3 v) (size - 4) (omega (arith, length-field 3 v))
+    ∙ sym (ap (plane_code n) (narrow_field 4 v (omega arith) low))
+
+pub narrow_reach : (size v : ℕ) → 3 < size → v < 8 → reach (field size v) ≡ reach (field 4 v)
+narrow_reach size v some low =
+    ap reach (narrow_field size v some low)
+    ∙ reach_behind (field 3 v) (suc (size - 4))
+    ∙ sym (ap reach (narrow_field 4 v (omega arith) low) ∙ reach_behind (field 3 v) 1)
+
+-- ---- two planes of a word each
+
+-- the next plane
+narrow_next : {A : Type 0} (words : A → List ℕ) (n prec size i v : ℕ) (planes : List A) (plane : A) → n ≤ 3 → 3 < size → v < 8 → plane ≡ get_or planes (length planes - 1 - i) plane → i < prec → prec ≤ length planes
+    → field size v ≡ digits_held size (words plane)
+    → code_from n (drop i (take prec (planes_held size (map words planes)))) ≡ plane_code n (field 4 v) ++ code_from (max n (reach (field 4 v))) (drop (i + 1) (take prec (planes_held size (map words planes))))
+narrow_next words n prec size i v planes plane three some low is below within same =
+    let rest = drop (i + 1) (take prec (planes_held size (map words planes))) in
+    code_next words n prec size i planes plane is below within
+    ∙ ap (λ (ds : List Bool). plane_code n ds ++ code_from (max n (reach ds)) rest) (sym same)
+    ∙ ap (λ (bs : List Bool). bs ++ code_from (max n (reach (field size v))) rest) (narrow_code n size v three some low)
+    ∙ ap (λ k. plane_code n (field 4 v) ++ code_from (max n k) rest) (narrow_reach size v some low)
+
+-- the next two, whose code is known
+pub narrow_two : {A : Type 0} (words : A → List ℕ) (n prec size i v w l bits a : ℕ) (planes : List A) (first second : A) → n < 3 → 3 < size → v < 8 → w < 8 → i + 1 < prec → prec ≤ length planes
+    → first ≡ get_or planes (length planes - 1 - i) first → second ≡ get_or planes (length planes - 1 - (i + 1)) second
+    → field size v ≡ digits_held size (words first) → field size w ≡ digits_held size (words second)
+    → IsCodeOfTwo n (v + 16 * w) l bits a
+    → code_from n (drop i (take prec (planes_held size (map words planes)))) ≡ field l bits ++ code_from a (drop (i + 2) (take prec (planes_held size (map words planes))))
+narrow_two words n prec size i v w l bits a planes first second three some low low' below within is is' same same' two =
+    let top = take prec (planes_held size (map words planes)) in
+    let m = max n (reach (field 4 v)) in
+    let v_is : (v + 16 * w) % 16 ≡ v = omega arith in
+    let w_is : (v + 16 * w) / 16 % 16 ≡ w = omega arith in
+    let next : i + 1 + 1 ≡ i + 2 = omega arith in
+    let reached : m ≤ 3 = omega (arith, reach_below 3 4 v (omega arith) (div-eq_of_lt low)) in
+    let above : a ≡ max m (reach (field 4 w)) = two.above ∙ ap (λ u. max (max n (reach (field 4 u))) (reach (field 4 ((v + 16 * w) / 16 % 16)))) v_is ∙ ap (λ u. max m (reach (field 4 u))) w_is in
+    let bits_are : field l bits ≡ plane_code n (field 4 v) ++ plane_code m (field 4 w) =
+    two.bits ∙ ap (λ u. plane_code n (field 4 u) ++ plane_code (max n (reach (field 4 u))) (field 4 ((v + 16 * w) / 16 % 16))) v_is ∙ ap (λ u. plane_code n (field 4 v) ++ plane_code m (field 4 u)) w_is in
+    narrow_next words n prec size i v planes first (omega arith) some low is (omega arith) within same
+    ∙ ap (λ (bs : List Bool). plane_code n (field 4 v) ++ bs) (narrow_next words m prec size (i + 1) w planes second reached some low' is' below within same')
+    ∙ sym (append_assoc (plane_code n (field 4 v)) (plane_code m (field 4 w)) (code_from (max m (reach (field 4 w))) (drop (i + 1 + 1) top)))
+    ∙ ap (λ (bs : List Bool). bs ++ code_from (max m (reach (field 4 w))) (drop (i + 1 + 1) top)) (sym bits_are)
+    ∙ ap (λ k. field l bits ++ code_from k (drop (i + 1 + 1) top)) (sym above)
+    ∙ ap (λ k. field l bits ++ code_from a (drop k top)) next
