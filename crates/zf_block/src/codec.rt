@@ -21,44 +21,45 @@ use zf_bits::{BitReader, BitWriter, Plane};
 #[inline(always)]
 pub(crate) fn encode<C: BlockCode<T>, T: Lane>(
     code: &C,
-    block: &Partial<'_, T>,
+    block: Partial<'_, T>,
     s: &mut Scratch<T>,
     out: &mut BitWriter,
 )
-    requires scratch { s.old ≡ block.now.d }
-    requires fits { C.longest code.now (4 ^ block.now.d) ≤ out.old.room }
-    ensures code { Appends out.old out.new (C.code_of code.now (planes_by T.width C.forth block.now)) }
+    requires scratch { s.old ≡ block.d }
+    requires fits { C.longest code.now (4 ^ block.d) ≤ out.old.room }
+    ensures code { Appends out.old out.new (C.code_of code.now (planes_by T.width C.forth block.entry)) }
     ensures scratch { s.new ≡ s.old }
 {
-    if is_zero::<C, T>(block) {
+    if is_zero::<C, T>(&block) {
         code.write_zero_block(block.len(), out);
         return;
     }
     encode_any(code, block, s, out);
 }
 
-/// Appends it without a look for zeros. It stands apart, so that a block of zeros enters no large function.
+/// Appends it without a look for zeros. It stands apart, so that a block of zeros enters no large function,
+/// and takes the block itself, so that its extent goes to memory only here.
 #[inline(never)]
 fn encode_any<C: BlockCode<T>, T: Lane>(
     code: &C,
-    block: &Partial<'_, T>,
+    block: Partial<'_, T>,
     s: &mut Scratch<T>,
     out: &mut BitWriter,
 )
-    requires scratch { s.old ≡ block.now.d }
-    requires fits { C.longest code.now (4 ^ block.now.d) ≤ out.old.room }
-    ensures code { Appends out.old out.new (C.code_of code.now (planes_by T.width C.forth block.now)) }
+    requires scratch { s.old ≡ block.d }
+    requires fits { C.longest code.now (4 ^ block.d) ≤ out.old.room }
+    ensures code { Appends out.old out.new (C.code_of code.now (planes_by T.width C.forth block.entry)) }
     ensures scratch { s.new ≡ s.old }
 {
     // A row needs no planes. Planes of up to 64 coefficients lie in one word each. Work room of a known size
     // is faster where it is small; it stands here, so that no block clears that of another size.
     // Each arm says its number of dimensions as a number, so that what it calls is compiled for that one.
     match block.dims() {
-        1 => write_row(code, block, out),
+        1 => write_row(code, &block, out),
         2 => write_block(
             code,
             2,
-            block,
+            &block,
             &mut [T::zero(); 16],
             &mut [0; 16],
             &mut s.planes,
@@ -67,7 +68,7 @@ fn encode_any<C: BlockCode<T>, T: Lane>(
         3 => write_block(
             code,
             3,
-            block,
+            &block,
             &mut s.values,
             &mut s.digits,
             &mut s.planes,
@@ -76,7 +77,7 @@ fn encode_any<C: BlockCode<T>, T: Lane>(
         _ => write_block(
             code,
             4,
-            block,
+            &block,
             &mut s.values,
             &mut s.digits,
             &mut s.wide_planes,

@@ -1,7 +1,7 @@
 //! The digits and bit planes of the coefficients of a block.
 
-ghost use Rattle.std.specs.Prelude.{◌≡◌, ◌≤◌, ◌-◌, ◌*◌, ◌^◌, pos, ◌∷◌, IsTrue, IfSome, map, length};
-ghost use Rattle.std.specs.Prelude.{replicate};
+ghost use Rattle.std.specs.Prelude.{◌≡◌, ◌≤◌, ◌-◌, ◌*◌, ◌^◌, pos, ◌∷◌, ◌%◌, ◌+◌, IsTrue, IfSome, map, length};
+ghost use Rattle.std.specs.Prelude.{take, drop, replicate};
 ghost use Rattle.zf_spec.specs.Grid.{IsDimension};
 ghost use Rattle.zf_spec.specs.Codes as codes;
 ghost use Rattle.zf_spec.specs.Codes.{coefficients_of};
@@ -31,17 +31,33 @@ pub(crate) fn to_planes<T: Lane, P: Plane>(
     zf_coef::planes_of_digits(digits, planes);
 }
 
-/// Whether all values are this one.
+/// Whether all values, which are whole rows of four, are this one.
 #[inline(always)]
 pub(crate) fn is_all<T: Lane>(value: T, values: &[T]) -> bool
+    requires rows { length values.now % 4 ≡ 0 }
     ensures { IsTrue result → map T.value values.now ≡ replicate (length values.now) (T.value value) }
 {
-    for other in values {
-        if *other != value {
+    for row in 0..values.len() / 4 {
+        if !is_row(value, values, 4 * row) {
             return false;
         }
     }
     true
+}
+
+/// Whether the four values from this place on are this one. All are read before any is looked at, so that
+/// they are looked at together.
+#[inline(always)]
+fn is_row<T: Lane>(value: T, values: &[T], at: usize) -> bool
+    requires there { at + 4 ≤ length values.now }
+    ensures { IsTrue result
+        → map T.value (take 4 (drop at values.now)) ≡ replicate 4 (T.value value) }
+{
+    let a = values[at];
+    let b = values[at + 1];
+    let c = values[at + 2];
+    let d = values[at + 3];
+    a == value && b == value && c == value && d == value
 }
 
 /// Makes the planes of coefficients of which all but the first are zero.

@@ -14,7 +14,7 @@ use zf_base::{Extent, Lane};
 #[derive(Drop)]
 pub(crate) struct Partial<'a, T: Lane> {
     d: u8,
-    e: &'a Extent,
+    e: Extent,
     values: &'a [T],
 }
 
@@ -27,21 +27,21 @@ impl<'a, T: Lane> Model for Partial<'a, T> {
 
     ghost view = { λ b. record {
       d = b.d;
-      sizes = used_axes b.d b.e.now.size;
+      sizes = used_axes b.d b.e.size;
       values = map T.value b.values.now;
     } };
 
-    ghost invariant = { λ b. IsPartial b.d b.e.now b.values.now };
+    ghost invariant = { λ b. IsPartial b.d b.e b.values.now };
 }
 
 impl<'a, T: Lane> Partial<'a, T> {
     /// These values, of which the extent `e` exists.
     #[inline(always)]
-    pub(crate) fn new(d: u8, e: &'a Extent, values: &'a [T]) -> Partial<'a, T>
+    pub(crate) fn new(d: u8, e: Extent, values: &'a [T]) -> Partial<'a, T>
         requires dimension { IsDimension d }
-        requires extent { IsExtent d e.now }
+        requires extent { IsExtent d e }
         requires block { length values.now ≡ 4 ^ d }
-        ensures { result ≡ record { d = d; sizes = used_axes d e.now.size; values = map T.value values.now } }
+        ensures { result ≡ record { d = d; sizes = used_axes d e.size; values = map T.value values.now } }
     {
         Partial { d, e, values }
     }
@@ -90,6 +90,6 @@ impl<'a, T: Lane> Partial<'a, T> {
         // As many as there is room for, so that a copy into an array of a known length needs no call.
         let size = values.len();
         values.copy_from_slice(&self.values[..size]);
-        zf_pad::pad(self.e, d, values);
+        zf_pad::pad(&self.e, d, values);
     }
 }

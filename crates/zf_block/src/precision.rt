@@ -47,7 +47,7 @@ pub fn encode_prec<T: Lane>(
 {
     let size = block.len() as u64;
     out.reserve(size * u64::from(T::WIDTH + 1))?;
-    encode(&Precision { prec }, &Partial::new(d, e, block), s, out);
+    encode(&Precision { prec }, Partial::new(d, *e, block), s, out);
     Ok(())
 }
 

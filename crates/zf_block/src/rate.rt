@@ -43,7 +43,7 @@ pub fn encode_rate<T: Lane>(
         (rate T.width bits (used_axes d e.now.size) (map T.value block.now)) }
     ensures scratch { s.new ≡ d }
 {
-    encode(&Rate { bits }, &Partial::new(d, e, block), s, out);
+    encode(&Rate { bits }, Partial::new(d, *e, block), s, out);
 }
 
 /// Reads the code of a block of `bits` bits, whatever they are.

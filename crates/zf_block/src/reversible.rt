@@ -50,7 +50,7 @@ pub fn encode_rev<T: Lane>(
 {
     let size = block.len() as u64;
     out.reserve(6 + size * u64::from(T::WIDTH + 1))?;
-    encode(&Reversible, &Partial::new(d, e, block), s, out);
+    encode(&Reversible, Partial::new(d, *e, block), s, out);
     Ok(())
 }
 

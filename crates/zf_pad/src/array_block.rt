@@ -15,7 +15,7 @@ use zf_base::{Extent, Lane, Pos, Shape};
 ///
 /// `layout` is the raw layout of the shape, `values` are all of the array's, and `b` is below the number of
 /// blocks. `block` has `4^d` values, x fastest; those at places that do not exist stay.
-#[inline]
+#[inline(always)]
 pub fn gather_block<T: Lane>(
     layout: &Layout,
     shape: &Shape,
@@ -37,12 +37,14 @@ pub fn gather_block<T: Lane>(
         take_row(values, e.origin.x as usize, block);
         return e;
     }
-    gather(layout, &e, shape.dims(), values, block);
+    // A copy, so that the extent that is answered need not lie in memory.
+    let part = e;
+    gather(layout, &part, shape.dims(), values, block);
     e
 }
 
 /// Copies the four values from `first` on, which are a whole block of one dimension.
-#[inline]
+#[inline(always)]
 fn take_row<T: Lane>(values: &[T], first: usize, block: &mut [T])
     requires within { first + 4 ≤ length values.now }
     requires whole { length block.old ≡ 4 }
@@ -54,7 +56,7 @@ fn take_row<T: Lane>(values: &[T], first: usize, block: &mut [T])
 
 /// The part of block `b` that lies in the array. In one dimension, where blocks are small and many, no
 /// coordinates are divided out.
-#[inline]
+#[inline(always)]
 pub(crate) fn part_of(shape: &Shape, b: u64) -> Extent
     requires { b < blocks shape.now }
     ensures origin { result.origin ≡ with_unused 0 (map (λ c. 4 * c) (coordinates (grid shape.now) b)) }
@@ -70,7 +72,7 @@ pub(crate) fn part_of(shape: &Shape, b: u64) -> Extent
 }
 
 /// The part of block `b` that lies in a line of `n` values.
-#[inline]
+#[inline(always)]
 fn part_of_line(n: u64, b: u64) -> Extent
     requires { 4 * b < n }
     ensures { result ≡ record {
