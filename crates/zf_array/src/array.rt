@@ -1,6 +1,6 @@
 //! The array.
 
-ghost use Rattle.std.specs.Prelude.{◌≡◌, ℕ, ℤ, List, ◌+◌, ◌<◌, ◌≤◌, ◌^◌, length, map, pos, slice_index_or, slice_set, replicate, true, false, IfOk, IfErr, OnOk, OnErr, ◌+ℤ◌};
+ghost use Rattle.std.specs.Prelude.{◌≡◌, ℕ, ℤ, List, ◌+◌, ◌<◌, ◌≤◌, ◌^◌, length, vec_len, map, pos, slice_index_or, slice_set, replicate, true, false, IfOk, IfErr, OnOk, OnErr, ◌+ℤ◌};
 ghost use Rattle.std.specs.List.{flat_map};
 ghost use Rattle.zf_spec.specs.Grid.{blocks};
 ghost use Rattle.zf_spec.specs.Numbers.{wrap, word_bits};
@@ -10,7 +10,7 @@ ghost use Rattle.zf_base.specs.Formats.{existing_of, meant, encoded, with_at};
 ghost use Rattle.zf_base.specs.Places.{IsAt};
 ghost use Rattle.zf_base.specs.Positions.{IsPosition};
 ghost use Rattle.zf_base.specs.Widths.{width_of};
-ghost use Rattle.zf_header.specs.HeaderBits.{IsRate, block_bits};
+ghost use Rattle.zf_header.specs.HeaderBits.{IsRate, block_bits, rate_bytes_of};
 ghost use Rattle.zf_cache.specs.Bodies.{counts_of};
 ghost use Rattle.zf_cached.specs.Touch.{touch, touch_for_writing, with_values};
 ghost use Rattle.zf_cached.specs.Changes.{flush, discard, relined, resized, raised};
@@ -58,6 +58,20 @@ impl<T: Lane, const D: usize> Model for Array<T, D> {
     ghost invariant = { λ a. IsJoined T.value T.width D a.store a.cache (vec_len a.buffer) };
 }
 
+// Zeros, as many as the file of an array of zeros has bytes.
+fn buffer_for<T: Lane>(alloc: Global, shape: Shape, bits: u32) -> Result<Vec<u8>, AllocError>
+    requires { IsRate (Mode.Rate bits) }
+    ensures { IfOk result (λ buffer. vec_len buffer ≡ rate_bytes_of (zeros T.TY shape bits).header) }
+{
+    let header = Header {
+        ty: T::TY,
+        shape,
+        mode: Mode::Rate(bits),
+    };
+    let buffer = vec![in alloc; 0; rate_bytes(&header) as usize]?;
+    Ok(buffer)
+}
+
 impl<T: Lane, const D: usize> Array<T, D> {
     ghost use Rattle.zf_array.specs.Loans.{EndsAs, EndsWithPart, EndsWithBlock, EndsWithValue, spliced, with_part, with_block, with_value};
 
@@ -75,10 +89,13 @@ impl<T: Lane, const D: usize> Array<T, D> {
         ensures stored { IfOk result (λ a. stored a ≡ zeros T.TY shape bits) }
         ensures state { IfOk result (λ a. state a ≡ new_array T.width bits shape lines) }
     {
-        let store = Store::zeros(alloc, shape, bits)?;
         let blocks = shape.blocks();
         let cache = Cache::for_blocks(alloc, raised(lines), blocks)?;
-        let buffer = vec![in alloc; 0; rate_bytes(&store.header()) as usize]?;
+        let buffer = buffer_for::<T>(alloc, shape, bits)?;
+        // The store comes last, so that no other way out has to give it back: each such way is proved.
+        let store = Store::zeros(alloc, shape, bits)?;
+        // Known by this call: what holds of a store.
+        let _header = store.header();
         Ok(Array {
             alloc,
             store,
@@ -303,10 +320,13 @@ impl<T: Lane, const D: usize> Array<T, D> {
             (replicate (block_bits self.old.header.mode) false) (state self.old)) }
         ensures err { OnErr result (self.new ≡ self.old) }
     {
-        let store = Store::zeros(self.alloc, shape, self.bits())?;
-        let buffer = vec![in self.alloc; 0; rate_bytes(&store.header()) as usize]?;
+        let bits = self.bits();
         let blocks = shape.blocks();
         let cache = self.cache.emptied_for(blocks)?;
+        let buffer = buffer_for::<T>(self.alloc, shape, bits)?;
+        let store = Store::zeros(self.alloc, shape, bits)?;
+        // Known by this call: what holds of a store.
+        let _header = store.header();
         self.cache = cache;
         self.store = store;
         self.buffer = buffer;
