@@ -426,15 +426,14 @@ impl<T: Lane, const D: usize> Array<T, D> {
 #[cfg(test)]
 mod tests {
     use super::*;
+    use std::process::Abort;
     use std::test::Fail;
 
-    // No copy of the values stands beside words and lines: after each block was written back once, the buffer
-    // is as long as the file. The cache has one line, and the store has a test of its own.
-    #[test]
-    fn array_fields(rt: HostRuntime) -> Result<(), Fail> {
+    // An array of 16 blocks of which each was written back.
+    fn written(rt: &impl Abort, alloc: Global) -> Result<Array<i32, 1>, Fail> {
         let shape = Shape::new(1, 64, 1, 1, 1).ok().ok_or("a shape")?;
-        assert_eq!(rt; shape.dims(), 1);
-        let mut array = Array::<i32, 1>::new(rt.alloc(), shape, 64, 1)?;
+        assert!(rt; shape.dims() == 1);
+        let mut array = Array::<i32, 1>::new(alloc, shape, 64, 1)?;
         for x in 0..16 {
             let p = Pos {
                 x: 4 * x,
@@ -446,7 +445,15 @@ mod tests {
             array.set(p, 1);
         }
         array.flush();
-        assert_eq!(rt; array.stats().writes, 16);
+        assert!(rt; array.stats().writes == 16);
+        Ok(array)
+    }
+
+    // No copy of the values stands beside words and lines: after each block was written back once, the buffer
+    // is as long as the file. The cache has one line, and the store has a test of its own.
+    #[test]
+    fn array_fields(rt: HostRuntime) -> Result<(), Fail> {
+        let array = written(&rt, rt.alloc())?;
         let Array {
             alloc,
             store,
@@ -457,8 +464,7 @@ mod tests {
         let store: Store<i32, 1> = store;
         let cache: Cache<i32, 1> = cache;
         let buffer: Vec<u8> = buffer;
-        assert_eq!(rt; store.header().shape.blocks(), 16);
-        assert_eq!(rt; cache.lines(), 1);
+        assert!(rt; store.header().shape.blocks() == 16 && cache.lines() == 1);
         assert!(rt; buffer.len() <= 144);
         Ok(())
     }
