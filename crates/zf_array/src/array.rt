@@ -1,6 +1,6 @@
 //! The array.
 
-ghost use Rattle.std.specs.Prelude.{◌≡◌, ℕ, ℤ, List, ◌+◌, ◌<◌, ◌≤◌, ◌^◌, length, map, pos, slice_index_or, slice_set, replicate, true, false, IfOk, IfErr, OnOk, OnErr, ◌+ℤ◌};
+ghost use Rattle.std.specs.Prelude.{◌≡◌, ℕ, ℤ, List, ◌+◌, ◌<◌, ◌≤◌, ◌^◌, length, vec_len, map, pos, slice_index_or, slice_set, replicate, true, false, IfOk, IfErr, OnOk, OnErr, ◌+ℤ◌};
 ghost use Rattle.std.specs.List.{flat_map};
 ghost use Rattle.zf_spec.specs.Grid.{blocks};
 ghost use Rattle.zf_spec.specs.Numbers.{wrap, word_bits};
@@ -10,7 +10,7 @@ ghost use Rattle.zf_base.specs.Formats.{existing_of, meant, encoded, with_at};
 ghost use Rattle.zf_base.specs.Places.{IsAt};
 ghost use Rattle.zf_base.specs.Positions.{IsPosition};
 ghost use Rattle.zf_base.specs.Widths.{width_of};
-ghost use Rattle.zf_header.specs.HeaderBits.{IsRate, block_bits};
+ghost use Rattle.zf_header.specs.HeaderBits.{IsRate, block_bits, rate_bytes_of};
 ghost use Rattle.zf_cache.specs.Bodies.{counts_of};
 ghost use Rattle.zf_cached.specs.Touch.{touch, touch_for_writing, with_values};
 ghost use Rattle.zf_cached.specs.Changes.{flush, discard, relined, resized, raised};
@@ -58,6 +58,20 @@ impl<T: Lane, const D: usize> Model for Array<T, D> {
     ghost invariant = { λ a. IsJoined T.value T.width D a.store a.cache (vec_len a.buffer) };
 }
 
+// Zeros, as many as the file of an array of zeros has bytes.
+fn buffer_for<T: Lane>(alloc: Global, shape: Shape, bits: u32) -> Result<Vec<u8>, AllocError>
+    requires { IsRate (Mode.Rate bits) }
+    ensures { IfOk result (λ buffer. vec_len buffer ≡ rate_bytes_of (zeros T.TY shape bits).header) }
+{
+    let header = Header {
+        ty: T::TY,
+        shape,
+        mode: Mode::Rate(bits),
+    };
+    let buffer = vec![in alloc; 0; rate_bytes(&header) as usize]?;
+    Ok(buffer)
+}
+
 impl<T: Lane, const D: usize> Array<T, D> {
     ghost use Rattle.zf_array.specs.Loans.{EndsAs, EndsWithPart, EndsWithBlock, EndsWithValue, spliced, with_part, with_block, with_value};
 
@@ -75,10 +89,13 @@ impl<T: Lane, const D: usize> Array<T, D> {
         ensures stored { IfOk result (λ a. stored a ≡ zeros T.TY shape bits) }
         ensures state { IfOk result (λ a. state a ≡ new_array T.width bits shape lines) }
     {
-        let store = Store::zeros(alloc, shape, bits)?;
         let blocks = shape.blocks();
         let cache = Cache::for_blocks(alloc, raised(lines), blocks)?;
-        let buffer = vec![in alloc; 0; rate_bytes(&store.header()) as usize]?;
+        let buffer = buffer_for::<T>(alloc, shape, bits)?;
+        // The store comes last, so that no other way out has to give it back: each such way is proved.
+        let store = Store::zeros(alloc, shape, bits)?;
+        // Known by this call: what holds of a store.
+        let _header = store.header();
         Ok(Array {
             alloc,
             store,
@@ -303,10 +320,13 @@ impl<T: Lane, const D: usize> Array<T, D> {
             (replicate (block_bits self.old.header.mode) false) (state self.old)) }
         ensures err { OnErr result (self.new ≡ self.old) }
     {
-        let store = Store::zeros(self.alloc, shape, self.bits())?;
-        let buffer = vec![in self.alloc; 0; rate_bytes(&store.header()) as usize]?;
+        let bits = self.bits();
         let blocks = shape.blocks();
         let cache = self.cache.emptied_for(blocks)?;
+        let buffer = buffer_for::<T>(self.alloc, shape, bits)?;
+        let store = Store::zeros(self.alloc, shape, bits)?;
+        // Known by this call: what holds of a store.
+        let _header = store.header();
         self.cache = cache;
         self.store = store;
         self.buffer = buffer;
@@ -406,15 +426,14 @@ impl<T: Lane, const D: usize> Array<T, D> {
 #[cfg(test)]
 mod tests {
     use super::*;
+    use std::process::Abort;
     use std::test::Fail;
 
-    // No copy of the values stands beside words and lines: after each block was written back once, the buffer
-    // is as long as the file. The cache has one line, and the store has a test of its own.
-    #[test]
-    fn array_fields(rt: HostRuntime) -> Result<(), Fail> {
+    // An array of 16 blocks of which each was written back.
+    fn written(rt: &impl Abort, alloc: Global) -> Result<Array<i32, 1>, Fail> {
         let shape = Shape::new(1, 64, 1, 1, 1).ok().ok_or("a shape")?;
-        assert_eq!(rt; shape.dims(), 1);
-        let mut array = Array::<i32, 1>::new(rt.alloc(), shape, 64, 1)?;
+        assert!(rt; shape.dims() == 1);
+        let mut array = Array::<i32, 1>::new(alloc, shape, 64, 1)?;
         for x in 0..16 {
             let p = Pos {
                 x: 4 * x,
@@ -426,7 +445,15 @@ mod tests {
             array.set(p, 1);
         }
         array.flush();
-        assert_eq!(rt; array.stats().writes, 16);
+        assert!(rt; array.stats().writes == 16);
+        Ok(array)
+    }
+
+    // No copy of the values stands beside words and lines: after each block was written back once, the buffer
+    // is as long as the file. The cache has one line, and the store has a test of its own.
+    #[test]
+    fn array_fields(rt: HostRuntime) -> Result<(), Fail> {
+        let array = written(&rt, rt.alloc())?;
         let Array {
             alloc,
             store,
@@ -437,8 +464,7 @@ mod tests {
         let store: Store<i32, 1> = store;
         let cache: Cache<i32, 1> = cache;
         let buffer: Vec<u8> = buffer;
-        assert_eq!(rt; store.header().shape.blocks(), 16);
-        assert_eq!(rt; cache.lines(), 1);
+        assert!(rt; store.header().shape.blocks() == 16 && cache.lines() == 1);
         assert!(rt; buffer.len() <= 144);
         Ok(())
     }

@@ -74,16 +74,8 @@ pub(crate) struct Place {
 impl Place {
     /// Where this name leads. A link is followed, and one that leads nowhere is an error.
     pub(crate) fn new<R: Files>(alloc: Global, system: &R, name: &str) -> io::Result<Place> {
-        let path = match fs::symlink_metadata(system, name) {
-            Ok(found) if found.is_symlink() => system.canonicalize(alloc, name)?.into_string(),
-            Ok(_) => String::from_str(alloc, name)?,
-            Err(e) if e.kind() == ErrorKind::NotFound => String::from_str(alloc, name)?,
-            Err(e) => return Err(e),
-        };
-        let folder = match Path::new(path.as_str()).parent() {
-            Some(parent) if parent.as_str() != "" => String::from_str(alloc, parent.as_str())?,
-            _ => String::from_str(alloc, ".")?,
-        };
+        let path = led_to(alloc, system, name)?;
+        let folder = folder_of(alloc, path.as_str())?;
         let base = Path::new(path.as_str()).file_name().unwrap_or("");
         let beside = Beside::new(alloc, folder.as_str(), base)?;
         Ok(Place {
@@ -223,6 +215,29 @@ impl Place {
         }
         fs::rename(system, self.beside.name(), self.path.as_str())
     }
+}
+
+// The path to which a name leads.
+fn led_to<R: Files>(alloc: Global, system: &R, name: &str) -> io::Result<String> {
+    let is_link = match fs::symlink_metadata(system, name) {
+        Ok(found) => found.is_symlink(),
+        Err(e) if e.kind() == ErrorKind::NotFound => false,
+        Err(e) => return Err(e),
+    };
+    if is_link {
+        Ok(system.canonicalize(alloc, name)?.into_string())
+    } else {
+        Ok(String::from_str(alloc, name)?)
+    }
+}
+
+// The folder in which a path lies.
+fn folder_of(alloc: Global, path: &str) -> io::Result<String> {
+    let folder = match Path::new(path).parent() {
+        Some(parent) if parent.as_str() != "" => parent.as_str(),
+        _ => ".",
+    };
+    Ok(String::from_str(alloc, folder)?)
 }
 
 // Gives a new file its owner, mode and bytes, and brings it to the disk.

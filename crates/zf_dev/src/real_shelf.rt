@@ -68,13 +68,7 @@ impl<R: Files<File = File> + Clock> Shelf for RealShelf<R> {
     fn load(&mut self, alloc: Global, name: &str, max: u64) -> Result<Vec<u8>, LoadError> {
         match read_file(alloc, &self.system, name, max, &mut self.place) {
             Ok(bytes) => Ok(bytes),
-            Err(LoadError::Missing) => Err(LoadError::Missing),
-            Err(LoadError::Long) => Err(LoadError::Long),
-            Err(LoadError::Memory) => Err(LoadError::Memory),
-            Err(LoadError::Failed) => {
-                raise(&mut self.faults);
-                Err(LoadError::Failed)
-            }
+            Err(error) => Err(counted(error, &mut self.faults)),
         }
     }
 
@@ -89,6 +83,21 @@ impl<R: Files<File = File> + Clock> Shelf for RealShelf<R> {
     }
 }
 
+// Why a file was not loaded, once that is counted, where it is a fault.
+fn counted(error: LoadError, faults: &mut u64) -> LoadError
+    ensures same { result ≡ error }
+    ensures quiet { error ≢ loading.Failed → faults.new ≡ faults.old }
+    ensures rose { error ≡ loading.Failed → faults.new ≡ next_count faults.old }
+    ensures either { (faults.new ≡ faults.old) ⊎ (faults.new ≡ next_count faults.old) }
+    ensures kept { faults.old ≤ faults.new }
+{
+    match error {
+        LoadError::Failed => raise(faults),
+        LoadError::Missing | LoadError::Long | LoadError::Memory => {}
+    }
+    error
+}
+
 // The bytes of a file, where there are at most `max`, and what lies there for the next save.
 fn read_file<R: Files<File = File>>(
     alloc: Global,
@@ -100,16 +109,42 @@ fn read_file<R: Files<File = File>>(
     ensures bound { IfOk result (λ bytes. length bytes.items ≤ max) }
 {
     let mut place = Place::new(alloc, system, name).map_err(load_error)?;
+    match read_at(alloc, system, &mut place, max) {
+        Ok(bytes) => {
+            remember(known, place);
+            Ok(bytes)
+        }
+        Err(LoadError::Missing) => {
+            remember(known, place);
+            Err(LoadError::Missing)
+        }
+        Err(error) => Err(error),
+    }
+}
+
+// From here on the place is the one that is known.
+fn remember(known: &mut Option<Place>, place: Place) {
+    *known = Some(place);
+}
+
+// The bytes of the file that lies at a place, if these are at most `max`. The place remembers what lies
+// there, or that nothing does.
+fn read_at<R: Files<File = File>>(
+    alloc: Global,
+    system: &R,
+    place: &mut Place,
+    max: u64,
+) -> Result<Vec<u8>, LoadError>
+    ensures bound { IfOk result (λ bytes. length bytes.items ≤ max) }
+{
     let Some(file) = place.open(system).map_err(load_error)? else {
         place.see(Seen::Nothing, None);
-        *known = Some(place);
         return Err(LoadError::Missing);
     };
     // Before the first byte is read, so that a file which changes meanwhile is found changed.
     let found = file.metadata().map_err(load_error)?;
     let bytes = read_whole(alloc, &file, found.len(), max)?;
     place.see(Seen::file(&found), Some(file));
-    *known = Some(place);
     Ok(bytes)
 }
 
@@ -164,6 +199,6 @@ fn replace_file<R: Files<File = File> + Clock>(
     }
     let mut place = Place::new(alloc, system, name)?;
     place.replace(system, bytes)?;
-    *known = Some(place);
+    remember(known, place);
     Ok(())
 }

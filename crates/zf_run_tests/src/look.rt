@@ -129,10 +129,8 @@ fn looks_at_streams_of_each_mode(rt: HostRuntime) -> Result<(), Fail> {
 
 #[test]
 fn a_look_ends_at_a_write_fault(rt: HostRuntime) -> Result<(), Fail> {
+    let mut out = MemSink::new(rt.alloc(), [1].to_vec(rt.alloc())?, 1 << 20);
     let mut array = open::<i32, 1>(&rt, rt.alloc(), &ONE, 2)?;
-    let mut fail = Vec::new(rt.alloc());
-    fail.push(1)?;
-    let mut out = MemSink::new(rt.alloc(), fail, 1 << 20);
     let end = look(&mut array, b"get 7\nget 0\nget 4\n", &mut out);
     assert!(rt; end == RunEnd::Write && out.bytes() == b"1\n".as_slice());
     Ok(())

@@ -426,20 +426,24 @@ fn is_rate(h: &Header) -> bool
     }
 }
 
+// The array of a file, with one line.
+fn opened(rt: &impl Abort, alloc: Global, file: &[u8]) -> Result<Array<i32, 1>, Fail> {
+    let bytes = file.to_vec(alloc)?;
+    let (h, _) = zf_header::read(&bytes).ok().ok_or("a header")?;
+    assert!(rt; is_rate(&h));
+    assert!(rt; h.ty == Ty::I32);
+    assert!(rt; h.shape.dims() == 1);
+    let array = Array::from_file(alloc, &h, bytes, 1);
+    Ok(array.ok().ok_or("an array")?)
+}
+
 #[test]
 fn a_file_with_bits_that_no_value_needs_stays(rt: HostRuntime) -> Result<(), Fail> {
     let mut file = EMPTY;
     for i in 16..20 {
         file[i] = 0xff;
     }
-    let bytes = file.to_vec(rt.alloc())?;
-    let (h, _) = zf_header::read(&bytes).ok().ok_or("a header")?;
-    assert!(rt; is_rate(&h));
-    assert!(rt; h.ty == Ty::I32);
-    assert!(rt; h.shape.dims() == 1);
-    let mut array = Array::<i32, 1>::from_file(rt.alloc(), &h, bytes, 1)
-        .ok()
-        .ok_or("an array")?;
+    let mut array = opened(&rt, rt.alloc(), &file)?;
     assert!(rt;
         runs(
             rt.alloc(),
@@ -453,22 +457,22 @@ fn a_file_with_bits_that_no_value_needs_stays(rt: HostRuntime) -> Result<(), Fai
     Ok(())
 }
 
-// Whether a script ends at a sink of which a call fails, after it wrote a text by pieces of so many bytes
-// at most.
+// A sink of which a call fails, and which takes so many bytes at most at once.
+fn failing(rt: &impl Abort, alloc: Global, call: u64, piece: usize) -> Result<MemSink, Fail> {
+    assert!(rt; 0 < piece);
+    Ok(MemSink::new(alloc, [call].to_vec(alloc)?, piece))
+}
+
+// Whether a script ends at such a sink, after it wrote a text. A sink is made before the array, so that an
+// array is dropped in one place: where it is, costs a proof.
 fn fails(
-    rt: &impl Abort,
     alloc: Global,
     array: &mut Array<i32, 1>,
     script: &[u8],
-    sink: (u64, usize),
+    out: &mut MemSink,
     text: &[u8],
-) -> Result<bool, Fail> {
-    let (call, piece) = sink;
-    let mut fail = Vec::new(alloc);
-    fail.push(call)?;
-    assert!(rt; 0 < piece);
-    let mut out = MemSink::new(alloc, fail, piece);
-    Ok(run(alloc, array, script, &mut out) == RunEnd::Write && out.bytes() == text)
+) -> bool {
+    run(alloc, array, script, out) == RunEnd::Write && out.bytes() == text
 }
 
 // The call that fails, the most bytes of a call, what is written, and the write-backs: no later line was
@@ -483,8 +487,9 @@ const FAILING: [(u64, usize, &[u8], u64); 3] = [
 fn a_sink_fails(rt: HostRuntime) -> Result<(), Fail> {
     let script = b"set 0 1\nget 0\nflush\nget 0\nset 4 9\nstats\n";
     for (call, piece, text, writes) in FAILING.iter() {
+        let mut out = failing(&rt, rt.alloc(), *call, *piece)?;
         let mut array = zeros::<i32, 1>(&rt, rt.alloc(), 1, EIGHT, (64, 1))?;
-        assert!(rt; fails(&rt, rt.alloc(), &mut array, script, (*call, *piece), text)?);
+        assert!(rt; fails(rt.alloc(), &mut array, script, &mut out, text));
         let stats = array.stats();
         assert!(rt; stats.writes == *writes && stats.misses <= 2);
     }
@@ -505,8 +510,9 @@ fn a_sink_fails_in_a_split(rt: HostRuntime) -> Result<(), Fail> {
         b"split 2 1\n@0 set 0 1\n@0 get 0\n@1 set 4 7\n@1 get 4\n@1 flush\n@1 get 4\njoin\n";
     let then = b"0\nhits 0 misses 1 writes 0\n";
     for (call, text, kept) in FAILING_SPLITS.iter() {
+        let mut out = failing(&rt, rt.alloc(), *call, 100)?;
         let mut array = zeros::<i32, 1>(&rt, rt.alloc(), 1, EIGHT, (64, 1))?;
-        assert!(rt; fails(&rt, rt.alloc(), &mut array, script, (*call, 100), text)?);
+        assert!(rt; fails(rt.alloc(), &mut array, script, &mut out, text));
         // what was not written back is gone, and what was is there
         assert!(rt; (array.save_bytes() != EMPTY.as_slice()) == *kept);
         assert!(rt;

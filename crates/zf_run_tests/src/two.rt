@@ -45,8 +45,9 @@ fn ends_so(
 ) -> Result<(), Fail> {
     let shape = Shape::new(1, 16, 1, 1, 1).ok().ok_or("a shape")?;
     assert!(rt; usize::from(shape.dims()) == 1);
-    let mut store = Store::<i32, 1>::zeros(alloc, shape, 64)?;
+    // Behind the cache: what is made last is dropped in one place, and each costs a proof.
     let mut cache = TwoWay::<i32, 1>::new(alloc, raised(2))?;
+    let mut store = Store::<i32, 1>::zeros(alloc, shape, 64)?;
     let mut out = MemSink::new(alloc, Vec::new(alloc), 1 << 20);
     assert!(rt; run_two(&mut store, &mut cache, script, &mut out) == end);
     assert!(rt; out.bytes() == text);

@@ -5,6 +5,7 @@ mod CommandWords
 mod Exposed
 mod Streaming
 mod Heading
+mod Statuses
 mod Causes
 mod Stopping
 mod Stepping

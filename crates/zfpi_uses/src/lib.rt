@@ -4,8 +4,6 @@
 
 mod fault;
 mod streams;
-#[cfg(test)]
-mod tests;
 mod views;
 mod window;
 

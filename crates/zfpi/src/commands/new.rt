@@ -65,6 +65,16 @@ fn file_of_store<T: Lane, const D: usize>(
     ensures { IfOk result (λ file. file.items ≡ file_of (zeros T.TY shape bits)) }
 {
     let store = Store::<T, D>::zeros(alloc, shape, bits)?;
+    file_from(alloc, &store)
+}
+
+// The bytes of the file of a store.
+fn file_from<T: Lane, const D: usize>(
+    alloc: Global,
+    store: &Store<T, D>,
+) -> Result<Vec<u8>, AllocError>
+    ensures { IfOk result (λ file. file.items ≡ file_of store.now) }
+{
     let mut file = vec![in alloc; 0; rate_bytes(&store.header()) as usize]?;
     store.write_file(&mut file);
     Ok(file)

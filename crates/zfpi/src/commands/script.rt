@@ -10,7 +10,6 @@ ghost use Rattle.zfpi.specs.Rungs.{WorksOn, Answers};
 ghost use Rattle.zfpi.specs.Calls.{Fulfils};
 
 use crate::command::Access;
-use crate::commands::kinds::in_kind;
 use crate::commands::scripts::MAX_SCRIPT;
 use crate::commands::sending::send;
 use crate::commands::target::{Loaded, Target};
@@ -80,7 +79,7 @@ fn may_access(access: Access, mode: &Mode) -> bool
     }
 }
 
-// The same with the header of the file: chooses the type of its values and the number of its dimensions.
+// The same with the header of the file: chooses the type of its values.
 fn on_header<S: Source, O: Sink, F: Shelf>(
     alloc: Global,
     name: &Name,
@@ -94,13 +93,33 @@ fn on_header<S: Source, O: Sink, F: Shelf>(
     ensures { WorksOn O.Sink F.Shelf S.Source (command_on access name.now) name.now loaded.file.items result
         src.old src.new out.old out.new shelf.old shelf.new }
 {
-    in_kind!(
-        loaded.header.ty,
-        loaded.header.shape,
-        on_kind,
-        [S, O, F],
-        (alloc, name, access, loaded, src, out, shelf)
-    )
+    match loaded.header.ty {
+        Ty::I32 => on_type::<i32, S, O, F>(alloc, name, access, loaded, src, out, shelf),
+        Ty::I64 => on_type::<i64, S, O, F>(alloc, name, access, loaded, src, out, shelf),
+    }
+}
+
+// The same in the type: chooses the number of the dimensions.
+fn on_type<T: Lane, S: Source, O: Sink, F: Shelf>(
+    alloc: Global,
+    name: &Name,
+    access: Access,
+    loaded: Loaded,
+    src: &mut S,
+    out: &mut O,
+    shelf: &mut F,
+) -> Status
+    requires accessed { IsAccessed access loaded }
+    requires same_type { T.width ≡ width_of loaded.header.ty }
+    ensures { WorksOn O.Sink F.Shelf S.Source (command_on access name.now) name.now loaded.file.items result
+        src.old src.new out.old out.new shelf.old shelf.new }
+{
+    match loaded.header.shape.dims() {
+        1 => on_kind::<T, 1, S, O, F>(alloc, name, access, loaded, src, out, shelf),
+        2 => on_kind::<T, 2, S, O, F>(alloc, name, access, loaded, src, out, shelf),
+        3 => on_kind::<T, 3, S, O, F>(alloc, name, access, loaded, src, out, shelf),
+        _ => on_kind::<T, 4, S, O, F>(alloc, name, access, loaded, src, out, shelf),
+    }
 }
 
 // The same in the type and the number of dimensions: opens it.
@@ -120,7 +139,10 @@ fn on_kind<T: Lane, const D: usize, S: Source, O: Sink, F: Shelf>(
         src.old src.new out.old out.new shelf.old shelf.new }
 {
     match Target::<T, D>::open(alloc, access, loaded) {
-        Ok(target) => on_target(alloc, name, target, src, out, shelf),
+        Ok(target) => {
+            let mut target = target;
+            on_target(alloc, name, &mut target, src, out, shelf)
+        }
         Err(status) => status,
     }
 }
@@ -129,14 +151,14 @@ fn on_kind<T: Lane, const D: usize, S: Source, O: Sink, F: Shelf>(
 fn on_target<T: Lane, const D: usize, S: Source, O: Sink, F: Shelf>(
     alloc: Global,
     name: &Name,
-    target: Target<T, D>,
+    target: &mut Target<T, D>,
     src: &mut S,
     out: &mut O,
     shelf: &mut F,
 ) -> Status
-    requires fresh { IsFresh target }
-    requires room { HasRoom target }
-    ensures { (access : Access) (file : List ℕ) → StandsFor (subject T.value T.width target) access file
+    requires fresh { IsFresh target.old }
+    requires room { HasRoom target.old }
+    ensures { (access : Access) (file : List ℕ) → StandsFor (subject T.value T.width target.old) access file
         → WorksOn O.Sink F.Shelf S.Source (command_on access name.now) name.now file result
         src.old src.new out.old out.new shelf.old shelf.new }
 {
@@ -150,18 +172,17 @@ fn on_target<T: Lane, const D: usize, S: Source, O: Sink, F: Shelf>(
 fn on_script<T: Lane, const D: usize, O: Sink, F: Shelf>(
     alloc: Global,
     name: &Name,
-    target: Target<T, D>,
+    target: &mut Target<T, D>,
     script: &[u8],
     out: &mut O,
     shelf: &mut F,
 ) -> Status
-    requires fresh { IsFresh target }
-    requires room { HasRoom target }
-    ensures { (access : Access) (file : List ℕ) → StandsFor (subject T.value T.width target) access file
+    requires fresh { IsFresh target.old }
+    requires room { HasRoom target.old }
+    ensures { (access : Access) (file : List ℕ) → StandsFor (subject T.value T.width target.old) access file
         → Answers O.Sink F.Shelf (command_on access name.now) name.now file script.now result
         out.old out.new shelf.old shelf.new }
 {
-    let mut target = target;
     match target.run(alloc, script, out) {
         RunEnd::Done => target.close(name, Status::Done, out, shelf),
         RunEnd::Lines(count) => target.close(name, Status::Lines(count), out, shelf),

@@ -97,29 +97,21 @@ impl<T: Lane, const D: usize> Target<T, D> {
 
     /// Hands on the replies to a script that was run with this status, and saves what is to be saved of it.
     pub fn close<O: Sink, F: Shelf>(
-        self,
+        &mut self,
         name: &Name,
         status: Status,
         out: &mut O,
         shelf: &mut F,
     ) -> Status
-        requires room { HasRoom self }
+        requires room { HasRoom self.old }
         requires done { IsDone status }
-        ensures { Closes O.Sink F.Shelf (named name.now (filed_now (subject T.value T.width self)))
+        ensures { Closes O.Sink F.Shelf (named name.now (filed_now (subject T.value T.width self.old)))
             status result out.old out.new shelf.old shelf.new }
     {
         match self {
-            Target::Direct(array) => {
-                let mut array = array;
-                save(name, array.save_bytes(), status, out, shelf)
-            }
+            Target::Direct(array) => save(name, array.save_bytes(), status, out, shelf),
             Target::TwoWay(pair) => {
-                let twoway::Opened {
-                    store,
-                    cache: _cache,
-                    file,
-                } = pair;
-                twoway::save_store(name, &store, file, status, out, shelf)
+                twoway::save_store(name, &pair.store, &mut pair.file, status, out, shelf)
             }
             Target::Look(_) => send(status, out),
         }

@@ -70,20 +70,19 @@ pub fn open<T: Lane, const D: usize>(
 pub fn save_store<T: Lane, const D: usize, O: Sink, F: Shelf>(
     name: &Name,
     store: &Store<T, D>,
-    file: Vec<u8>,
+    file: &mut Vec<u8>,
     status: Status,
     out: &mut O,
     shelf: &mut F,
 ) -> Status
-    requires room { vec_len file ≡ rate_bytes_of store.now.header }
+    requires room { vec_len file.old ≡ rate_bytes_of store.now.header }
     requires done { IsDone status }
     ensures closes { Closes O.Sink F.Shelf (Some (name.now, file_of store.now))
         status result out.old out.new shelf.old shelf.new }
     ensures whole { IsStore T.width D store.now }
 {
-    let mut file = file;
     // Known by this call: what holds of a store.
     let _header = store.header();
-    store.write_file(&mut file);
-    save(name, &file, status, out, shelf)
+    store.write_file(file);
+    save(name, file, status, out, shelf)
 }

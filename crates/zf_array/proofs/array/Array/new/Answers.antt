@@ -11,7 +11,7 @@ use Rattle.zf_array.proofs.array.Array.new.Goals as goal
 pub invariant_of-result : goal.invariant_of-result
 invariant_of-result g c =
     let t = c.in_ok-store.store in
-    let whole = c.header.ensures.whole in
+    let whole = c.header-header.ensures.whole in
     let room = room_of t c.in_ok-cache.cache c.blocks-blocks.result c.in_ok-cache.ensures.room (c.blocks-blocks.ensures.value ∙ ap (λ (u : Stored). blocks u.header.shape) (sym c.in_ok-store.ensures)) in
     record {
       same_type = whole.same_type;
@@ -20,7 +20,7 @@ invariant_of-result g c =
       rate = whole.rate;
       count = whole.count;
       fits = empty_fits g.T.Lane.value (format_of t) (code_at t) c.in_ok-cache.cache c.raised.result c.in_ok-cache.ensures.empty room;
-      room_is = c.in_ok-buffer.ensures.len ∙ c.rate_bytes.ensures ∙ ap rate_bytes_of c.header.ensures.value;
+      room_is = c.in_ok-buffer.ensures ∙ ap (λ (u : Stored). rate_bytes_of u.header) (sym c.in_ok-store.ensures);
     }
 
 pub returns-clause-stored : goal.returns-clause-stored
@@ -28,15 +28,15 @@ returns-clause-stored g c =
     let t = c.in_ok-store.store in
     let room = room_of t c.in_ok-cache.cache c.blocks-blocks.result c.in_ok-cache.ensures.room (c.blocks-blocks.ensures.value ∙ ap (λ (u : Stored). blocks u.header.shape) (sym c.in_ok-store.ensures)) in
     let fits = empty_fits g.T.Lane.value (format_of t) (code_at t) c.in_ok-cache.cache c.raised.result c.in_ok-cache.ensures.empty room in
-    stored_held g.T.Lane.value t c.in_ok-cache.cache c.header.ensures.whole.count fits ∙ c.in_ok-store.ensures
+    stored_held g.T.Lane.value t c.in_ok-cache.cache c.header-header.ensures.whole.count fits ∙ c.in_ok-store.ensures
 
 pub returns-clause-state : goal.returns-clause-state
 returns-clause-state g c =
     let t = c.in_ok-store.store in
     let room = room_of t c.in_ok-cache.cache c.blocks-blocks.result c.in_ok-cache.ensures.room (c.blocks-blocks.ensures.value ∙ ap (λ (u : Stored). blocks u.header.shape) (sym c.in_ok-store.ensures)) in
     let fits = empty_fits g.T.Lane.value (format_of t) (code_at t) _ c.raised.result c.in_ok-cache.ensures.empty room in
-    let is = stored_held g.T.Lane.value t _ c.header.ensures.whole.count fits ∙ c.in_ok-store.ensures in
-    opens g.T.Lane.value t _ c.raised.result c.header.ensures.whole.count c.in_ok-cache.ensures.empty c.in_ok-cache.ensures.counts room
+    let is = stored_held g.T.Lane.value t _ c.header-header.ensures.whole.count fits ∙ c.in_ok-store.ensures in
+    opens g.T.Lane.value t _ c.raised.result c.header-header.ensures.whole.count c.in_ok-cache.ensures.empty c.in_ok-cache.ensures.counts room
     ∙ ap (λ (s : Stored). opened (format_of s) (code_at s) c.raised.result) is
     ∙ ap (opened (format_of (zeros g.T.Lane.TY c.args.shape c.args.bits)) (code_at (zeros g.T.Lane.TY c.args.shape c.args.bits))) c.raised.ensures.value
     ∙ new_is g.T.Lane.width g.T.Lane.TY c.args.shape c.args.bits c.args.lines g.met.T.Lane.width_of_type

@@ -12,5 +12,5 @@ returns-in-Ok g c = λ access file stands.
 
 pub returns-in-Err : goal.returns-in-Err
 returns-in-Err g c = λ access file stands.
-    rw c.from.ensures (WorksOn-untaken access c.args.name.now file (subject g.T.Lane.value g.T.Lane.width c.args.target) stands c.in-Err.error _ _ _ _ (λ long. c.in-Err.ensures.long (ap Err long)) c.take_all.ensures.taken
+    rw c.from.ensures (WorksOn-untaken access c.args.name.now file (subject g.T.Lane.value g.T.Lane.width c.args.target.now) stands c.in-Err.error _ _ _ _ (λ long. c.in-Err.ensures.long (ap Err long)) c.take_all.ensures.taken
     (c.in-Err.ensures.cause.0, λ is. c.in-Err.ensures.cause.1 (ap Err is)) c.take_all.ensures.seen.0 (λ sure. let s = c.in-Err.ensures.sure sure in (λ is. s.0 (ap Err is), s.1)))
