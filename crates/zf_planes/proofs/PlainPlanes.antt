@@ -1,5 +1,5 @@
 -- Planes that bring no new rank, and planes in one word that are written one after another.
-use Rattle.std.proofs.Common.{◌≡◌, ℕ, ◌+◌, ◌-◌, ◌*◌, ◌/◌, ◌^◌, ◌<◌, ◌≤◌, ◌⊎◌, ⊎_elim, max, Bool, false, List, ◌++◌, length, map, take, drop, get_or, replicate, sym, ap, ◌∙◌, arith, lit<, pow_pos}
+use Rattle.std.proofs.Common.{◌≡◌, ℕ, ◌+◌, ◌-◌, ◌*◌, ◌/◌, ◌^◌, ◌<◌, ◌≤◌, max, Bool, false, List, ◌++◌, length, map, take, drop, get_or, replicate, sym, ap, ◌∙◌, arith, lit<, pow_pos}
 use Rattle.std.proofs.Math.Nat.{pow-le-pow_right}
 use Rattle.zf_bits.specs.Writer.{Writer}
 use Rattle.zf_spec.specs.Numbers.{field}
@@ -20,10 +20,6 @@ reach_below n size v order none =
     let digits : field size v ≡ field n v ++ replicate (size - n) false =
     ap (λ k. field k v) (sym parts) ∙ field-add n (size - n) v ∙ ap (λ u. field n v ++ field (size - n) u) none ∙ ap (λ (bs : List Bool). field n v ++ bs) (field-zero (size - n)) in
     omega (arith, ap reach digits ∙ reach_behind (field n v) (size - n), reach-le (field n v), length-field n v)
-
--- where ranks are left, a plane that brings none has no one there
-pub none_new : (n size v : ℕ) → (n ≡ size) ⊎ (v / 2 ^ n ≡ 0) → (n ≡ size → ⊥) → v / 2 ^ n ≡ 0
-none_new n size v plain other = ⊎_elim (λ (whole : n ≡ size). absurd (other whole)) (λ (none : v / 2 ^ n ≡ 0). none) plain
 
 pub whole_code : (n size v : ℕ) → n ≡ size → plane_code n (field size v) ≡ field size v
 whole_code n size v all = rw all (plane_whole size v)

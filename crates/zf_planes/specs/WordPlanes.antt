@@ -21,9 +21,9 @@ pub record IsPlainCode (n size digits l bits : ℕ) : Type 0 where
 
 -- of p planes, the code of those from the one of number `from` on is the l bits of v, and behind them that of
 -- those from the i-th on; so far do the ones above these reach
-pub record AreBegun (from p size : ℕ) (planes : List (List Bool)) (l v a i : ℕ) : Type 0 where
+pub record AreBegun (from p : ℕ) (planes : List (List Bool)) (l v a i : ℕ) : Type 0 where
   pub code : code_from 0 (drop from planes) ≡ field l v ++ code_from a (drop i planes)
   pub small : v < 2 ^ l
   pub len : l ≤ 64
-  pub above : a ≤ size
+  pub above : a ≤ 4
   pub next : i ≤ p

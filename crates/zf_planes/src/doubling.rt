@@ -67,10 +67,9 @@ pub(crate) fn join(prefix: Part, back: Part) -> Part
     ensures small { back.bits < 2 ^ back.len → result.bits < 2 ^ result.len }
     ensures len { result.len ≡ prefix.len + back.len }
 {
-    Part {
-        bits: prefix.bits | back.bits << prefix.len,
-        len: prefix.len + back.len,
-    }
+    let bits = prefix.bits | back.bits << prefix.len;
+    let len = prefix.len + back.len;
+    Part { bits, len }
 }
 
 /// Appends bits, as far as `left` bits reach. The answer is the bits that are left.

@@ -110,10 +110,9 @@ fn code_of_lone(planes: u32, word: u64) -> Part
     ensures bits { field result.len result.bits ≡ true ∷ lone_code (map (top_digit word) (upto planes)) }
     ensures len { result.len ≤ 33 }
 {
-    Part {
-        bits: 1 + 2 * pairs_of_top(word),
-        len: 1 + 2 * u64::from(planes),
-    }
+    let bits = 1 + 2 * pairs_of_top(word);
+    let len = 1 + 2 * u64::from(planes);
+    Part { bits, len }
 }
 
 /// Four words without their top `count` digits.

@@ -13,30 +13,17 @@ use crate::four_writing::code_of_two;
 use crate::words::{first_word, reach_in};
 use zf_bits::{BitWriter, Plane};
 
-/// Whether a plane has no one at ranks that have had none above, so that its code is its digits.
-#[inline(always)]
-fn is_plain(n: u64, size: u64, digits: u64) -> bool
-    requires in_plane { n ≤ size }
-    requires size { size ≤ 64 }
-    ensures plain { result ≡ true → (n ≡ size) ⊎ (digits / 2 ^ n ≡ 0) }
-    ensures new { result ≡ false → (n < size) × (0 < digits / 2 ^ n) }
-{
-    n == size || digits >> n == 0
-}
-
-/// The code of such a plane: its digits, and where ranks are left a group bit of zero.
+/// The code of a plane with no one at ranks that have had none above, of which there are some: its digits, and
+/// a group bit of zero.
 #[inline(always)]
 fn plain_plane(n: u64, size: u64, digits: u64) -> Part
     requires size { IsWordSize size }
-    requires in_plane { n ≤ size }
-    requires digits { digits < 2 ^ size }
-    requires plain { (n ≡ size) ⊎ (digits / 2 ^ n ≡ 0) }
+    requires in_plane { n < size }
+    requires plain { digits / 2 ^ n ≡ 0 }
     ensures { IsPlainCode n size digits result.len result.bits }
 {
-    Part {
-        bits: digits,
-        len: if n == size { size } else { n + 1 },
-    }
+    let len = n + 1;
+    Part { bits: digits, len }
 }
 
 /// The code of the first planes, which is not written yet.
@@ -59,7 +46,7 @@ fn narrow_planes<P: Plane>(from: usize, prec: u32, size: usize, planes: &[P]) ->
     requires size { size ≤ 64 }
     requires planes { prec ≤ length planes.now }
     requires from { from ≤ prec }
-    ensures { AreBegun from prec size (take prec (planes_held size (map P.words planes.now))) result.part.len
+    ensures { AreBegun from prec (take prec (planes_held size (map P.words planes.now))) result.part.len
         result.part.bits result.above result.next }
 {
     let mut part = Part { bits: 0, len: 0 };
@@ -102,7 +89,7 @@ pub(crate) fn write_planes_of_word<P: Plane>(
     planes: &[P],
     out: &mut BitWriter,
 ) -> u64
-    requires some { 3 < size }
+    requires some { 4 < size }
     requires size { size ≤ 64 }
     requires planes { prec ≤ length planes.now }
     requires from { from ≤ prec }
@@ -120,7 +107,7 @@ pub(crate) fn write_planes_of_word<P: Plane>(
         let plane = &planes[planes.len() - 1 - i];
         let digits = first_word(plane, size);
         i += 1;
-        if is_plain(above as u64, size as u64, digits) {
+        if digits >> above == 0 {
             let more = plain_plane(above as u64, size as u64, digits);
             if part.len + more.len > 64 {
                 left = write_part(left, part, out);
@@ -132,7 +119,22 @@ pub(crate) fn write_planes_of_word<P: Plane>(
             left = write_with(left, &mut part, above as u64, size as u64, digits, out);
             let end = reach_in(plane, size);
             above = above.max(end);
+            if above == size {
+                break;
+            }
         }
     }
-    write_part(left, part, out)
+    let mut left = write_part(left, part, out);
+    // Once all ranks have had a one, planes are written as they are, as many at once as a word has room for.
+    while i < prec as usize && left > 0 {
+        let mut whole = Part { bits: 0, len: 0 };
+        while i < prec as usize && whole.len + size as u64 <= 64 {
+            let bits = first_word(&planes[planes.len() - 1 - i], size);
+            let len = size as u64;
+            whole = join(whole, Part { bits, len });
+            i += 1;
+        }
+        left = write_part(left, whole, out);
+    }
+    left
 }

@@ -1,15 +1,19 @@
-use Rattle.std.proofs.Common.{◌≡◌, ℕ, ◌+◌, ◌-◌, min, max, Bool, List, ◌++◌, length, map, take, drop, sym, ap, ◌∙◌, arith, append_assoc, length-append}
+use Rattle.std.proofs.Common.{[], get_or, refl, ◌<◌, ◌≤◌, ◌≡◌, ℕ, ◌+◌, ◌-◌, max, Bool, List, ◌++◌, length, map, take, drop, sym, ap, ◌∙◌, arith, append_assoc, length-append}
 use Rattle.std.proofs.lemmas.List.{drop_all, length-map}
 use Rattle.zf_spec.specs.Numbers.{field}
 use Rattle.zf_spec.specs.Planes.{plane_code, code_from, reach}
-use Rattle.zf_spec.specs.HeldPlanes.{planes_held}
+use Rattle.zf_spec.specs.HeldPlanes.{digits_held, planes_held}
 use Rattle.zf_spec.proofs.Fields.{length-field}
 use Rattle.zf_planes.proofs.Budgets.{Remains-through, Remains-same, Remains-fits, Remains-more, Remains-end}
 use Rattle.zf_planes.proofs.Unpacking.{length-top_held}
-use Rattle.zf_planes.proofs.PlainPlanes.{next_word}
+use Rattle.zf_spec.proofs.Reach.{reach-le}
+use Rattle.zf_bits.specs.Writer.{Writer}
+use Rattle.zf_planes.specs.Writes.{Remains, LeavesPart}
+use Rattle.zf_planes.proofs.Strings.{Remains-none}
+use Rattle.zf_planes.proofs.PlainPlanes.{next_word, whole_code}
 use Rattle.zf_planes.proofs.word_writing.write_planes_of_word.Given.{Over}
 use Rattle.zf_planes.proofs.word_writing.write_planes_of_word.Goals as goal
-use Rattle.zf_planes.proofs.word_writing.write_planes_of_word.Goals.{then-loop-i-test+else-left-part, else-loop-i-test}
+use Rattle.zf_planes.proofs.word_writing.write_planes_of_word.Goals.{then-loop-i-test+else-left-part, else-loop-i-test, then-loop-i-test+then-left-part+else-digits-above-eq0+then-above-size, then-loop-i-3-test+else-whole-size-le64, else-loop-i-3-test}
 
 pub write_part-left-requires-clause-fits : goal.write_part-left-requires-clause-fits
 write_part-left-requires-clause-fits g c = omega (arith, Remains-fits (field c.loop-i.part.len c.loop-i.part.bits) _ c.loop-i.invariant.remains, length-field c.loop-i.part.len c.loop-i.part.bits)
@@ -65,49 +69,153 @@ write_with-left-requires-clause-fits g c =
     c.index-planes-planes.is c.loop-i-test.true c.requires.planes c.first_word-digits.ensures.digits in
     omega (arith, Remains-fits (field part.len part.bits ++ code) _ (Remains-same next (sym (append_assoc (field part.len part.bits) code _))), length-append (field part.len part.bits) code, length-field part.len part.bits)
 
+-- its code follows the bits that were put together
+with_next : {A : Type 0} {old now new : Writer} {budget left after : ℕ} {whole : List Bool} (words : A → List ℕ) (above prec size i len bits digits l v top : ℕ) (planes : List A) (plane : A)
+    → Remains old now budget left whole (field len bits ++ code_from above (drop i (take prec (planes_held size (map words planes)))))
+    → plane ≡ get_or planes (length planes - 1 - i) plane → i < prec → prec ≤ length planes → field size digits ≡ digits_held size (words plane)
+    → LeavesPart left after now new (field len bits ++ plane_code above (field size digits)) l v → max above (reach (field size digits)) ≡ top
+    → Remains old new budget after whole (field l v ++ code_from top (drop (i + 1) (take prec (planes_held size (map words planes)))))
+with_next words above prec size i len bits digits l v top planes plane remains is below within same leaves reached =
+    let code = plane_code above (field size digits) in
+    let rest = drop (i + 1) (take prec (planes_held size (map words planes))) in
+    let next = next_word words above prec size i len bits digits planes plane remains is below within same in
+    Remains-same
+    (Remains-through (field len bits ++ code) (field l v) _ (Remains-same next (sym (append_assoc (field len bits) code _))) leaves.code)
+    (ap (λ n. field l v ++ code_from n rest) reached)
+
 pub loop-i-preserved : goal.loop-i-preserved
 loop-i-preserved g c =
     let part = c.loop-i.part in
     let ds = field c.args.size c.first_word-digits.result in
-    let code = plane_code c.loop-i.above ds in
-    let rest = drop (c.loop-i.i + 1) (take c.args.prec (planes_held c.args.size (map g.P.Plane.words c.args.planes.now))) in
-    let next = next_word g.P.Plane.words c.loop-i.above c.args.prec c.args.size c.loop-i.i part.len part.bits c.first_word-digits.result c.args.planes.now c.index-planes-planes.result c.loop-i.invariant.remains
-    c.index-planes-planes.is c.loop-i-test.true c.requires.planes c.first_word-digits.ensures.digits in
     let new = c.write_with-left.new.part in
     let top : c.max-above.result ≡ max c.loop-i.above c.reach_in-end.result = omega (arith, c.max-above.ensures) in
     let reached : max c.loop-i.above (reach ds) ≡ c.max-above.result = omega (arith, ap reach c.first_word-digits.ensures.digits, c.reach_in-end.ensures.value, top) in
     record {
       remains =
-          Remains-same
-          (Remains-through (field part.len part.bits ++ code) (field new.len new.bits) _ (Remains-same next (sym (append_assoc (field part.len part.bits) code _))) c.write_with-left.ensures.code)
-          (ap (λ n. field new.len new.bits ++ code_from n rest) reached);
-      above = omega (arith, c.loop-i.invariant.above, c.reach_in-end.ensures.bound, top);
+          with_next g.P.Plane.words c.loop-i.above c.args.prec c.args.size c.loop-i.i part.len part.bits c.first_word-digits.result new.len new.bits c.max-above.result c.args.planes.now c.index-planes-planes.result
+          c.loop-i.invariant.remains c.index-planes-planes.is c.loop-i-test.true c.requires.planes c.first_word-digits.ensures.digits c.write_with-left.ensures reached;
+      above = omega (arith, c.loop-i.invariant.above, c.reach_in-end.ensures.bound, top, c.if-above-size.false);
       place = omega (arith, c.loop-i-test.true);
       small = c.write_with-left.ensures.small;
       in_word = c.write_with-left.ensures.len;
     }
 
--- ---- no bit or no plane is left
+-- ---- the planes behind, as they are
 
-none_left : (g : Over) (c : goal.After-write_part g) → min (c.loop-i.left - c.loop-i.part.len) (length (code_from c.loop-i.above (drop c.loop-i.i (take c.args.prec (planes_held c.args.size (map g.P.Plane.words c.args.planes.now)))))) ≡ 0
-none_left g c = elim c.loop-i-test.branch [
-  | then-loop-i-test+else-left-part w ↦ omega (arith, w.if-left-part.false)
-  | else-loop-i-test w ↦
-      let planes = map g.P.Plane.words c.args.planes.now in
-      let long = length-map c.args.planes.now g.P.Plane.words in
-      let top = take c.args.prec (planes_held c.args.size planes) in
-      let none = ap (λ (ps : List (List Bool)). length (code_from c.loop-i.above ps)) (drop_all c.loop-i.i top (omega (arith, length-top_held c.args.prec c.args.size planes (omega (arith, c.requires.planes)), w.loop-i-test.false))) in
-      omega (arith, none)
+-- however the first loop ends, what it has put together and the planes behind remain
+ended : (g : Over) (c : goal.After-write_part-arg-2-1 g) → Remains c.args.out.now c.loop-i-test.out c.args.left c.loop-i-test.left (code_from 0 (drop c.args.from (take c.args.prec (planes_held c.args.size (map g.P.Plane.words c.args.planes.now)))))
+    (field c.loop-i-test.part.len c.loop-i-test.part.bits ++ code_from c.loop-i-test.above (drop c.loop-i-test.i (take c.args.prec (planes_held c.args.size (map g.P.Plane.words c.args.planes.now)))))
+ended g c = elim c.loop-i-test.branch [
+  | then-loop-i-test+else-left-part w ↦ rw (w.out-is, w.left-is, w.part-is, w.above-is, w.i-is) c.loop-i.invariant.remains
+  | else-loop-i-test w ↦ rw (w.out-is, w.left-is, w.part-is, w.above-is, w.i-is) c.loop-i.invariant.remains
+  | then-loop-i-test+then-left-part+else-digits-above-eq0+then-above-size w ↦
+      let part = c.loop-i.part in
+      let ds = field c.args.size w.first_word-digits.result in
+      let new = w.write_with-left.new.part in
+      let top : w.max-above.result ≡ max c.loop-i.above w.reach_in-end.result = omega (arith, w.max-above.ensures) in
+      let reached : max c.loop-i.above (reach ds) ≡ w.max-above.result = omega (arith, ap reach w.first_word-digits.ensures.digits, w.reach_in-end.ensures.value, top) in
+      rw (w.out-is, w.left-is, w.part-is, w.above-is, w.i-is)
+      (with_next g.P.Plane.words c.loop-i.above c.args.prec c.args.size c.loop-i.i part.len part.bits w.first_word-digits.result new.len new.bits w.max-above.result c.args.planes.now w.index-planes-planes.result
+      c.loop-i.invariant.remains w.index-planes-planes.is w.loop-i-test.true c.requires.planes w.first_word-digits.ensures.digits w.write_with-left.ensures reached)
 ]
 
-pub write_part-requires-clause-fits : goal.write_part-requires-clause-fits
-write_part-requires-clause-fits g c = omega (arith, Remains-fits (field c.loop-i.part.len c.loop-i.part.bits) _ c.loop-i.invariant.remains, length-field c.loop-i.part.len c.loop-i.part.bits)
+pub write_part-left-requires-2-clause-in_word : goal.write_part-left-requires-2-clause-in_word
+write_part-left-requires-2-clause-in_word g c = elim c.loop-i-test.branch [
+  | then-loop-i-test+else-left-part w ↦ rw w.part-is c.loop-i.invariant.in_word
+  | else-loop-i-test w ↦ rw w.part-is c.loop-i.invariant.in_word
+  | then-loop-i-test+then-left-part+else-digits-above-eq0+then-above-size w ↦ rw w.part-is w.write_with-left.ensures.len
+]
 
-pub returns : goal.returns
-returns g c =
-    let part = c.loop-i.part in
-    let rest = code_from c.loop-i.above (drop c.loop-i.i (take c.args.prec (planes_held c.args.size (map g.P.Plane.words c.args.planes.now)))) in
+pub write_part-left-requires-2-clause-fits : goal.write_part-left-requires-2-clause-fits
+write_part-left-requires-2-clause-fits g c = omega (arith, Remains-fits (field c.loop-i-test.part.len c.loop-i-test.part.bits) _ (ended g c), length-field c.loop-i-test.part.len c.loop-i-test.part.bits)
+
+-- no plane is left
+none_left : {A : Type 0} (words : A → List ℕ) (n prec size i : ℕ) (planes : List A) → prec ≤ length planes → prec ≤ i → code_from n (drop i (take prec (planes_held size (map words planes)))) ≡ []
+none_left words n prec size i planes within past =
+    let held = map words planes in
+    let long = length-map planes words in
+    ap (code_from n) (drop_all i (take prec (planes_held size held)) (omega (arith, length-top_held prec size held (omega (arith, within)), past)))
+
+-- it is written
+written : (g : Over) (c : goal.After-write_part-left-2 g) → Remains c.args.out.now c.write_part-left-2.new.out c.args.left c.write_part-left-2.result (code_from 0 (drop c.args.from (take c.args.prec (planes_held c.args.size (map g.P.Plane.words c.args.planes.now)))))
+    (code_from c.loop-i-test.above (drop c.loop-i-test.i (take c.args.prec (planes_held c.args.size (map g.P.Plane.words c.args.planes.now)))))
+written g c =
+    let part = c.loop-i-test.part in
+    let spent : c.loop-i-test.left - length (field part.len part.bits) ≡ c.write_part-left-2.result = omega (arith, c.write_part-left-2.ensures.left, length-field part.len part.bits) in
+    rw spent at (Remains-more (field part.len part.bits) _ (ended g c.before) c.write_part-left-2.ensures.bits)
+
+-- and all ranks have had a one, or nothing is left to write
+behind : (g : Over) (c : goal.After-write_part-left-2 g) → Remains c.args.out.now c.write_part-left-2.new.out c.args.left c.write_part-left-2.result (code_from 0 (drop c.args.from (take c.args.prec (planes_held c.args.size (map g.P.Plane.words c.args.planes.now)))))
+    (code_from c.args.size (drop c.loop-i-test.i (take c.args.prec (planes_held c.args.size (map g.P.Plane.words c.args.planes.now)))))
+behind g c = elim c.loop-i-test.branch [
+  | then-loop-i-test+else-left-part w ↦
+      Remains-none (code_from c.loop-i-test.above (drop c.loop-i-test.i (take c.args.prec (planes_held c.args.size (map g.P.Plane.words c.args.planes.now))))) _
+      (omega (arith, c.write_part-left-2.ensures.left, w.if-left-part.false, w.left-is, ap (λ p. p.len) w.part-is)) (written g c)
+  | else-loop-i-test w ↦
+      let past : c.args.prec ≤ c.loop-i-test.i = omega (arith, w.loop-i-test.false, w.i-is) in
+      Remains-same (written g c)
+      (none_left g.P.Plane.words c.loop-i-test.above c.args.prec c.args.size c.loop-i-test.i c.args.planes.now c.requires.planes past
+      ∙ sym (none_left g.P.Plane.words c.args.size c.args.prec c.args.size c.loop-i-test.i c.args.planes.now c.requires.planes past))
+  | then-loop-i-test+then-left-part+else-digits-above-eq0+then-above-size w ↦
+      Remains-same (written g c) (ap (λ n. code_from n (drop c.loop-i-test.i (take c.args.prec (planes_held c.args.size (map g.P.Plane.words c.args.planes.now))))) (w.above-is ∙ w.if-above-size.true))
+]
+
+place : (g : Over) (c : goal.After-write_part-left-2 g) → c.loop-i-test.i ≤ c.args.prec
+place g c = elim c.loop-i-test.branch [
+  | then-loop-i-test+else-left-part w ↦ omega (arith, w.i-is, c.loop-i.invariant.place)
+  | else-loop-i-test w ↦ omega (arith, w.i-is, c.loop-i.invariant.place)
+  | then-loop-i-test+then-left-part+else-digits-above-eq0+then-above-size w ↦ omega (arith, w.i-is, w.loop-i-test.true)
+]
+
+pub loop-i-2-init : goal.loop-i-2-init
+loop-i-2-init g c = record { remains = behind g c; place = place g c }
+
+pub loop-i-3-preserved : goal.loop-i-3-preserved
+loop-i-3-preserved g c =
+    let words = g.P.Plane.words in
+    let size = c.args.size in
+    let now = c.loop-i-3 in
+    let v = c.first_word-bits.result in
+    let joined = c.join-whole in
+    let rest = drop (now.i + 1) (take c.args.prec (planes_held size (map words c.args.planes.now))) in
+    let next = next_word words size c.args.prec size now.i now.whole.len now.whole.bits v c.args.planes.now c.index-planes-planes-in-loop-i-3.result now.invariant.remains
+    c.index-planes-planes-in-loop-i-3.is c.loop-i-3-test.true c.requires.planes c.first_word-bits.ensures.digits in
+    let all : max size (reach (field size v)) ≡ size = omega (arith, reach-le (field size v), length-field size v) in
     record {
-      bits = Remains-end (Remains-more (field part.len part.bits) _ c.loop-i.invariant.remains c.write_part.ensures.bits) (omega (arith, none_left g c, length-field part.len part.bits));
-      left = omega (arith, none_left g c, c.loop-i.invariant.remains.spent, c.loop-i.invariant.remains.within, c.write_part.ensures.left, length-append (field part.len part.bits) rest, length-field part.len part.bits);
+      remains =
+          Remains-same next
+          (ap (λ (bs : List Bool). field now.whole.len now.whole.bits ++ bs) (plain_next size size v (field size v) rest (whole_code size size v refl) all)
+          ∙ sym (append_assoc (field now.whole.len now.whole.bits) (field size v) (code_from size rest))
+          ∙ ap (λ (bs : List Bool). bs ++ code_from size rest) (sym joined.ensures.bits));
+      place = omega (arith, c.loop-i-3-test.true);
+      small = joined.ensures.small c.first_word-bits.ensures.small;
+      in_word = omega (arith, joined.ensures.len, c.if-whole-size-le64.true);
+      some = omega (arith, joined.ensures.len, now.invariant.some, now.invariant.on, c.requires.size);
+      on = omega (arith, now.invariant.on);
     }
+
+pub write_part-left-requires-in-loop-i-2-clause-fits : goal.write_part-left-requires-in-loop-i-2-clause-fits
+write_part-left-requires-in-loop-i-2-clause-fits g c = omega (arith, Remains-fits (field c.loop-i-3.whole.len c.loop-i-3.whole.bits) _ c.loop-i-3.invariant.remains, length-field c.loop-i-3.whole.len c.loop-i-3.whole.bits)
+
+pub loop-i-2-smaller : goal.loop-i-2-smaller
+loop-i-2-smaller g c = elim c.loop-i-3-test.branch [
+  | then-loop-i-3-test+else-whole-size-le64 w ↦ omega (arith, c.loop-i-2-test.true, w.if-whole-size-le64.false, c.loop-i-3.invariant.some, c.requires.size)
+  | else-loop-i-3-test w ↦ omega (arith, c.loop-i-2-test.true, w.loop-i-3-test.false)
+]
+
+pub loop-i-2-preserved : goal.loop-i-2-preserved
+loop-i-2-preserved g c =
+    let whole = c.loop-i-3.whole in
+    let spent : c.loop-i-2.left - length (field whole.len whole.bits) ≡ c.write_part-left-in-loop-i-2.result = omega (arith, c.write_part-left-in-loop-i-2.ensures.left, length-field whole.len whole.bits) in
+    record { remains = rw spent at (Remains-more (field whole.len whole.bits) _ c.loop-i-3.invariant.remains c.write_part-left-in-loop-i-2.ensures.bits); place = c.loop-i-3.invariant.place }
+
+pub returns-else-left-gt0 : goal.returns-else-left-gt0
+returns-else-left-gt0 g c = record {
+  bits = Remains-end c.loop-i-2.invariant.remains (omega (arith, c.if-left-gt0.false));
+  left = omega (arith, c.if-left-gt0.false, c.loop-i-2.invariant.remains.spent);
+}
+
+pub returns-after-loop-i-2 : goal.returns-after-loop-i-2
+returns-after-loop-i-2 g c =
+    let none = ap length (none_left g.P.Plane.words c.args.size c.args.prec c.args.size c.loop-i-2.i c.args.planes.now c.requires.planes c.loop-i-2-test.false) in
+    record { bits = Remains-end c.loop-i-2.invariant.remains (omega (arith, none)); left = omega (arith, none, c.loop-i-2.invariant.remains.spent) }
