@@ -194,11 +194,11 @@ fn a_cache_that_only_reads(rt: HostRuntime) -> Result<(), Fail> {
     let first = cache.get_read(&mut back, 1, 2);
     let again = cache.get_read(&mut back, 1, 3);
     let other = cache.get_read(&mut back, 3, 0);
-    assert!(rt; (first, again, other) == (0, 0, 0));
+    assert!(rt; first == 0 && again == 0 && other == 0);
     assert!(rt; cache.stats() == stats(1, 2, 0));
     let whole = cache.block_read(&mut back, 3).len();
-    cache.relined_read(8)?;
-    assert!(rt; (whole, cache.lines()) == (4, 8));
+    let relined = cache.relined_read(8).is_ok();
+    assert!(rt; whole == 4 && relined && cache.lines() == 8);
     assert!(rt; cache.stats() == stats(2, 2, 0));
     Ok(())
 }
@@ -213,7 +213,7 @@ fn a_cache_of_more_lines_than_blocks(rt: HostRuntime) -> Result<(), Fail> {
     let kept = cache.get(&mut back, 0, 2);
     cache.flush(&mut back);
     let rounded = cache.get(&mut back, 0, 2);
-    assert!(rt; (cache.lines(), kept, rounded) == (2, 7, 6));
+    assert!(rt; cache.lines() == 2 && kept == 7 && rounded == 6);
     assert!(rt; cache.stats() == stats(1, 2, 1));
     Ok(())
 }

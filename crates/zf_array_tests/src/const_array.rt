@@ -59,6 +59,16 @@ fn open(
     Ok(ConstArray::from_file(alloc, &h, file.to_vec(alloc)?, lines))
 }
 
+// The array of a file that is one.
+fn opened(
+    rt: &impl Abort,
+    alloc: Global,
+    file: &[u8],
+    lines: u32,
+) -> Result<ConstArray<i32, 1>, Fail> {
+    Ok(open(rt, alloc, file, lines)?.ok().ok_or("an array")?)
+}
+
 fn get(rt: &impl Abort, a: &mut ConstArray<i32, 1>, x: u64) -> i32 {
     let p = at(x, 0);
     assert!(rt; a.shape().contains(p));
@@ -95,6 +105,28 @@ fn goes(rt: &impl Abort, a: &mut ConstArray<i32, 1>, step: &Step) -> Result<bool
         }
     }
     Ok(true)
+}
+
+// Whether all calls go as their steps say.
+fn all_go(rt: &impl Abort, a: &mut ConstArray<i32, 1>, steps: &[Step]) -> Result<bool, Fail> {
+    for step in steps {
+        if !goes(rt, a, step)? {
+            return Ok(false);
+        }
+    }
+    Ok(true)
+}
+
+// The same of the array of a file. It is dropped in one place: where it is, costs a proof.
+fn file_goes(
+    rt: &impl Abort,
+    alloc: Global,
+    file: &[u8],
+    lines: u32,
+    steps: &[Step],
+) -> Result<bool, Fail> {
+    let mut a = opened(rt, alloc, file, lines)?;
+    all_go(rt, &mut a, steps)
 }
 
 // What a script shows, a file, the lines of its array, and the steps.
@@ -146,10 +178,7 @@ const SCRIPTS: [(&str, &[u8], u32, &[Step]); 3] = [
 #[test]
 fn calls_go_as_their_steps_say(rt: HostRuntime) -> Result<(), Fail> {
     for (shows, file, lines, steps) in SCRIPTS.iter() {
-        let mut a = open(&rt, rt.alloc(), file, *lines)?.ok().ok_or("an array")?;
-        for step in *steps {
-            assert!(rt; goes(&rt, &mut a, step)?, "{shows}");
-        }
+        assert!(rt; file_goes(&rt, rt.alloc(), file, *lines, steps)?, "{shows}");
     }
     Ok(())
 }
@@ -169,6 +198,20 @@ fn has(rt: &impl Abort, a: &mut ConstArray<i32, 1>, at: &[usize], values: &[i32;
     true
 }
 
+// Whether the array of a file has these values, with so many lines and then with one.
+fn keeps(
+    rt: &impl Abort,
+    alloc: Global,
+    file: &[u8],
+    lines: u32,
+    values: &[i32; 5],
+) -> Result<bool, Fail> {
+    let mut a = opened(rt, alloc, file, lines)?;
+    let first = has(rt, &mut a, &FIRST, values);
+    let relined = a.set_lines(1).is_ok();
+    Ok(first && relined && a.lines() == 1 && has(rt, &mut a, &THEN, values))
+}
+
 // A file of five values, and these.
 const FILES: [(&[u8; 24], [i32; 5]); 2] = [
     (&FIVE, [1, 2, 3, 4, 5]),
@@ -179,10 +222,7 @@ const FILES: [(&[u8; 24], [i32; 5]); 2] = [
 fn the_same_values_for_every_number_of_lines(rt: HostRuntime) -> Result<(), Fail> {
     for (file, values) in FILES.iter() {
         for lines in [1, 2, 3, 65536] {
-            let mut a = open(&rt, rt.alloc(), *file, lines)?.ok().ok_or("an array")?;
-            assert!(rt; has(&rt, &mut a, &FIRST, values));
-            a.set_lines(1)?;
-            assert!(rt; a.lines() == 1 && has(&rt, &mut a, &THEN, values));
+            assert!(rt; keeps(&rt, rt.alloc(), *file, lines, values)?);
         }
     }
     Ok(())
@@ -191,18 +231,30 @@ fn the_same_values_for_every_number_of_lines(rt: HostRuntime) -> Result<(), Fail
 // A position along x and y, and its value.
 const OF_SHEET: [(u64, u64, i64); 5] = [(4, 1, 10), (0, 0, 1), (4, 0, 5), (3, 1, 9), (0, 1, 6)];
 
-#[test]
-fn two_dimensions_and_wide_values(rt: HostRuntime) -> Result<(), Fail> {
+// The array of the sheet.
+fn sheet(rt: &impl Abort, alloc: Global) -> Result<ConstArray<i64, 2>, Fail> {
     let (h, _) = zf_header::read(&SHEET).ok().ok_or("a header")?;
     assert!(rt; h.ty == Ty::I64);
     assert!(rt; h.shape.dims() == 2);
-    let mut a = ConstArray::<i64, 2>::from_file(rt.alloc(), &h, SHEET.to_vec(rt.alloc())?, 1)
-        .ok()
-        .ok_or("an array")?;
-    for (x, y, value) in OF_SHEET.iter() {
-        let p = at(*x, *y);
-        assert!(rt; a.shape().contains(p));
-        assert!(rt; a.get(p) == *value, "{x} {y}");
+    let file = SHEET.to_vec(alloc)?;
+    Ok(
+        ConstArray::from_file(alloc, &h, file, 1)
+            .ok()
+            .ok_or("an array")?,
+    )
+}
+
+fn value(rt: &impl Abort, a: &mut ConstArray<i64, 2>, x: u64, y: u64) -> i64 {
+    let p = at(x, y);
+    assert!(rt; a.shape().contains(p));
+    a.get(p)
+}
+
+#[test]
+fn two_dimensions_and_wide_values(rt: HostRuntime) -> Result<(), Fail> {
+    let mut a = sheet(&rt, rt.alloc())?;
+    for (x, y, wanted) in OF_SHEET.iter() {
+        assert!(rt; value(&rt, &mut a, *x, *y) == *wanted, "{x} {y}");
     }
     Ok(())
 }
@@ -217,21 +269,23 @@ const MANY: [Step; 6] = [
     Step::Get(16399, 1),
 ];
 
-// 4100 blocks of zeros but for the last value, which is 1: more than an index keeps a place for.
-#[test]
-fn many_blocks(rt: HostRuntime) -> Result<(), Fail> {
-    let mut words = vec![in rt.alloc(); 0; 387]?;
+// The file of 4100 blocks of zeros but for the last value, which is 1.
+fn file_of_many(alloc: Global) -> Result<Vec<u8>, Fail> {
+    let mut words = vec![in alloc; 0; 387]?;
     // the header of 16400 values without loss: all codes but the last have 6 bits, which are 0
     put_bits(&mut words, 0, 0x0570667a, 32);
     put_bits(&mut words, 36, 16399, 48);
     put_bits(&mut words, 84, 2176, 12);
     // the last code, as the one of eight values
     put_bits(&mut words, 96 + 6 * 4099, 0x10_0000_001f, 40);
-    let file = bytes_of_words(rt.alloc(), &words)?;
-    let mut a = open(&rt, rt.alloc(), &file, 16)?.ok().ok_or("an array")?;
-    for step in MANY.iter() {
-        assert!(rt; goes(&rt, &mut a, step)?);
-    }
+    Ok(bytes_of_words(alloc, &words)?)
+}
+
+// They are more than an index keeps a place for.
+#[test]
+fn many_blocks(rt: HostRuntime) -> Result<(), Fail> {
+    let file = file_of_many(rt.alloc())?;
+    assert!(rt; file_goes(&rt, rt.alloc(), &file, 16, &MANY)?);
     Ok(())
 }
 
