@@ -13,8 +13,8 @@ use crate::four_writing::code_of_two;
 use crate::words::{first_word, reach_in};
 use zf_bits::{BitWriter, Plane};
 
-/// The code of a plane with no one at ranks that have had none above, of which there are some: its digits, and
-/// a group bit of zero.
+/// The code of a plane with no one at ranks that have had none above, of which there are some: its digits,
+/// and a group bit of zero.
 #[inline(always)]
 fn plain_plane(n: u64, size: u64, digits: u64) -> Part
     requires size { IsWordSize size }
@@ -37,9 +37,9 @@ struct Begun {
     next: usize,
 }
 
-/// The code of the planes in which the first three ranks alone have ones, from the one of number `from` on, as
-/// far as it surely fits a word. Where values are smooth, these are many. The table of planes of four digits
-/// knows them two at a time; once all three ranks have had a one, each is written as it is.
+/// The code of the planes in which the first three ranks alone have ones, from the one of number `from` on,
+/// as far as it surely fits a word. Where values are smooth, these are many. The table of planes of four
+/// digits knows them two at a time; once all three ranks have had a one, each is written as it is.
 #[inline(always)]
 fn narrow_planes<P: Plane>(from: usize, prec: u32, size: usize, planes: &[P]) -> Begun
     requires some { 3 < size }
