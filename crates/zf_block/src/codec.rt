@@ -288,8 +288,9 @@ fn read_block<C: BlockCode<T>, T: Lane, P: Plane, const N: usize>(
         result reader.old reader.new }
 {
     let count = code.read(N, reader, planes)?;
-    // A block of one value needs no transform. It has at most two bits a plane, and one more.
-    if count <= 2 * u64::from(T::WIDTH) + 1 {
+    // A block of one value needs no transform. Where its two top planes are zero, its code has fewer than two
+    // bits a plane; a longer code is mostly a cut one of another block.
+    if count < 2 * u64::from(T::WIDTH) {
         if let Some(first) = first_alone(d, planes) {
             C::inverse_of_first(d, first, block);
             return Some(());
