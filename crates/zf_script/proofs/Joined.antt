@@ -1,7 +1,7 @@
 -- Numbers with a byte between two of them, part by part.
 use Rattle.std.proofs.Common.{◌≡◌, ◌≢◌, ℕ, zero, suc, ◌+◌, ◌<◌, ◌≤◌, ◌^◌, true, ◌==◌, List, [], ◌∷◌, ◌++◌, map, length, get_or, set, take, IsTrue, refl, ap, sym, ◌∙◌, subst, arith, lit<, decimal, get_or-set_other, length-take, append_assoc, append-nil, length-append}
 use Rattle.std.specs.List.{join_with_byte, list_all}
-use Rattle.std.proofs.lemmas.Bool.{ltb-true, lt-ltb, le-leb, eq-eqb, and_from, and_parts}
+use Rattle.std.proofs.lemmas.Bool.{ltb-true, lt-ltb, le-leb, and_from, and_parts}
 use Rattle.std.proofs.lemmas.List.{length-map, map-append, take_more_set}
 use Rattle.std.proofs.lemmas.List.Folds.{list_all-append}
 use Rattle.std.proofs.lemmas.List.Splits.{length-slice_split}
@@ -10,7 +10,7 @@ use Rattle.zf_base.specs.Positions.{used_axes, with_unused}
 use Rattle.zf_cached.specs.Grammar.{IsNoDigit, numbers_text, is_number, has_axes, has_sizes, cut_at}
 use Rattle.zf_cached.proofs.Cutting.{cut_at-numbers, joined-cut_at}
 use Rattle.zf_cached.proofs.ReadLines.{axes-parts, sizes-parts}
-use Rattle.zf_script.specs.NumberWords.{IsAxesWord, IsSizesWord}
+use Rattle.zf_script.specs.NumberWords.{IsSizesWord}
 use Rattle.zf_spec.proofs.Counting.{four_elements}
 
 -- ---- a word of numbers and its parts

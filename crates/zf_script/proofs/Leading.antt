@@ -1,5 +1,5 @@
 -- The number before a byte.
-use Rattle.std.proofs.Common.{◌≡◌, ◌≢◌, ℕ, suc, ◌+◌, ◌<◌, ◌≤◌, ◌^◌, List, [], ◌∷◌, ◌++◌, length, get_or, take, drop, ◌==◌, ⊎_elim, refl, ap, sym, ◌∙◌, subst, arith, decimal, append-nil, false, length-append, get_or-take, length-take-le}
+use Rattle.std.proofs.Common.{◌≡◌, ◌≢◌, ℕ, ◌+◌, ◌<◌, ◌≤◌, ◌^◌, List, [], ◌∷◌, ◌++◌, length, get_or, take, drop, ◌==◌, ⊎_elim, refl, ap, sym, ◌∙◌, arith, decimal, append-nil, false, length-append, get_or-take, length-take-le}
 use Rattle.std.specs.List.{join_with_byte}
 use Rattle.std.specs.Str.Parse.{AllDigits, digits_value}
 use Rattle.std.proofs.Math.Nat.{eq-or-lt_of_le}

@@ -1,5 +1,5 @@
 -- Words of lines and the commands that they are.
-use Rattle.std.proofs.Common.{◌≡◌, ◌≢◌, ℕ, suc, ◌+◌, ◌<◌, ◌≤◌, ◌^◌, ℤ, pos, negsuc, List, [], ◌∷◌, length, get_or, drop, ◌&&◌, ◌⊎◌, inl, inr, true, false, bytes_eq, Option, Some, None, Result, IsTrue, IfSome, IfNone, IfOk, IfErr, FitsSigned, refl, ap, sym, ◌∙◌, arith, rules, codes, decimal}
+use Rattle.std.proofs.Common.{◌≡◌, ◌≢◌, ℕ, suc, ◌+◌, ◌<◌, ◌≤◌, ◌^◌, ℤ, pos, negsuc, List, [], ◌∷◌, length, get_or, drop, ◌⊎◌, inl, inr, true, false, bytes_eq, Option, Some, None, Result, Ok, Err, IsTrue, IfSome, IfNone, IfOk, IfErr, FitsSigned, refl, ap, sym, subst, ◌∙◌, arith, rules, codes, decimal}
 use Rattle.std.specs.Int.{w128}
 use Rattle.std.specs.Fmt.{signed_decimal}
 use Rattle.std.specs.List.{join_with_byte}
@@ -92,6 +92,27 @@ vget_command d rest p axes = record {
   others = ap cmds.VGet axes.others;
 }
 
+pub set_command : (d : ℕ) (rest : List ℕ) (p : Pos) (v : ℤ) → IsPositionAndValue d (cut_at space rest) p v → IsCommand d (codes "set" ∷ cut_at space rest) (cmds.Set p v)
+set_command d rest p v both = record {
+  writable = and_from (has_axes d (used_axes d p)) (is_value v) both.axes both.value;
+  text = ap (λ last. codes "set" ∷ last) both.text;
+  others = ap (λ q. cmds.Set q v) both.others;
+}
+
+pub add_command : (d : ℕ) (rest : List ℕ) (p : Pos) (v : ℤ) → IsPositionAndValue d (cut_at space rest) p v → IsCommand d (codes "add" ∷ cut_at space rest) (cmds.Add p v)
+add_command d rest p v both = record {
+  writable = and_from (has_axes d (used_axes d p)) (is_value v) both.axes both.value;
+  text = ap (λ last. codes "add" ∷ last) both.text;
+  others = ap (λ q. cmds.Add q v) both.others;
+}
+
+pub vset_command : (d : ℕ) (rest : List ℕ) (p : Pos) (v : ℤ) → IsPositionAndValue d (cut_at space rest) p v → IsCommand d (codes "vset" ∷ cut_at space rest) (cmds.VSet p v)
+vset_command d rest p v both = record {
+  writable = and_from (has_axes d (used_axes d p)) (is_value v) both.axes both.value;
+  text = ap (λ last. codes "vset" ∷ last) both.text;
+  others = ap (λ q. cmds.VSet q v) both.others;
+}
+
 pub fill_command : (d : ℕ) (rest : List ℕ) (v : ℤ) → IsTrue (is_value v) → rest ≡ signed_decimal v → IsCommand d (codes "fill" ∷ cut_at space rest) (cmds.Fill v)
 fill_command d rest v small text = record {
   writable = small;
@@ -137,6 +158,24 @@ no_get d rest none c ok same = other_verb (codes "get") c (cut_at space rest) re
 pub no_vget : (d : ℕ) (rest : List ℕ) → ((ns : List ℕ) → IsTrue (has_axes d ns) → rest ≢ numbers_text comma ns) → IsNoCommand d (codes "vget" ∷ cut_at space rest)
 no_vget d rest none (Command.vget p) ok same = none p ok (tail_word (codes "vget") rest (numbers_text comma p) same)
 no_vget d rest none c ok same = other_verb (codes "vget") c (cut_at space rest) refl same
+
+pub no_set : (d : ℕ) (rest : List ℕ) → NoPositionAndValue d (cut_at space rest) → IsNoCommand d (codes "set" ∷ cut_at space rest)
+no_set d rest none (Command.set p v) ok same =
+    let parts = and_parts (has_axes d p) (is_value v) ok in
+    none p v parts.0 parts.1 (ap (drop 1) same)
+no_set d rest none c ok same = other_verb (codes "set") c (cut_at space rest) refl same
+
+pub no_add : (d : ℕ) (rest : List ℕ) → NoPositionAndValue d (cut_at space rest) → IsNoCommand d (codes "add" ∷ cut_at space rest)
+no_add d rest none (Command.add p v) ok same =
+    let parts = and_parts (has_axes d p) (is_value v) ok in
+    none p v parts.0 parts.1 (ap (drop 1) same)
+no_add d rest none c ok same = other_verb (codes "add") c (cut_at space rest) refl same
+
+pub no_vset : (d : ℕ) (rest : List ℕ) → NoPositionAndValue d (cut_at space rest) → IsNoCommand d (codes "vset" ∷ cut_at space rest)
+no_vset d rest none (Command.vset p v) ok same =
+    let parts = and_parts (has_axes d p) (is_value v) ok in
+    none p v parts.0 parts.1 (ap (drop 1) same)
+no_vset d rest none c ok same = other_verb (codes "vset") c (cut_at space rest) refl same
 
 pub no_fill : (d : ℕ) (rest : List ℕ) → ((v : ℤ) → IsTrue (is_value v) → rest ≢ signed_decimal v) → IsNoCommand d (codes "fill" ∷ cut_at space rest)
 no_fill d rest none (Command.fill v) ok same = none v ok (tail_word (codes "fill") rest (signed_decimal v) same)
@@ -338,19 +377,39 @@ no_pwords d i verb rest get set add c ok same = by c (begins_on_view (decimal i)
     by (Command.pstats j) h = some h.1
     by c h = h
 
--- ---- the words of a line
-pub read_some : (d : ℕ) (line : List ℕ) (cmd : Cmd) → 1 ≤ d → IsCommand d (cut_at space line) cmd → read_line d line ≡ Some (command_of d cmd)
-read_some d line cmd some is =
-    let line_is : line ≡ line_of (command_of d cmd) = sym (joined-cut_at space line) ∙ ap (join_with_byte space) is.text in
-    (read_line_iff d line (command_of d cmd) some).1 (is.writable, line_is)
+-- ---- the answer to a line, of which these are the words
+module _ (d : ℕ) (line : List ℕ) (words : List (List ℕ)) (same : cut_at space line ≡ words) where
+  pub read_some : (cmd : Cmd) → 1 ≤ d → IsCommand d words cmd → read_line d line ≡ Some (command_of d cmd)
+  read_some cmd some is =
+      let line_is : line ≡ line_of (command_of d cmd) = sym (joined-cut_at space line) ∙ ap (join_with_byte space) (same ∙ is.text) in
+      (read_line_iff d line (command_of d cmd) some).1 (is.writable, line_is)
 
-pub read_none : (d : ℕ) (line : List ℕ) → IsNoCommand d (cut_at space line) → read_line d line ≡ None
-read_none d line none = read_line-None d line (λ c ok same. none c ok (ap (cut_at space) same ∙ cut_at-line_of d c ok))
+  pub read_none : IsNoCommand d words → read_line d line ≡ None
+  read_none none = read_line-None d line (λ c ok is. none c ok (sym same ∙ ap (cut_at space) is ∙ cut_at-line_of d c ok))
 
-pub parsed_ok : (d : ℕ) (line : List ℕ) (o : Option Cmd) (r : Result Cmd Refusal) → 1 ≤ d → r ≡ ok_or o refusals.Word → IfSome o (λ cmd. IsCommand d (cut_at space line) cmd) → IfOk r (λ cmd. read_line d line ≡ Some (command_of d cmd))
-parsed_ok d line None r some is command = rw is tt
-parsed_ok d line (Some cmd) r some is command = rw is (read_some d line cmd some command)
+  -- where it comes of an option
+  pub parsed_ok : (o : Option Cmd) (r : Result Cmd Refusal) → 1 ≤ d → r ≡ ok_or o refusals.Word → IfSome o (λ cmd. IsCommand d words cmd) → IfOk r (λ cmd. read_line d line ≡ Some (command_of d cmd))
+  parsed_ok None r some is command = rw is tt
+  parsed_ok (Some cmd) r some is command = rw is (read_some cmd some command)
 
-pub parsed_err : (d : ℕ) (line : List ℕ) (o : Option Cmd) (r : Result Cmd Refusal) → r ≡ ok_or o refusals.Word → IfNone o (IsNoCommand d (cut_at space line)) → IfErr r (λ why. (why ≡ refusals.Word) × (read_line d line ≡ None))
-parsed_err d line None r is none = rw is (refl, read_none d line none)
-parsed_err d line (Some cmd) r is none = rw is tt
+  pub parsed_err : (o : Option Cmd) (r : Result Cmd Refusal) → r ≡ ok_or o refusals.Word → IfNone o (IsNoCommand d words) → IfErr r (λ why. (why ≡ refusals.Word) × (read_line d line ≡ None))
+  parsed_err None r is none = rw is (refl, read_none none)
+  parsed_err (Some cmd) r is none = rw is tt
+
+-- what is a command in all dimensions is one in these, and what is none is none
+pub some_in : (d : ℕ) (words : List (List ℕ)) (o : Option Cmd) → IfSome o (λ cmd. (e : ℕ) → IsCommand e words cmd) → IfSome o (λ cmd. IsCommand d words cmd)
+some_in d words None all = all
+some_in d words (Some cmd) all = all d
+
+pub none_in : (d : ℕ) (words : List (List ℕ)) (o : Option Cmd) → IfNone o ((e : ℕ) → IsNoCommand e words) → IfNone o (IsNoCommand d words)
+none_in d words None all = all d
+none_in d words (Some cmd) all = all
+
+-- ---- a part of a line that is asked for
+pub given : {A : Type 0} (P : A → Type 0) (o : Option A) (r : Result A Refusal) (a : A) → r ≡ ok_or o refusals.Word → r ≡ Ok a → IfSome o P → P a
+given P None r a is ok some = search rules
+given P (Some x) r a is ok some = let same : x ≡ a = cc in subst P same some
+
+pub lacking : {A N : Type 0} (o : Option A) (r : Result A Refusal) (why : Refusal) → r ≡ ok_or o refusals.Word → r ≡ Err why → IfNone o N → (why ≡ refusals.Word) × N
+lacking None r why is err none = let same : why ≡ refusals.Word = cc in (same, none)
+lacking (Some x) r why is err none = search rules

@@ -1,5 +1,5 @@
 -- The first words of lines.
-use Rattle.std.specs.Prelude.{ℕ, List, codes}
+use Rattle.std.specs.Prelude.{ℕ, ◌≢◌, List, codes}
 use Rattle.zf_script.specs.declared.verb.Verb.{Verb}
 use Rattle.zf_script.specs.declared.verb.Verb.TheVariants as verbs
 
@@ -22,3 +22,11 @@ verb_word verbs.Resize = codes "resize"
 verb_word verbs.Stats = codes "stats"
 verb_word verbs.Split = codes "split"
 verb_word verbs.Join = codes "join"
+
+-- its commands are not on one value of the array
+pub record IsNoAccess (verb : Verb) : Type 0 where
+  pub get : verb ≢ verbs.Get
+  pub set : verb ≢ verbs.Set
+  pub add : verb ≢ verbs.Add
+  pub vget : verb ≢ verbs.VGet
+  pub vset : verb ≢ verbs.VSet

@@ -1,10 +1,11 @@
 //! Lines as commands.
 
-ghost use Rattle.std.specs.Prelude.{◌≡◌, ℕ, ◌≤◌, [], ◌∷◌, Some, None, IfSome, IfNone, IfOk, IfErr};
+ghost use Rattle.std.specs.Prelude.{◌≡◌, ◌≢◌, ℕ, ◌≤◌, [], ◌∷◌, Some, None, IfSome, IfNone, IfOk, IfErr};
 ghost use Rattle.zf_spec.specs.Grid.{IsDimension};
 ghost use Rattle.zf_cached.specs.Grammar.{space, cut_at, read_line};
 ghost use Rattle.zf_script.specs.Seen.{command_of, cmd_of, IsCommand, IsNoCommand};
-ghost use Rattle.zf_script.specs.Verbs.{verb_word};
+ghost use Rattle.zf_script.specs.declared.verb.Verb.{Verb};
+ghost use Rattle.zf_script.specs.Verbs.{verb_word, IsNoAccess};
 ghost use Rattle.zf_script.specs.Arguments.{IsPositionAndValue, NoPositionAndValue, IsWindow, NoWindow, IsTwoNumbers, NoTwoNumbers};
 
 use crate::command::Cmd;
@@ -17,6 +18,7 @@ use zf_base::Pos;
 
 /// The command of a line for an array of so many dimensions, 1 to 4. `Word`: the line is no command; no other
 /// refusal comes.
+// What scripts do most often is made here, since each function that hands a command on copies it.
 #[inline(always)]
 pub fn parse_line(dims: u8, line: &[u8]) -> Result<Cmd, Refusal>
     requires dimension { IsDimension dims }
@@ -24,42 +26,38 @@ pub fn parse_line(dims: u8, line: &[u8]) -> Result<Cmd, Refusal>
     ensures others { IfOk result (λ cmd. cmd ≡ cmd_of (command_of dims cmd)) }
     ensures err { IfErr result (λ why. (why ≡ Refusal.Word) × (read_line dims line.now ≡ None)) }
 {
-    command_in(dims, line).ok_or(Refusal::Word)
-}
-
-// The command whose words a line has.
-#[inline(always)]
-fn command_in(dims: u8, line: &[u8]) -> Option<Cmd>
-    requires dimension { IsDimension dims }
-    ensures command { IfSome result (λ cmd. IsCommand dims (cut_at space line.now) cmd) }
-    ensures none { IfNone result (IsNoCommand dims (cut_at space line.now)) }
-{
-    match cut(line, b' ') {
-        None => alone(verb_in(line)?),
-        Some((first, rest)) => begun(dims, first, rest),
-    }
-}
-
-// The command that begins with a word and has the words behind its space. The word of a view is its number
-// directly behind `@`.
-#[inline(always)]
-fn begun(dims: u8, first: &[u8], rest: &[u8]) -> Option<Cmd>
-    requires dimension { IsDimension dims }
-    ensures command { IfSome result (λ cmd. IsCommand dims (first.now ∷ cut_at space rest.now) cmd) }
-    ensures none { IfNone result (IsNoCommand dims (first.now ∷ cut_at space rest.now)) }
-{
-    match first {
-        [b'@', view @ ..] => on_view(dims, number_in(view)?, rest),
-        _ => with_words(dims, verb_in(first)?, rest),
-    }
-}
-
-// The command that a verb is with no words behind it.
-fn alone(verb: Verb) -> Option<Cmd>
-    ensures command { IfSome result (λ cmd. (d : ℕ) → IsCommand d (verb_word verb ∷ []) cmd) }
-    ensures none { IfNone result ((d : ℕ) → IsNoCommand d (verb_word verb ∷ [])) }
-{
+    let Some((first, rest)) = cut(line, b' ') else {
+        return alone(line).ok_or(Refusal::Word);
+    };
+    let Some(verb) = verb_in(first) else {
+        return by_view(dims, first, rest).ok_or(Refusal::Word);
+    };
     match verb {
+        Verb::Get => Ok(Cmd::Get(axes_in(dims, b',', 0, rest).ok_or(Refusal::Word)?)),
+        Verb::VGet => Ok(Cmd::VGet(axes_in(dims, b',', 0, rest).ok_or(Refusal::Word)?)),
+        Verb::Set => {
+            let (p, value) = position_and_value_in(dims, rest).ok_or(Refusal::Word)?;
+            Ok(Cmd::Set(p, value))
+        }
+        Verb::Add => {
+            let (p, value) = position_and_value_in(dims, rest).ok_or(Refusal::Word)?;
+            Ok(Cmd::Add(p, value))
+        }
+        Verb::VSet => {
+            let (p, value) = position_and_value_in(dims, rest).ok_or(Refusal::Word)?;
+            Ok(Cmd::VSet(p, value))
+        }
+        _ => with_words(dims, verb, rest).ok_or(Refusal::Word),
+    }
+}
+
+// The command that a word is with no words behind it.
+#[inline(never)]
+fn alone(word: &[u8]) -> Option<Cmd>
+    ensures command { IfSome result (λ cmd. (d : ℕ) → IsCommand d (word.now ∷ []) cmd) }
+    ensures none { IfNone result ((d : ℕ) → IsNoCommand d (word.now ∷ [])) }
+{
+    match verb_in(word)? {
         Verb::Sum => Some(Cmd::Sum),
         Verb::VSum => Some(Cmd::VSum),
         Verb::Flush => Some(Cmd::Flush),
@@ -70,28 +68,30 @@ fn alone(verb: Verb) -> Option<Cmd>
     }
 }
 
-// The command that a verb is with the words behind its space.
-#[inline(always)]
+// The command on a view that begins with a word which is no verb, and has the words behind its space. The word
+// of a view is its number directly behind `@`.
+#[inline(never)]
+fn by_view(dims: u8, first: &[u8], rest: &[u8]) -> Option<Cmd>
+    requires dimension { IsDimension dims }
+    requires no_verb { (verb : Verb) → first.now ≢ verb_word verb }
+    ensures command { IfSome result (λ cmd. IsCommand dims (first.now ∷ cut_at space rest.now) cmd) }
+    ensures none { IfNone result (IsNoCommand dims (first.now ∷ cut_at space rest.now)) }
+{
+    match first {
+        [b'@', view @ ..] => on_view(dims, number_in(view)?, rest),
+        _ => None,
+    }
+}
+
+// The command that another verb is with the words behind its space.
+#[inline(never)]
 fn with_words(dims: u8, verb: Verb, rest: &[u8]) -> Option<Cmd>
     requires dimension { IsDimension dims }
+    requires other { IsNoAccess verb }
     ensures command { IfSome result (λ cmd. IsCommand dims (verb_word verb ∷ cut_at space rest.now) cmd) }
     ensures none { IfNone result (IsNoCommand dims (verb_word verb ∷ cut_at space rest.now)) }
 {
     match verb {
-        Verb::Get => Some(Cmd::Get(axes_in(dims, b',', 0, rest)?)),
-        Verb::VGet => Some(Cmd::VGet(axes_in(dims, b',', 0, rest)?)),
-        Verb::Set => {
-            let (p, value) = position_and_value_in(dims, rest)?;
-            Some(Cmd::Set(p, value))
-        }
-        Verb::Add => {
-            let (p, value) = position_and_value_in(dims, rest)?;
-            Some(Cmd::Add(p, value))
-        }
-        Verb::VSet => {
-            let (p, value) = position_and_value_in(dims, rest)?;
-            Some(Cmd::VSet(p, value))
-        }
         Verb::Fill => Some(Cmd::Fill(value_in(rest)?)),
         Verb::View => {
             let (origin, sizes, steps) = window_in(dims, rest)?;
