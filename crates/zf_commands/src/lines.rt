@@ -2,7 +2,10 @@
 
 ghost use Rattle.std.specs.Prelude.{◌≡◌, ◌<◌, [], ◌∷◌, length, IfSome, IfNone, IfOk, OnErr, OnOk, IsErr};
 ghost use Rattle.zf_dev.specs.Faults.{HasCause};
+ghost use Rattle.zf_dev.specs.Sink.{Appends, AppendsPart};
+ghost use Rattle.zf_cached.specs.Replies.{reply_text};
 ghost use Rattle.zf_cached.specs.Runs.{lines_of};
+ghost use Rattle.zf_script.specs.Seen.{reply_of};
 ghost use Rattle.zf_commands.specs.Calls.{IsReady, StaysReady};
 ghost use Rattle.zf_commands.specs.Steps.{LeadsTo, said};
 ghost use Rattle.zf_commands.specs.Lines.{Replies, Breaks};
@@ -41,9 +44,22 @@ pub(crate) fn run_line<A: Scripted, O: Sink>(
     let Some(reply) = reply_to(a, line) else {
         return Ok(false);
     };
-    let mut room = [0; 128];
-    write_all(out, reply_text(&reply, &mut room))?;
+    answer(&reply, out)?;
     Ok(matches!(reply, Reply::Refused(_)))
+}
+
+// Writes a reply. Room for its text is no part of a line that has none.
+#[inline(never)]
+fn answer<O: Sink>(reply: &Reply, out: &mut O) -> Result<(), Failed>
+    ensures all { OnOk result (Appends (O.contents out.old) (O.contents out.new)
+        (reply_text (reply_of reply.now))) }
+    ensures part { OnErr result (AppendsPart (O.contents out.old) (O.contents out.new)
+        (reply_text (reply_of reply.now))) }
+    ensures unchanged { OnOk result (O.faults out.new ≡ O.faults out.old) }
+    ensures cause { HasCause (IsErr result) (O.faults out.old) (O.faults out.new) }
+{
+    let mut room = [0; 128];
+    write_all(out, reply_text(reply, &mut room))
 }
 
 // What a line leads to, and its reply, if any. An empty line has none.
