@@ -18,11 +18,13 @@ use Rattle.zf_script.specs.declared.command.Cmd.{Cmd}
 use Rattle.zf_script.specs.declared.command.Cmd.TheVariants as cmds
 use Rattle.zf_script.specs.declared.reply.Refusal.{Refusal}
 use Rattle.zf_script.specs.declared.reply.Refusal.TheVariants as refusals
+use Rattle.zf_script.specs.declared.verb.Access.{Access}
+use Rattle.zf_script.specs.declared.verb.Access.TheVariants as accesses
 use Rattle.zf_script.specs.declared.verb.Verb.{Verb}
 use Rattle.zf_script.specs.declared.verb.Verb.TheVariants as verbs
 use Rattle.zf_script.specs.NumberWords.{IsAxesWord, IsSizesWord}
 use Rattle.zf_script.specs.Arguments.{IsPositionAndValue, NoPositionAndValue, IsWindow, NoWindow, IsTwoNumbers, NoTwoNumbers}
-use Rattle.zf_script.specs.Verbs.{verb_word}
+use Rattle.zf_script.specs.Verbs.{access_word, verb_word}
 use Rattle.zf_script.specs.Seen.{command_of, IsCommand, IsNoCommand}
 use Rattle.zf_script.proofs.Joined.{some_part}
 
@@ -213,15 +215,20 @@ no_join : (d : ℕ) (rest : List ℕ) → IsNoCommand d (codes "join" ∷ cut_at
 no_join d rest Command.join ok same = word_behind (codes "join") rest same
 no_join d rest c ok same = other_verb (codes "join") c (cut_at space rest) refl same
 
--- a verb that stands alone has no words behind it
-pub no_words : (d : ℕ) (verb : Verb) (rest : List ℕ) → verb ≢ verbs.Get → verb ≢ verbs.Set → verb ≢ verbs.Add → verb ≢ verbs.Fill → verb ≢ verbs.View → verb ≢ verbs.Slice → verb ≢ verbs.VGet → verb ≢ verbs.VSet → verb ≢ verbs.Lines → verb ≢ verbs.Resize → verb ≢ verbs.Split → IsNoCommand d (verb_word verb ∷ cut_at space rest)
-no_words d verbs.Sum rest get set add fill view slice vget vset lines resize split = no_sum d rest
-no_words d verbs.VSum rest get set add fill view slice vget vset lines resize split = no_vsum d rest
-no_words d verbs.Flush rest get set add fill view slice vget vset lines resize split = no_flush d rest
-no_words d verbs.Discard rest get set add fill view slice vget vset lines resize split = no_discard d rest
-no_words d verbs.Stats rest get set add fill view slice vget vset lines resize split = no_stats d rest
-no_words d verbs.Join rest get set add fill view slice vget vset lines resize split = no_join d rest
-no_words d verb rest get set add fill view slice vget vset lines resize split = absurd (search rules)
+-- a verb that stands alone has no words behind it, and one of an access is not among these
+pub no_words : (d : ℕ) (verb : Verb) (rest : List ℕ) → ((access : Access) → verb_word verb ≢ access_word access) → verb ≢ verbs.Fill → verb ≢ verbs.View → verb ≢ verbs.Slice → verb ≢ verbs.Lines → verb ≢ verbs.Resize → verb ≢ verbs.Split → IsNoCommand d (verb_word verb ∷ cut_at space rest)
+no_words d verbs.Sum rest other fill view slice lines resize split = no_sum d rest
+no_words d verbs.VSum rest other fill view slice lines resize split = no_vsum d rest
+no_words d verbs.Flush rest other fill view slice lines resize split = no_flush d rest
+no_words d verbs.Discard rest other fill view slice lines resize split = no_discard d rest
+no_words d verbs.Stats rest other fill view slice lines resize split = no_stats d rest
+no_words d verbs.Join rest other fill view slice lines resize split = no_join d rest
+no_words d verbs.Get rest other fill view slice lines resize split = absurd (other accesses.Get refl)
+no_words d verbs.Set rest other fill view slice lines resize split = absurd (other accesses.Set refl)
+no_words d verbs.Add rest other fill view slice lines resize split = absurd (other accesses.Add refl)
+no_words d verbs.VGet rest other fill view slice lines resize split = absurd (other accesses.VGet refl)
+no_words d verbs.VSet rest other fill view slice lines resize split = absurd (other accesses.VSet refl)
+no_words d verb rest other fill view slice lines resize split = absurd (search rules)
 
 -- ---- words that are on a view
 -- the first word is that of a view, the second one a verb, and the others are these
@@ -395,15 +402,6 @@ module _ (d : ℕ) (line : List ℕ) (words : List (List ℕ)) (same : cut_at sp
   pub parsed_err : (o : Option Cmd) (r : Result Cmd Refusal) → r ≡ ok_or o refusals.Word → IfNone o (IsNoCommand d words) → IfErr r (λ why. (why ≡ refusals.Word) × (read_line d line ≡ None))
   parsed_err None r is none = rw is (refl, read_none none)
   parsed_err (Some cmd) r is none = rw is tt
-
--- what is a command in all dimensions is one in these, and what is none is none
-pub some_in : (d : ℕ) (words : List (List ℕ)) (o : Option Cmd) → IfSome o (λ cmd. (e : ℕ) → IsCommand e words cmd) → IfSome o (λ cmd. IsCommand d words cmd)
-some_in d words None all = all
-some_in d words (Some cmd) all = all d
-
-pub none_in : (d : ℕ) (words : List (List ℕ)) (o : Option Cmd) → IfNone o ((e : ℕ) → IsNoCommand e words) → IfNone o (IsNoCommand d words)
-none_in d words None all = all d
-none_in d words (Some cmd) all = all
 
 -- ---- a part of a line that is asked for
 pub given : {A : Type 0} (P : A → Type 0) (o : Option A) (r : Result A Refusal) (a : A) → r ≡ ok_or o refusals.Word → r ≡ Ok a → IfSome o P → P a

@@ -1,5 +1,8 @@
 -- The first words of lines.
-use Rattle.std.specs.Prelude.{ℕ, ◌≢◌, List, codes}
+use Rattle.std.specs.Prelude.{ℕ, ◌≢◌, List, ◌∷◌, codes}
+use Rattle.zf_cached.specs.Grammar.{space, cut_at}
+use Rattle.zf_script.specs.declared.verb.Access.{Access}
+use Rattle.zf_script.specs.declared.verb.Access.TheVariants as accesses
 use Rattle.zf_script.specs.declared.verb.Verb.{Verb}
 use Rattle.zf_script.specs.declared.verb.Verb.TheVariants as verbs
 
@@ -23,10 +26,14 @@ verb_word verbs.Stats = codes "stats"
 verb_word verbs.Split = codes "split"
 verb_word verbs.Join = codes "join"
 
--- its commands are not on one value of the array
-pub record IsNoAccess (verb : Verb) : Type 0 where
-  pub get : verb ≢ verbs.Get
-  pub set : verb ≢ verbs.Set
-  pub add : verb ≢ verbs.Add
-  pub vget : verb ≢ verbs.VGet
-  pub vset : verb ≢ verbs.VSet
+-- the word of an access
+abbrev pub access_word : Access → List ℕ
+access_word accesses.Get = codes "get"
+access_word accesses.Set = codes "set"
+access_word accesses.Add = codes "add"
+access_word accesses.VGet = codes "vget"
+access_word accesses.VSet = codes "vset"
+
+-- the line does not begin with the word of an access and a space
+abbrev pub IsNoAccess : List ℕ → Type 0
+IsNoAccess line = (access : Access) (rest : List ℕ) → cut_at space line ≢ access_word access ∷ cut_at space rest

@@ -4,14 +4,14 @@ ghost use Rattle.std.specs.Prelude.{◌≡◌, ◌≢◌, ℕ, ◌≤◌, [], �
 ghost use Rattle.zf_spec.specs.Grid.{IsDimension};
 ghost use Rattle.zf_cached.specs.Grammar.{space, cut_at, read_line};
 ghost use Rattle.zf_script.specs.Seen.{command_of, cmd_of, IsCommand, IsNoCommand};
-ghost use Rattle.zf_script.specs.declared.verb.Verb.{Verb};
-ghost use Rattle.zf_script.specs.Verbs.{verb_word, IsNoAccess};
+ghost use Rattle.zf_script.specs.declared.verb.Access.{Access};
+ghost use Rattle.zf_script.specs.Verbs.{access_word, verb_word, IsNoAccess};
 ghost use Rattle.zf_script.specs.Arguments.{IsPositionAndValue, NoPositionAndValue, IsWindow, NoWindow, IsTwoNumbers, NoTwoNumbers};
 
 use crate::command::Cmd;
 use crate::numbers::{axes_in, number_in, sizes_in, value_in};
 use crate::reply::Refusal;
-use crate::verb::{Verb, verb_in};
+use crate::verb::{Access, Verb, access_in, verb_in};
 use crate::views::on_view;
 use crate::words::cut;
 use zf_base::Pos;
@@ -26,38 +26,61 @@ pub fn parse_line(dims: u8, line: &[u8]) -> Result<Cmd, Refusal>
     ensures others { IfOk result (λ cmd. cmd ≡ cmd_of (command_of dims cmd)) }
     ensures err { IfErr result (λ why. (why ≡ Refusal.Word) × (read_line dims line.now ≡ None)) }
 {
-    let Some((first, rest)) = cut(line, b' ') else {
-        return alone(line).ok_or(Refusal::Word);
+    let Some((access, rest)) = access_in(line) else {
+        return other_in(dims, line).ok_or(Refusal::Word);
     };
-    let Some(verb) = verb_in(first) else {
-        return by_view(dims, first, rest).ok_or(Refusal::Word);
-    };
-    match verb {
-        Verb::Get => Ok(Cmd::Get(axes_in(dims, b',', 0, rest).ok_or(Refusal::Word)?)),
-        Verb::VGet => Ok(Cmd::VGet(axes_in(dims, b',', 0, rest).ok_or(Refusal::Word)?)),
-        Verb::Set => {
+    match access {
+        Access::Get => Ok(Cmd::Get(axes_in(dims, b',', 0, rest).ok_or(Refusal::Word)?)),
+        Access::VGet => Ok(Cmd::VGet(axes_in(dims, b',', 0, rest).ok_or(Refusal::Word)?)),
+        Access::Set => {
             let (p, value) = position_and_value_in(dims, rest).ok_or(Refusal::Word)?;
             Ok(Cmd::Set(p, value))
         }
-        Verb::Add => {
+        Access::Add => {
             let (p, value) = position_and_value_in(dims, rest).ok_or(Refusal::Word)?;
             Ok(Cmd::Add(p, value))
         }
-        Verb::VSet => {
+        Access::VSet => {
             let (p, value) = position_and_value_in(dims, rest).ok_or(Refusal::Word)?;
             Ok(Cmd::VSet(p, value))
         }
-        _ => with_words(dims, verb, rest).ok_or(Refusal::Word),
     }
 }
 
-// The command that a word is with no words behind it.
+// The command of a line that does not begin with the word of an access.
 #[inline(never)]
-fn alone(word: &[u8]) -> Option<Cmd>
-    ensures command { IfSome result (λ cmd. (d : ℕ) → IsCommand d (word.now ∷ []) cmd) }
-    ensures none { IfNone result ((d : ℕ) → IsNoCommand d (word.now ∷ [])) }
+fn other_in(dims: u8, line: &[u8]) -> Option<Cmd>
+    requires dimension { IsDimension dims }
+    requires other { IsNoAccess line.now }
+    ensures command { IfSome result (λ cmd. IsCommand dims (cut_at space line.now) cmd) }
+    ensures none { IfNone result (IsNoCommand dims (cut_at space line.now)) }
 {
-    match verb_in(word)? {
+    match cut(line, b' ') {
+        None => alone(verb_in(line)?),
+        Some((first, rest)) => begun(dims, first, rest),
+    }
+}
+
+// The command that begins with a word, of no access, and has the words behind its space. The word of a view is
+// its number directly behind `@`.
+fn begun(dims: u8, first: &[u8], rest: &[u8]) -> Option<Cmd>
+    requires dimension { IsDimension dims }
+    requires other { (access : Access) → first.now ≢ access_word access }
+    ensures command { IfSome result (λ cmd. IsCommand dims (first.now ∷ cut_at space rest.now) cmd) }
+    ensures none { IfNone result (IsNoCommand dims (first.now ∷ cut_at space rest.now)) }
+{
+    match first {
+        [b'@', view @ ..] => on_view(dims, number_in(view)?, rest),
+        _ => with_words(dims, verb_in(first)?, rest),
+    }
+}
+
+// The command that a verb is with no words behind it.
+fn alone(verb: Verb) -> Option<Cmd>
+    ensures command { IfSome result (λ cmd. (d : ℕ) → IsCommand d (verb_word verb ∷ []) cmd) }
+    ensures none { IfNone result ((d : ℕ) → IsNoCommand d (verb_word verb ∷ [])) }
+{
+    match verb {
         Verb::Sum => Some(Cmd::Sum),
         Verb::VSum => Some(Cmd::VSum),
         Verb::Flush => Some(Cmd::Flush),
@@ -68,26 +91,10 @@ fn alone(word: &[u8]) -> Option<Cmd>
     }
 }
 
-// The command on a view that begins with a word which is no verb, and has the words behind its space. The word
-// of a view is its number directly behind `@`.
-#[inline(never)]
-fn by_view(dims: u8, first: &[u8], rest: &[u8]) -> Option<Cmd>
-    requires dimension { IsDimension dims }
-    requires no_verb { (verb : Verb) → first.now ≢ verb_word verb }
-    ensures command { IfSome result (λ cmd. IsCommand dims (first.now ∷ cut_at space rest.now) cmd) }
-    ensures none { IfNone result (IsNoCommand dims (first.now ∷ cut_at space rest.now)) }
-{
-    match first {
-        [b'@', view @ ..] => on_view(dims, number_in(view)?, rest),
-        _ => None,
-    }
-}
-
-// The command that another verb is with the words behind its space.
-#[inline(never)]
+// The command that a verb of no access is with the words behind its space.
 fn with_words(dims: u8, verb: Verb, rest: &[u8]) -> Option<Cmd>
     requires dimension { IsDimension dims }
-    requires other { IsNoAccess verb }
+    requires other { (access : Access) → verb_word verb ≢ access_word access }
     ensures command { IfSome result (λ cmd. IsCommand dims (verb_word verb ∷ cut_at space rest.now) cmd) }
     ensures none { IfNone result (IsNoCommand dims (verb_word verb ∷ cut_at space rest.now)) }
 {

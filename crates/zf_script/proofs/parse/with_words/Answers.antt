@@ -33,8 +33,7 @@ returns-in_ok-count-in-Resize-clause-command c =
 pub returns-in_default : goal.returns-in_default
 returns-in_default c =
     let here = c.in_default in
-    let no = c.requires.other in
     record {
       command = tt;
-      none = no_words c.args.dims c.args.verb c.args.rest.now no.get no.set no.add here.not-Fill here.not-View here.not-Slice no.vget no.vset here.not-Lines here.not-Resize here.not-Split;
+      none = no_words c.args.dims c.args.verb c.args.rest.now c.requires.other here.not-Fill here.not-View here.not-Slice here.not-Lines here.not-Resize here.not-Split;
     }
