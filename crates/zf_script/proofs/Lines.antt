@@ -18,13 +18,13 @@ use Rattle.zf_script.specs.declared.command.Cmd.{Cmd}
 use Rattle.zf_script.specs.declared.command.Cmd.TheVariants as cmds
 use Rattle.zf_script.specs.declared.reply.Refusal.{Refusal}
 use Rattle.zf_script.specs.declared.reply.Refusal.TheVariants as refusals
-use Rattle.zf_script.specs.declared.verb.Access.{Access}
-use Rattle.zf_script.specs.declared.verb.Access.TheVariants as accesses
+use Rattle.zf_script.specs.declared.verb.ValueVerb.{ValueVerb}
+use Rattle.zf_script.specs.declared.verb.ValueVerb.TheVariants as value_verbs
 use Rattle.zf_script.specs.declared.verb.Verb.{Verb}
 use Rattle.zf_script.specs.declared.verb.Verb.TheVariants as verbs
 use Rattle.zf_script.specs.NumberWords.{IsAxesWord, IsSizesWord}
 use Rattle.zf_script.specs.Arguments.{IsPositionAndValue, NoPositionAndValue, IsWindow, NoWindow, IsTwoNumbers, NoTwoNumbers}
-use Rattle.zf_script.specs.Verbs.{access_word, verb_word}
+use Rattle.zf_script.specs.Verbs.{value_verb_word, verb_word}
 use Rattle.zf_script.specs.Seen.{command_of, IsCommand, IsNoCommand}
 use Rattle.zf_script.proofs.Joined.{some_part}
 
@@ -215,19 +215,19 @@ no_join : (d : ℕ) (rest : List ℕ) → IsNoCommand d (codes "join" ∷ cut_at
 no_join d rest Command.join ok same = word_behind (codes "join") rest same
 no_join d rest c ok same = other_verb (codes "join") c (cut_at space rest) refl same
 
--- a verb that stands alone has no words behind it, and one of an access is not among these
-pub no_words : (d : ℕ) (verb : Verb) (rest : List ℕ) → ((access : Access) → verb_word verb ≢ access_word access) → verb ≢ verbs.Fill → verb ≢ verbs.View → verb ≢ verbs.Slice → verb ≢ verbs.Lines → verb ≢ verbs.Resize → verb ≢ verbs.Split → IsNoCommand d (verb_word verb ∷ cut_at space rest)
+-- a verb that stands alone has no words behind it, and one on one value is not among these
+pub no_words : (d : ℕ) (verb : Verb) (rest : List ℕ) → ((other : ValueVerb) → verb_word verb ≢ value_verb_word other) → verb ≢ verbs.Fill → verb ≢ verbs.View → verb ≢ verbs.Slice → verb ≢ verbs.Lines → verb ≢ verbs.Resize → verb ≢ verbs.Split → IsNoCommand d (verb_word verb ∷ cut_at space rest)
 no_words d verbs.Sum rest other fill view slice lines resize split = no_sum d rest
 no_words d verbs.VSum rest other fill view slice lines resize split = no_vsum d rest
 no_words d verbs.Flush rest other fill view slice lines resize split = no_flush d rest
 no_words d verbs.Discard rest other fill view slice lines resize split = no_discard d rest
 no_words d verbs.Stats rest other fill view slice lines resize split = no_stats d rest
 no_words d verbs.Join rest other fill view slice lines resize split = no_join d rest
-no_words d verbs.Get rest other fill view slice lines resize split = absurd (other accesses.Get refl)
-no_words d verbs.Set rest other fill view slice lines resize split = absurd (other accesses.Set refl)
-no_words d verbs.Add rest other fill view slice lines resize split = absurd (other accesses.Add refl)
-no_words d verbs.VGet rest other fill view slice lines resize split = absurd (other accesses.VGet refl)
-no_words d verbs.VSet rest other fill view slice lines resize split = absurd (other accesses.VSet refl)
+no_words d verbs.Get rest other fill view slice lines resize split = absurd (other value_verbs.Get refl)
+no_words d verbs.Set rest other fill view slice lines resize split = absurd (other value_verbs.Set refl)
+no_words d verbs.Add rest other fill view slice lines resize split = absurd (other value_verbs.Add refl)
+no_words d verbs.VGet rest other fill view slice lines resize split = absurd (other value_verbs.VGet refl)
+no_words d verbs.VSet rest other fill view slice lines resize split = absurd (other value_verbs.VSet refl)
 no_words d verb rest other fill view slice lines resize split = absurd (search rules)
 
 -- ---- words that are on a view

@@ -1,8 +1,8 @@
 -- The first words of lines.
 use Rattle.std.specs.Prelude.{ℕ, ◌≢◌, List, ◌∷◌, codes}
 use Rattle.zf_cached.specs.Grammar.{space, cut_at}
-use Rattle.zf_script.specs.declared.verb.Access.{Access}
-use Rattle.zf_script.specs.declared.verb.Access.TheVariants as accesses
+use Rattle.zf_script.specs.declared.verb.ValueVerb.{ValueVerb}
+use Rattle.zf_script.specs.declared.verb.ValueVerb.TheVariants as value_verbs
 use Rattle.zf_script.specs.declared.verb.Verb.{Verb}
 use Rattle.zf_script.specs.declared.verb.Verb.TheVariants as verbs
 
@@ -26,14 +26,14 @@ verb_word verbs.Stats = codes "stats"
 verb_word verbs.Split = codes "split"
 verb_word verbs.Join = codes "join"
 
--- the word of an access
-abbrev pub access_word : Access → List ℕ
-access_word accesses.Get = codes "get"
-access_word accesses.Set = codes "set"
-access_word accesses.Add = codes "add"
-access_word accesses.VGet = codes "vget"
-access_word accesses.VSet = codes "vset"
+-- the word of a verb on one value
+abbrev pub value_verb_word : ValueVerb → List ℕ
+value_verb_word value_verbs.Get = codes "get"
+value_verb_word value_verbs.Set = codes "set"
+value_verb_word value_verbs.Add = codes "add"
+value_verb_word value_verbs.VGet = codes "vget"
+value_verb_word value_verbs.VSet = codes "vset"
 
--- the line does not begin with the word of an access and a space
-abbrev pub IsNoAccess : List ℕ → Type 0
-IsNoAccess line = (access : Access) (rest : List ℕ) → cut_at space line ≢ access_word access ∷ cut_at space rest
+-- the line does not begin with the word of such a verb and a space
+abbrev pub HasNoValueVerb : List ℕ → Type 0
+HasNoValueVerb line = (verb : ValueVerb) (rest : List ℕ) → cut_at space line ≢ value_verb_word verb ∷ cut_at space rest

@@ -4,14 +4,14 @@ ghost use Rattle.std.specs.Prelude.{◌≡◌, ◌≢◌, ℕ, ◌≤◌, [], �
 ghost use Rattle.zf_spec.specs.Grid.{IsDimension};
 ghost use Rattle.zf_cached.specs.Grammar.{space, cut_at, read_line};
 ghost use Rattle.zf_script.specs.Seen.{command_of, cmd_of, IsCommand, IsNoCommand};
-ghost use Rattle.zf_script.specs.declared.verb.Access.{Access};
-ghost use Rattle.zf_script.specs.Verbs.{access_word, verb_word, IsNoAccess};
+ghost use Rattle.zf_script.specs.declared.verb.ValueVerb.{ValueVerb};
+ghost use Rattle.zf_script.specs.Verbs.{value_verb_word, verb_word, HasNoValueVerb};
 ghost use Rattle.zf_script.specs.Arguments.{IsPositionAndValue, NoPositionAndValue, IsWindow, NoWindow, IsTwoNumbers, NoTwoNumbers};
 
 use crate::command::Cmd;
 use crate::numbers::{axes_in, number_in, sizes_in, value_in};
 use crate::reply::Refusal;
-use crate::verb::{Access, Verb, access_in, verb_in};
+use crate::verb::{ValueVerb, Verb, value_verb_in, verb_in};
 use crate::views::on_view;
 use crate::words::cut;
 use zf_base::Pos;
@@ -26,32 +26,32 @@ pub fn parse_line(dims: u8, line: &[u8]) -> Result<Cmd, Refusal>
     ensures others { IfOk result (λ cmd. cmd ≡ cmd_of (command_of dims cmd)) }
     ensures err { IfErr result (λ why. (why ≡ Refusal.Word) × (read_line dims line.now ≡ None)) }
 {
-    let Some((access, rest)) = access_in(line) else {
+    let Some((verb, rest)) = value_verb_in(line) else {
         return other_in(dims, line).ok_or(Refusal::Word);
     };
-    match access {
-        Access::Get => Ok(Cmd::Get(axes_in(dims, b',', 0, rest).ok_or(Refusal::Word)?)),
-        Access::VGet => Ok(Cmd::VGet(axes_in(dims, b',', 0, rest).ok_or(Refusal::Word)?)),
-        Access::Set => {
+    match verb {
+        ValueVerb::Get => Ok(Cmd::Get(axes_in(dims, b',', 0, rest).ok_or(Refusal::Word)?)),
+        ValueVerb::VGet => Ok(Cmd::VGet(axes_in(dims, b',', 0, rest).ok_or(Refusal::Word)?)),
+        ValueVerb::Set => {
             let (p, value) = position_and_value_in(dims, rest).ok_or(Refusal::Word)?;
             Ok(Cmd::Set(p, value))
         }
-        Access::Add => {
+        ValueVerb::Add => {
             let (p, value) = position_and_value_in(dims, rest).ok_or(Refusal::Word)?;
             Ok(Cmd::Add(p, value))
         }
-        Access::VSet => {
+        ValueVerb::VSet => {
             let (p, value) = position_and_value_in(dims, rest).ok_or(Refusal::Word)?;
             Ok(Cmd::VSet(p, value))
         }
     }
 }
 
-// The command of a line that does not begin with the word of an access.
+// The command of a line that does not begin with the word of a verb on one value.
 #[inline(never)]
 fn other_in(dims: u8, line: &[u8]) -> Option<Cmd>
     requires dimension { IsDimension dims }
-    requires other { IsNoAccess line.now }
+    requires other { HasNoValueVerb line.now }
     ensures command { IfSome result (λ cmd. IsCommand dims (cut_at space line.now) cmd) }
     ensures none { IfNone result (IsNoCommand dims (cut_at space line.now)) }
 {
@@ -61,11 +61,11 @@ fn other_in(dims: u8, line: &[u8]) -> Option<Cmd>
     }
 }
 
-// The command that begins with a word, of no access, and has the words behind its space. The word of a view is
-// its number directly behind `@`.
+// The command that begins with a word, of no verb on one value, and has the words behind its space. The word
+// of a view is its number directly behind `@`.
 fn begun(dims: u8, first: &[u8], rest: &[u8]) -> Option<Cmd>
     requires dimension { IsDimension dims }
-    requires other { (access : Access) → first.now ≢ access_word access }
+    requires other { (verb : ValueVerb) → first.now ≢ value_verb_word verb }
     ensures command { IfSome result (λ cmd. IsCommand dims (first.now ∷ cut_at space rest.now) cmd) }
     ensures none { IfNone result (IsNoCommand dims (first.now ∷ cut_at space rest.now)) }
 {
@@ -91,10 +91,10 @@ fn alone(verb: Verb) -> Option<Cmd>
     }
 }
 
-// The command that a verb of no access is with the words behind its space.
+// The command that another verb is with the words behind its space.
 fn with_words(dims: u8, verb: Verb, rest: &[u8]) -> Option<Cmd>
     requires dimension { IsDimension dims }
-    requires other { (access : Access) → verb_word verb ≢ access_word access }
+    requires other { (other : ValueVerb) → verb_word verb ≢ value_verb_word other }
     ensures command { IfSome result (λ cmd. IsCommand dims (verb_word verb ∷ cut_at space rest.now) cmd) }
     ensures none { IfNone result (IsNoCommand dims (verb_word verb ∷ cut_at space rest.now)) }
 {

@@ -2,15 +2,15 @@
 
 ghost use Rattle.std.specs.Prelude.{◌≡◌, ◌≢◌, ◌∷◌, IfSome, IfNone};
 ghost use Rattle.zf_cached.specs.Grammar.{space, cut_at};
-ghost use Rattle.zf_script.specs.declared.verb.Access.{Access};
+ghost use Rattle.zf_script.specs.declared.verb.ValueVerb.{ValueVerb};
 ghost use Rattle.zf_script.specs.declared.verb.Verb.{Verb};
-ghost use Rattle.zf_script.specs.Verbs.{access_word, verb_word, IsNoAccess};
+ghost use Rattle.zf_script.specs.Verbs.{value_verb_word, verb_word, HasNoValueVerb};
 
 use crate::words::cut;
 
 /// How a line reads or writes one value of the array or of the window: what its first word says.
 #[derive(Clone, Copy, Debug, PartialEq, Eq)]
-pub(crate) enum Access {
+pub(crate) enum ValueVerb {
     Get,
     Set,
     Add,
@@ -18,27 +18,27 @@ pub(crate) enum Access {
     VSet,
 }
 
-/// The access that a line begins with, and what stands behind the space behind its word.
+/// The verb on one value that a line begins with, and what stands behind the space behind its word.
 #[inline(always)]
-pub(crate) fn access_in(line: &[u8]) -> Option<(Access, &[u8])>
-    ensures access { IfSome result (λ r. cut_at space line.now ≡ access_word r.0 ∷ cut_at space r.1.now) }
-    ensures none { IfNone result (IsNoAccess line.now) }
+pub(crate) fn value_verb_in(line: &[u8]) -> Option<(ValueVerb, &[u8])>
+    ensures verb { IfSome result (λ r. cut_at space line.now ≡ value_verb_word r.0 ∷ cut_at space r.1.now) }
+    ensures none { IfNone result (HasNoValueVerb line.now) }
 {
     let (first, rest) = cut(line, b' ')?;
-    Some((access_of(first)?, rest))
+    Some((value_verb_of(first)?, rest))
 }
 
-// The access that a word is.
-fn access_of(word: &[u8]) -> Option<Access>
-    ensures access { IfSome result (λ access. word.now ≡ access_word access) }
-    ensures none { IfNone result ((access : Access) → word.now ≢ access_word access) }
+// The verb on one value that a word is.
+fn value_verb_of(word: &[u8]) -> Option<ValueVerb>
+    ensures verb { IfSome result (λ verb. word.now ≡ value_verb_word verb) }
+    ensures none { IfNone result ((verb : ValueVerb) → word.now ≢ value_verb_word verb) }
 {
     match word {
-        b"get" => Some(Access::Get),
-        b"set" => Some(Access::Set),
-        b"add" => Some(Access::Add),
-        b"vget" => Some(Access::VGet),
-        b"vset" => Some(Access::VSet),
+        b"get" => Some(ValueVerb::Get),
+        b"set" => Some(ValueVerb::Set),
+        b"add" => Some(ValueVerb::Add),
+        b"vget" => Some(ValueVerb::VGet),
+        b"vset" => Some(ValueVerb::VSet),
         _ => None,
     }
 }

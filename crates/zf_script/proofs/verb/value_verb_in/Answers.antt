@@ -1,8 +1,8 @@
 use Rattle.std.proofs.Common.{ap, arith, length}
 use Rattle.zf_cached.specs.Grammar.{space}
 use Rattle.zf_script.proofs.Joined.{some_part}
-use Rattle.zf_script.proofs.verb.access_in.Goals as goal
+use Rattle.zf_script.proofs.verb.value_verb_in.Goals as goal
 
 pub returns-in_err-first-clause-none : goal.returns-in_err-first-clause-none
 returns-in_err-first-clause-none c =
-    rw c.from_residual.ensures (λ access rest same. omega (arith, some_part space rest, ap length c.in_err-first.ensures.none, ap length same))
+    rw c.from_residual.ensures (λ verb rest same. omega (arith, some_part space rest, ap length c.in_err-first.ensures.none, ap length same))
