@@ -21,6 +21,13 @@ use zf_commands::{ViewCmd, of_type};
 use zf_private::Private;
 use zf_script::{Refusal, Reply};
 
+/// How a value of a view is changed: another is put in its place, or a number is added to it.
+#[derive(Clone, Copy)]
+enum Change {
+    Put,
+    Add,
+}
+
 /// What a command on one view does. Each tests what it is refused for in the order of range and value.
 pub(crate) fn on_view<T: Lane, const D: usize>(
     a: &mut Array<T, D>,
@@ -35,8 +42,8 @@ pub(crate) fn on_view<T: Lane, const D: usize>(
 {
     match cmd {
         ViewCmd::Get(p) => view_get(a, views, i, p),
-        ViewCmd::Set(p, v) => view_change(a, views, i, p, v, false),
-        ViewCmd::Add(p, v) => view_change(a, views, i, p, v, true),
+        ViewCmd::Set(p, v) => view_change(a, views, i, p, v, Change::Put),
+        ViewCmd::Add(p, v) => view_change(a, views, i, p, v, Change::Add),
         ViewCmd::Flush => view_flush(a, views, i),
         ViewCmd::Discard => view_discard(a, views, i),
         ViewCmd::Stats => view_stats(a, views, i),
@@ -78,19 +85,19 @@ fn view_get<T: Lane, const D: usize>(
     Some(Reply::Number(value.to_wide()))
 }
 
-// `@V set P v` or, where it `adds`, `@V add P v`: a value is put at a position, or added to the one there, by
-// one touch for writing; a sum wraps.
+// `@V set P v` or `@V add P v`: a value is put at a position, or added to the one there, by one touch for
+// writing; a sum wraps.
 fn view_change<T: Lane, const D: usize>(
     a: &mut Array<T, D>,
     views: &mut [Private<T, D>],
     i: u64,
     p: Pos,
     v: i128,
-    adds: bool,
+    change: Change,
 ) -> Option<Reply>
     requires parts { AreParts T.value D a.old views.old }
     requires unused { p ≡ with_unused 0 (used_axes (length (shape a.old)) p) }
-    ensures { ViewsObey T.value T.width D (change_cmd adds i (used_axes (length (shape a.old)) p) v)
+    ensures { ViewsObey T.value T.width D (change_cmd change i (used_axes (length (shape a.old)) p) v)
         (said result)
         a.old a.new views.old views.new }
 {
@@ -102,27 +109,26 @@ fn view_change<T: Lane, const D: usize>(
     };
     // Known by this call: the type is that of the header.
     let _shape = a.shape();
-    change(&mut views[i as usize], &mut Codes::bind(a), p, v, adds);
+    change_value(&mut views[i as usize], &mut Codes::bind(a), p, v, change);
     None
 }
 
-// Puts a value at a position of a view's own or, where it `adds`, adds it there.
-fn change<T: Lane, const D: usize, B: Backing<T>>(
+// Puts a value at a position of a view's own, or adds it there.
+fn change_value<T: Lane, const D: usize, B: Backing<T>>(
     view: &mut Private<T, D>,
     back: &mut B,
     p: Pos,
     v: T,
-    adds: bool,
+    change: Change,
 )
     requires sits { SitsOnAt B.Reading T.value view.old back.old p }
     ensures does { DoesAct B.Reading T.value T.width D
-        (change_act adds (block_at view.old p) (place_at view.old p) (T.value v))
+        (change_act change (block_at view.old p) (place_at view.old p) (T.value v))
         view.old back.old view.new back.new }
 {
-    if adds {
-        view.add(back, p, v);
-    } else {
-        view.set(back, p, v);
+    match change {
+        Change::Put => view.set(back, p, v),
+        Change::Add => view.add(back, p, v),
     }
 }
 

@@ -18,6 +18,8 @@ use Rattle.zf_array.specs.Standing.{Held, shape}
 use Rattle.zf_array.specs.Coded.{Frame}
 use Rattle.zf_array.proofs.Coded.{coded_empty}
 use Rattle.zf_run.specs.Sessions.{setting_of}
+use Rattle.zf_run.specs.declared.views.Change.{Change}
+use Rattle.zf_run.specs.declared.views.Change.TheVariants as changes
 use Rattle.zf_run.specs.Changes.{change_cmd, change_act}
 use Rattle.zf_run.specs.Splits.{split_session}
 use Rattle.zf_commands.proofs.Stepping.{refused_range, refused_value}
@@ -32,28 +34,28 @@ record Asks (w : Width) (S : Setting (List Bool)) (s : Session (List Bool)) (c :
   value : (tests S s c).value ≡ not (is_of_type w v)
   does : done S s c ≡ by_view S s i act
 
-asks : {X : Type 0} (adds : Bool) (w : Width) (value : X → ℤ) (a : Held) (views : List (private.Held X)) (u : Window) (i : ℕ) (ps : List ℕ) (v : ℤ)
-    → Asks w (setting_of w a) (split_session value a views u) (change_cmd adds i ps v) i ps v (change_act adds (block_number (shape a) ps) (place_of ps) v)
+asks : {X : Type 0} (change : Change) (w : Width) (value : X → ℤ) (a : Held) (views : List (private.Held X)) (u : Window) (i : ℕ) (ps : List ℕ) (v : ℤ)
+    → Asks w (setting_of w a) (split_session value a views u) (change_cmd change i ps v) i ps v (change_act change (block_number (shape a) ps) (place_of ps) v)
 unfolding done answered array_setting
-asks true w value a views u i ps v = record { split = refl; size = refl; range = refl; value = refl; does = refl }
-asks false w value a views u i ps v = record { split = refl; size = refl; range = refl; value = refl; does = refl }
+asks changes.Add w value a views u i ps v = record { split = refl; size = refl; range = refl; value = refl; does = refl }
+asks changes.Put w value a views u i ps v = record { split = refl; size = refl; range = refl; value = refl; does = refl }
 
 -- it tells nothing, and is a change of its block alone
-silent : {Code : Type 0} (adds : Bool) (s : State Code) (b p : ℕ) (v : ℤ) → answered s (change_act adds b p v) ≡ None
+silent : {Code : Type 0} (change : Change) (s : State Code) (b p : ℕ) (v : ℤ) → answered s (change_act change b p v) ≡ None
 unfolding answered
-silent true s b p v = refl
-silent false s b p v = refl
+silent changes.Add s b p v = refl
+silent changes.Put s b p v = refl
 
-within : (adds : Bool) (P : ℕ → Type 0) (b p : ℕ) (v : ℤ) → P b → IsWithin P (change_act adds b p v)
-within true P b p v own = own
-within false P b p v own = own
+within : (change : Change) (P : ℕ → Type 0) (b p : ℕ) (v : ℤ) → P b → IsWithin P (change_act change b p v)
+within changes.Add P b p v own = own
+within changes.Put P b p v own = own
 
 pub returns-then-not-has_position : goal.returns-then-not-has_position
 returns-then-not-has_position g c =
     let a = c.args.a.now in
     let ps = used_axes (length (shape a)) c.args.p in
-    let asked = λ (u : Window). asks c.args.adds g.T.Lane.width g.T.Lane.value a c.args.views.now u c.args.i ps c.args.v in record {
-      does = λ v lies. refused_range (setting_of g.T.Lane.width a) (change_cmd c.args.adds c.args.i ps c.args.v) (split_session g.T.Lane.value a c.args.views.now v) lies (asked v).split (asked v).size
+    let asked = λ (u : Window). asks c.args.change g.T.Lane.width g.T.Lane.value a c.args.views.now u c.args.i ps c.args.v in record {
+      does = λ v lies. refused_range (setting_of g.T.Lane.width a) (change_cmd c.args.change c.args.i ps c.args.v) (split_session g.T.Lane.value a c.args.views.now v) lies (asked v).split (asked v).size
           ((asked v).range ∙ ap not (sym (c.has_position.ensures.has v) ∙ c.if-not-has_position.true));
       parts = c.requires.parts;
       kept = refl;
@@ -63,8 +65,8 @@ pub returns-in_default : goal.returns-in_default
 returns-in_default g c =
     let a = c.args.a.now in
     let ps = used_axes (length (shape a)) c.args.p in
-    let asked = λ (u : Window). asks c.args.adds g.T.Lane.width g.T.Lane.value a c.args.views.now u c.args.i ps c.args.v in record {
-      does = λ v lies. refused_value (setting_of g.T.Lane.width a) (change_cmd c.args.adds c.args.i ps c.args.v) (split_session g.T.Lane.value a c.args.views.now v) lies (asked v).split (asked v).size
+    let asked = λ (u : Window). asks c.args.change g.T.Lane.width g.T.Lane.value a c.args.views.now u c.args.i ps c.args.v in record {
+      does = λ v lies. refused_value (setting_of g.T.Lane.width a) (change_cmd c.args.change c.args.i ps c.args.v) (split_session g.T.Lane.value a c.args.views.now v) lies (asked v).split (asked v).size
           ((asked v).range ∙ ap not (sym (c.has_position.ensures.has v) ∙ c.if-not-has_position.false))
           ((asked v).value ∙ ap not (subst (λ x. is_of_type g.T.Lane.width x ≡ false) (to_z-of_z w128 c.args.v c.ranges.v) c.in_default.ensures.none));
       parts = c.requires.parts;
@@ -74,8 +76,8 @@ returns-in_default g c =
 pub bind-requires : goal.bind-requires
 bind-requires g c = (lit≤ tt, (lit≤ tt, coded_empty c.args.a.now c.requires.parts.is_coded))
 
-pub change-requires : goal.change-requires
-change-requires g c =
+pub change_value-requires : goal.change_value-requires
+change_value-requires g c =
     let at = ap (get_or _ c.args.i) c.index-views-i.is in
     let lt = c.has_position.ensures.number c.if-not-has_position.false in
     let there = at_view _ g.row.D _ _ c.args.i _ c.requires.parts lt at c.args.p c.requires.unused (λ u. sym (c.has_position.ensures.has u) ∙ c.if-not-has_position.false) in
@@ -93,23 +95,23 @@ returns g c =
     let there = at_view value g.row.D a views c.args.i x c.requires.parts lt at c.args.p c.requires.unused (λ u. sym (c.has_position.ensures.has u) ∙ c.if-not-has_position.false) in
     let ps = used_axes (length (shape a)) c.args.p in
     let is = c.in-Some.ensures.value ∙ to_z-of_z w128 c.args.v c.ranges.v in
-    let back = c.change.new.back in
-    let name = ap (λ (f : Frame). f.name) c.change.ensures.does.step.kept ∙ c.bind.ensures.same_array in
+    let back = c.change_value.new.back in
+    let name = ap (λ (f : Frame). f.name) c.change_value.ensures.does.step.kept ∙ c.bind.ensures.same_array in
     let taken = lent value g.row.D a views c.args.i x c.requires.parts lt at
-    g.T.Lane.width c.a-1.given.0 c.change.new.view (change_act c.args.adds (private.block_at x c.args.p) (private.place_at x c.args.p) (value c.in-Some.v)) c.shape-shape.ensures.same_type c.bind.result.array back.array c.bind.ensures.array (search rules)
+    g.T.Lane.width c.a-1.given.0 c.change_value.new.view (change_act c.args.change (private.block_at x c.args.p) (private.place_at x c.args.p) (value c.in-Some.v)) c.shape-shape.ensures.same_type c.bind.result.array back.array c.bind.ensures.array (search rules)
     (record {
       is_coded = back.is_coded;
-      frame = c.change.ensures.does.step.kept;
-      step = c.change.ensures.does.step.state;
-      others = c.change.ensures.does.others;
-      kept = c.change.ensures.does.same;
-      whole = c.change.ensures.does.whole;
-      fits = c.change.ensures.does.step.fits;
-    }) (within c.args.adds (Own x) _ _ _ there.own) in
-    let asked = λ (u : Window). asks c.args.adds g.T.Lane.width value a views u c.args.i ps c.args.v in record {
-      does = λ v lies. taken.takes v (change_cmd c.args.adds c.args.i ps c.args.v) None lies (asked v).split (asked v).size ((asked v).range ∙ ap not (there.has v)) ((asked v).value ∙ ap not (subst (λ z. is_of_type g.T.Lane.width z ≡ true) (to_z-of_z w128 c.args.v c.ranges.v) c.in-Some.ensures.some)) (ap (option_map Reply.number) (silent c.args.adds _ _ _ _)) refl
+      frame = c.change_value.ensures.does.step.kept;
+      step = c.change_value.ensures.does.step.state;
+      others = c.change_value.ensures.does.others;
+      kept = c.change_value.ensures.does.same;
+      whole = c.change_value.ensures.does.whole;
+      fits = c.change_value.ensures.does.step.fits;
+    }) (within c.args.change (Own x) _ _ _ there.own) in
+    let asked = λ (u : Window). asks c.args.change g.T.Lane.width value a views u c.args.i ps c.args.v in record {
+      does = λ v lies. taken.takes v (change_cmd c.args.change c.args.i ps c.args.v) None lies (asked v).split (asked v).size ((asked v).range ∙ ap not (there.has v)) ((asked v).value ∙ ap not (subst (λ z. is_of_type g.T.Lane.width z ≡ true) (to_z-of_z w128 c.args.v c.ranges.v) c.in-Some.ensures.some)) (ap (option_map Reply.number) (silent c.args.change _ _ _ _)) refl
           ((asked v).does ∙ ap (by_view (setting_of g.T.Lane.width a) (split_session value a views v) c.args.i)
-          (sym (act_there value g.row.D a views c.args.i x c.requires.parts lt at c.args.p (λ b q. change_act c.args.adds b q (value c.in-Some.v)) ∙ ap (λ (z : ℤ). change_act c.args.adds (block_number (shape a) ps) (place_of ps) z) is)));
+          (sym (act_there value g.row.D a views c.args.i x c.requires.parts lt at c.args.p (λ b q. change_act c.args.change b q (value c.in-Some.v)) ∙ ap (λ (z : ℤ). change_act c.args.change (block_number (shape a) ps) (place_of ps) z) is)));
       parts = taken.parts;
       kept = taken.kind_is;
     }
