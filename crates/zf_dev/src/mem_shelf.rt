@@ -7,7 +7,7 @@ ghost use Rattle.zf_dev.specs.Memory.{shelf_files, shelf_fail, shelf_call, shelf
 ghost use Rattle.zf_dev.specs.Shelf.{HasFile, ExplainsLoad, KeepsFiles, KeepsOthers, SavesFile};
 
 use crate::faults::raise;
-use crate::memory::is_listed;
+use crate::memory::is_failing;
 use crate::{Failed, LoadError, Shelf};
 use std::alloc::{AllocError, Global};
 use std::collections::BTreeMap;
@@ -117,10 +117,7 @@ impl Shelf for MemShelf {
             × (shelf_call self.new ≡ next_count (shelf_call self.old)) }
         ensures sure { shelf_fail self.old ≡ [] → (result ≢ Err loading.Failed) × (shelf_fail self.new ≡ []) }
     {
-        let call = self.call;
-        raise(&mut self.call);
-        if is_listed(&self.fail, call) {
-            raise(&mut self.faults);
+        if is_failing(&self.fail, &mut self.call, &mut self.faults) {
             return Err(LoadError::Failed);
         }
         let Some(file) = self.file(name) else {
@@ -148,10 +145,7 @@ impl Shelf for MemShelf {
         ensures step { shelf_call self.new ≡ next_count (shelf_call self.old) }
         ensures sure { shelf_fail self.old ≡ [] → shelf_fail self.new ≡ [] }
     {
-        let call = self.call;
-        raise(&mut self.call);
-        if is_listed(&self.fail, call) {
-            raise(&mut self.faults);
+        if is_failing(&self.fail, &mut self.call, &mut self.faults) {
             return Err(Failed);
         }
         if self.put(name, bytes).is_err() {

@@ -1,7 +1,7 @@
 //! Devices in memory: what a test or a caller with the bytes in hand puts in the place of the streams.
 
 ghost use Rattle.std.specs.Prelude.{◌≡◌, ℕ, ◌<◌, ◌≤◌, ◌↔◌, min, List, [], ◌++◌, length, take, drop, Some, IsTrue, IsOk, IsErr, IfOk, OnOk, OnErr, Contains};
-ghost use Rattle.zf_dev.specs.Faults.{HasCause};
+ghost use Rattle.zf_dev.specs.Faults.{HasCause, next_count};
 ghost use Rattle.zf_dev.specs.Memory.{given_count, ends_after, source_after_read, source_after_fault, sink_after_write, sink_after_flush, sink_after_fault, sink_after_starving};
 ghost use Rattle.zf_dev.specs.Sink.{Appends};
 ghost use Rattle.zf_dev.specs.Source.{Takes, EndsAt, SeesEnd};
@@ -123,15 +123,10 @@ impl Source for MemSource {
         ensures cause { HasCause (IsErr result) self.old.faults self.new.faults }
         ensures sure { self.old.fail ≡ [] → IsOk result × (self.new.fail ≡ []) }
     {
-        let call = self.call;
-        raise(&mut self.call);
-        if is_listed(&self.fail, call) {
-            raise(&mut self.faults);
+        if is_failing(&self.fail, &mut self.call, &mut self.faults) {
             return Err(Failed);
         }
-        let left = &self.bytes[self.at..];
-        let count = self.piece.min(buf.len()).min(left.len());
-        buf[..count].copy_from_slice(&left[..count]);
+        let count = give(&self.bytes[self.at..], self.piece, buf);
         self.at += count;
         count_end(count, &mut self.ends);
         Ok(count)
@@ -243,10 +238,7 @@ impl Sink for MemSink {
         ensures unchanged { OnOk result (self.new.faults ≡ self.old.faults) }
         ensures cause { HasCause (IsErr result) self.old.faults self.new.faults }
     {
-        let call = self.call;
-        raise(&mut self.call);
-        if is_listed(&self.fail, call) {
-            raise(&mut self.faults);
+        if is_failing(&self.fail, &mut self.call, &mut self.faults) {
             return Err(Failed);
         }
         let count = self.piece.min(bytes.len());
@@ -269,10 +261,7 @@ impl Sink for MemSink {
         ensures unchanged { OnOk result (self.new.faults ≡ self.old.faults) }
         ensures cause { HasCause (IsErr result) self.old.faults self.new.faults }
     {
-        let call = self.call;
-        raise(&mut self.call);
-        if is_listed(&self.fail, call) {
-            raise(&mut self.faults);
+        if is_failing(&self.fail, &mut self.call, &mut self.faults) {
             return Err(Failed);
         }
         Ok(())
@@ -289,9 +278,30 @@ fn count_end(given: usize, ends: &mut u64)
     }
 }
 
-// Whether the call with this number is to fail.
-pub(crate) fn is_listed(fail: &[u64], call: u64) -> bool
-    ensures { IsTrue result ↔ Contains fail.now call }
+// Puts the first of these bytes, at most `piece`, into the start of `buf`, and says how many.
+fn give(left: &[u8], piece: usize, buf: &mut [u8]) -> usize
+    ensures count { result ≡ min (min piece (length buf.old)) (length left.now) }
+    ensures bytes { buf.new ≡ take result left.now ++ drop result buf.old }
+    ensures taken { left.now ≡ take result buf.new ++ drop result left.now }
+    ensures rest { drop result buf.new ≡ drop result buf.old }
 {
-    fail.contains(&call)
+    let count = piece.min(buf.len()).min(left.len());
+    buf[..count].copy_from_slice(&left[..count]);
+    count
+}
+
+// Counts a call, and says whether it is one that is to fail: then a fault is counted, too.
+pub(crate) fn is_failing(fail: &[u64], call: &mut u64, faults: &mut u64) -> bool
+    ensures listed { IsTrue result ↔ Contains fail.now call.old }
+    ensures call { call.new ≡ next_count call.old }
+    ensures fault { IsTrue result → faults.new ≡ next_count faults.old }
+    ensures none { ¬ IsTrue result → faults.new ≡ faults.old }
+    ensures kept { faults.old ≤ faults.new }
+{
+    let listed = fail.contains(call);
+    raise(call);
+    if listed {
+        raise(faults);
+    }
+    listed
 }

@@ -141,7 +141,10 @@ fn on_kind<T: Lane, const D: usize, S: Source, O: Sink, F: Shelf>(
     match Target::<T, D>::open(alloc, access, loaded) {
         Ok(target) => {
             let mut target = target;
-            on_target(alloc, name, &mut target, src, out, shelf)
+            let status = on_target(alloc, name, &mut target, src, out, shelf);
+            // Said as a call: the end of a scope would be proved with each part that is given back.
+            drop(target);
+            status
         }
         Err(status) => status,
     }

@@ -1,3 +1,4 @@
+use Rattle.std.proofs.lemmas.Grind.{common_steps}
 use Rattle.std.proofs.Common.{◌≡◌, ℕ, ◌≤◌, length, take, ◌+◌, ◌-◌, ◌∙◌, subst, arith}
 use borrow.Rule.Slice.PartMut.{put_mid}
 use Rattle.zf_dev.specs.Source.{Gives}
@@ -43,3 +44,12 @@ returns-then-n-eq0-clause-gave g c =
 
 pub returns-then-n-eq0-clause-gave_some : goal.returns-then-n-eq0-clause-gave_some
 returns-then-n-eq0-clause-gave_some g c = (_, Gives-append _ _ c.loop-filled.invariant.gave c.in_ok-n.ensures.gave)
+
+pub returns-in_err-n-clause-lost : goal.returns-in_err-n-clause-lost
+returns-in_err-n-clause-lost g c = grind (arith, common_steps)
+
+pub returns-then-n-eq0-clause-taken : goal.returns-then-n-eq0-clause-taken
+returns-then-n-eq0-clause-taken g c = grind (arith, common_steps)
+
+pub returns-then-n-eq0-clause-rest : goal.returns-then-n-eq0-clause-rest
+returns-then-n-eq0-clause-rest g c = grind (arith, common_steps)

@@ -1,3 +1,4 @@
+use Rattle.std.proofs.lemmas.Grind.{common_steps}
 use Rattle.std.proofs.Common.{◌≤◌, length, take, arith, length-append}
 use Rattle.std.proofs.lemmas.List.{length-take-le}
 use Rattle.zf_dev.proofs.Taking.{Takes-append}
@@ -20,3 +21,9 @@ returns-then-count-left-clause-taken g c = (_, Takes-append _ _ _ _ _ c.loop-cou
 
 pub returns-then-is_err-clause-taken : goal.returns-then-is_err-clause-taken
 returns-then-is_err-clause-taken g c = (_, Takes-append _ _ _ _ _ c.loop-count.invariant.taken c.in-Ok.ensures.taken)
+
+pub returns-then-is_err-clause-unchanged : goal.returns-then-is_err-clause-unchanged
+returns-then-is_err-clause-unchanged g c = grind (arith, common_steps)
+
+pub loop-count-preserved : goal.loop-count-preserved
+loop-count-preserved g c = grind (arith, common_steps)

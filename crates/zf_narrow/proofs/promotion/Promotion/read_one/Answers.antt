@@ -1,3 +1,4 @@
+use Rattle.std.proofs.lemmas.Grind.{common_steps}
 use Rattle.std.proofs.Common.{rules, ◌≡◌, ◌∙◌, ap, length, take, [], arith}
 use Rattle.std.proofs.lemmas.List.{take_all}
 use Rattle.zf_stream.proofs.OnErrors.{on_err}
@@ -31,3 +32,12 @@ returns-clause-given g c =
       gone = first_gone c.args.self.now c.read_values.new.self (g.S.Source.contents c.args.src.now) (g.S.Source.contents c.read_values.new.src) _ (take c.give-given.result c.give-given.new.buf) c.read_values.new.buf c.give-given.new.at c.requires.idle four c.in_ok-count.ensures.values all;
       gave = gives_first c.args.self.now c.read_values.new.self (g.S.Source.contents c.args.src.now) (g.S.Source.contents c.read_values.new.src) _ c.requires.idle four c.in_ok-count.ensures.values (take c.give-given.result c.give-given.new.buf) c.read_values.new.buf c.give-given.new.at all;
     }
+
+pub returns-in_err-count-clause-taken : goal.returns-in_err-count-clause-taken
+returns-in_err-count-clause-taken g c = grind (arith, common_steps)
+
+pub returns-then-count-eq0-clause-taken : goal.returns-then-count-eq0-clause-taken
+returns-then-count-eq0-clause-taken g c = grind (arith, common_steps)
+
+pub returns-clause-taken : goal.returns-clause-taken
+returns-clause-taken g c = grind (arith, common_steps)

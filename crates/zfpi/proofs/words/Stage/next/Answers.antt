@@ -51,3 +51,6 @@ returns-in_ok-new-in-Scripting-clause-leads c = λ words leads.
     let first : words ≡ script_word script ∷ [] = subst (LeadsTo words) c.in-Scripting.is leads in
     rw c.command-in-Scripting.ensures (IsSpelled-script script name None (words ++ c.args.word.now ∷ []) named.0 tt
     (ap (λ prefix. prefix ++ c.args.word.now ∷ []) first ∙ ap (λ word. script_word script ∷ word ∷ []) (sym named.1)))
+
+pub returns-in-Compressing-clause-none : goal.returns-in-Compressing-clause-none
+returns-in-Compressing-clause-none c = rw c.in-Compressing.is c.behind_compress.ensures.none
