@@ -9,6 +9,7 @@
 --     Answered    what follows of an answer that may be nothing
 --     Decoded     what comes of reading a code
 --     ReadCodes   what reading a code is, from what was read of it
+--     UpperPlanes  planes of which the upper ones alone are reached
 --     WholePlanes  how far down a code at a fixed rate has its planes whole
 --     ReadBack    what is read back from the codes of a block
 pub mod Sizes
@@ -21,5 +22,6 @@ pub mod AfterReserve
 pub mod Answered
 pub mod Decoded
 pub mod ReadCodes
+pub mod UpperPlanes
 pub mod WholePlanes
 pub mod ReadBack

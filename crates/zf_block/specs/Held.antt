@@ -1,7 +1,7 @@
 -- Planes of a block as they are held in words, beside the digits that they are made of.
-use Rattle.std.specs.Prelude.{ℕ, ◌≡◌, ◌≤◌, ◌*◌, ◌^◌, Bool, List, length, map, replicate}
+use Rattle.std.specs.Prelude.{ℕ, ◌≡◌, ◌≤◌, ◌*◌, ◌^◌, Bool, List, length, map, take, replicate}
 use Rattle.zf_spec.specs.Grid.{IsBlockSize}
-use Rattle.zf_spec.specs.Planes.{planes_of}
+use Rattle.zf_spec.specs.Planes.{planes_of, code}
 use Rattle.zf_spec.specs.HeldPlanes.{planes_held}
 use Rattle.zf_coef.specs.HeldDigits.{digits_in}
 
@@ -24,3 +24,7 @@ AreBlank width count words planes =
 abbrev pub HoldPlanes : ℕ → ℕ → List (List ℕ) → List ℕ → List (List Bool) → Type 0
 HoldPlanes size width held digits planes =
     (planes_held size held ≡ planes) × (planes_held size held ≡ planes_of width (digits_in width digits))
+
+-- the code of so many top planes, among the w planes that the digits of coefficients have
+unfoldable pub top_code : ℕ → ℕ → List ℕ → List Bool
+top_code k w digits = code (take k (planes_of w (digits_in w digits)))

@@ -65,6 +65,27 @@ pub(crate) trait BlockCode<T: Lane> {
         requires fits { longest self.now size ≤ out.old.room }
         ensures { Appends out.old out.new (code_of self.now (planes_held size (map P.words planes.now))) };
 
+    /// Appends the code where it is seen that the upper planes alone have it, by way of these, and says so.
+    /// Then digits and planes become anything.
+    fn write_upper<P: Plane>(
+        &self,
+        size: usize,
+        digits: &mut [u64],
+        planes: &mut [P],
+        out: &mut BitWriter,
+    ) -> bool
+        requires size { IsHeldSize size P.word_count }
+        requires planes { length planes.old ≡ T.WIDTH }
+        requires coefficients { length digits.old ≡ size }
+        requires fits { longest self.now size ≤ out.old.room }
+        ensures code { IsTrue result → Appends out.old out.new
+            (code_of self.now (planes_of T.WIDTH (digits_in T.WIDTH digits.old))) }
+        ensures unwritten { ¬ IsTrue result → out.new ≡ out.old }
+        ensures unchanged { ¬ IsTrue result → digits.new ≡ digits.old }
+    {
+        false
+    }
+
     /// Reads the code of planes into planes of zeros, or answers `None` where the bits end before it does.
     /// The planes below those that it has stay zero. The answer is how many bits the planes took.
     fn read<P: Plane>(

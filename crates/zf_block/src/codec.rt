@@ -11,7 +11,7 @@ ghost use Rattle.zf_block.specs.Decoding.{Decodes, StandsFor};
 use crate::Scratch;
 use crate::block_code::BlockCode;
 use crate::coefficients::{
-    first_alone, from_digits, from_planes, is_all, to_digits, to_planes, to_planes_of_first,
+    first_alone, from_digits, from_planes, is_all, to_digits, to_planes_of_first,
 };
 use crate::partial::Partial;
 use zf_base::Lane;
@@ -121,7 +121,9 @@ fn write_block<C: BlockCode<T>, T: Lane, P: Plane>(
     ensures { Appends out.old out.new (C.code_of code.now (planes_by T.width C.forth block.now)) }
 {
     block.copy_padded(d, values);
-    make_planes::<C, T, P>(d, values, digits, planes);
+    if write_or_make(code, d, values, digits, planes, out) {
+        return;
+    }
     code.write(block.len(), digits, planes, out);
 }
 
@@ -136,28 +138,61 @@ fn is_zero<C: BlockCode<T>, T: Lane>(block: &Partial<'_, T>) -> bool
     block.is_zero() && C::keeps_first(T::zero())
 }
 
-/// Makes the planes of the coefficients of a block, which is padded, by way of their digits. The block
-/// becomes anything.
+/// Appends the code of a block, which is padded, where it is seen that the upper planes alone have it, and
+/// says so. Else it makes the planes of the coefficients, by way of their digits. The block becomes anything.
 #[inline(always)]
-fn make_planes<C: BlockCode<T>, T: Lane, P: Plane>(
+fn write_or_make<C: BlockCode<T>, T: Lane, P: Plane>(
+    code: &C,
     d: u8,
     values: &mut [T],
     digits: &mut [u64],
     planes: &mut [P],
-)
+    out: &mut BitWriter,
+) -> bool
     requires block { IsBlockOf d values.old }
     requires room { IsWorkRoom d P.word_count T.WIDTH digits.old planes.old }
-    ensures { HoldPlanes (4 ^ d) T.WIDTH (map P.words planes.new) digits.new
+    requires fits { C.longest code.now (4 ^ d) ≤ out.old.room }
+    ensures code { IsTrue result → Appends out.old out.new
+        (C.code_of code.now (codes.planes T.width d (C.forth d (map T.value values.old)))) }
+    ensures unwritten { ¬ IsTrue result → out.new ≡ out.old }
+    ensures planes { ¬ IsTrue result → HoldPlanes (4 ^ d) T.WIDTH (map P.words planes.new) digits.new
         (codes.planes T.width d (C.forth d (map T.value values.old))) }
 {
     let first = values[0];
     // A block of one value needs no transform.
     if is_all(first, values) && C::keeps_first(first) {
         to_planes_of_first(d, first, digits, planes);
-        return;
+        return false;
     }
     C::forward(d, values);
-    to_planes(d, values, digits, planes);
+    write_or_turn(code, d, values, digits, planes, out)
+}
+
+/// The same of the coefficients by place.
+#[inline(always)]
+fn write_or_turn<C: BlockCode<T>, T: Lane, P: Plane>(
+    code: &C,
+    d: u8,
+    coefficients: &[T],
+    digits: &mut [u64],
+    planes: &mut [P],
+    out: &mut BitWriter,
+) -> bool
+    requires coefficients { IsBlockOf d coefficients.now }
+    requires room { IsWorkRoom d P.word_count T.WIDTH digits.old planes.old }
+    requires fits { C.longest code.now (4 ^ d) ≤ out.old.room }
+    ensures code { IsTrue result → Appends out.old out.new
+        (C.code_of code.now (codes.planes T.width d (map T.value coefficients.now))) }
+    ensures unwritten { ¬ IsTrue result → out.new ≡ out.old }
+    ensures planes { ¬ IsTrue result → HoldPlanes (4 ^ d) T.WIDTH (map P.words planes.new) digits.new
+        (codes.planes T.width d (map T.value coefficients.now)) }
+{
+    to_digits(d, coefficients, digits);
+    if code.write_upper(coefficients.len(), digits, planes, out) {
+        return true;
+    }
+    zf_coef::planes_of_digits(digits, planes);
+    false
 }
 
 /// Reads the code of a block, or answers `None` where the bits end before it does.

@@ -14,23 +14,6 @@ ghost use Rattle.zf_block.specs.Held.{IsWorkRoom, HoldPlanes};
 use zf_base::{Lane, block_len};
 use zf_bits::Plane;
 
-/// Makes the planes of coefficients, by way of their digits.
-#[inline(always)]
-pub(crate) fn to_planes<T: Lane, P: Plane>(
-    d: u8,
-    coefficients: &[T],
-    digits: &mut [u64],
-    planes: &mut [P],
-)
-    requires coefficients { IsBlockOf d coefficients.now }
-    requires room { IsWorkRoom d P.word_count T.WIDTH digits.old planes.old }
-    ensures { HoldPlanes (4 ^ d) T.WIDTH (map P.words planes.new) digits.new
-        (codes.planes T.width d (map T.value coefficients.now)) }
-{
-    zf_coef::ranked(d, coefficients, digits);
-    zf_coef::planes_of_digits(digits, planes);
-}
-
 /// Whether all values, which are whole rows of four, are this one.
 #[inline(always)]
 pub(crate) fn is_all<T: Lane>(value: T, values: &[T]) -> bool

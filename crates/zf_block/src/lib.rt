@@ -13,6 +13,7 @@ mod rate;
 mod reversible;
 mod scratch;
 mod uncut;
+mod upper;
 mod whole;
 mod zero_block;
 

@@ -16,6 +16,7 @@ use crate::Scratch;
 use crate::block_code::BlockCode;
 use crate::codec::{decode, encode};
 use crate::partial::Partial;
+use crate::upper::{reaches_upper, write_upper};
 use crate::zero_block::{are_zeros, write_zeros};
 use zf_base::{Extent, Lane};
 use zf_bits::{BitReader, BitWriter, Plane};
@@ -102,6 +103,23 @@ impl<T: Lane> BlockCode<T> for Rate {
         let zeros = zf_coef::zero_planes(digits, width);
         let written = zf_planes::write_planes_below(zeros, bits, width, size, planes, out);
         write_zeros(bits - written, out);
+    }
+
+    #[inline(always)]
+    fn write_upper<P: Plane>(
+        &self,
+        size: usize,
+        digits: &mut [u64],
+        planes: &mut [P],
+        out: &mut BitWriter,
+    ) -> bool {
+        let bits = u64::from(self.bits);
+        let width = T::WIDTH;
+        if width == 64 && reaches_upper(bits, digits) {
+            write_upper(bits, digits, planes, out);
+            return true;
+        }
+        false
     }
 
     fn read<P: Plane>(

@@ -16,9 +16,9 @@ use zf_base::Lane;
 use zf_header::Header;
 use zf_parse::longest_code;
 
-// How many values are brought in raster order at once, and so written: 128 KiB or more, and no block has
-// more.
-const LINES: usize = 1 << 15;
+// How many values are brought in raster order at once, and so written: 64 KiB or more, which a sink hands on
+// as they are, and no block has more.
+const LINES: usize = 1 << 14;
 
 /// What a stream is restored in, so many rows at a time.
 #[derive(Drop)]

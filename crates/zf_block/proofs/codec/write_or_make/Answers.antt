@@ -1,7 +1,7 @@
 use Rattle.std.proofs.Common.{arith}
 use Rattle.std.proofs.Math.Nat.{one-le-pow}
 use Rattle.zf_block.proofs.Sizes.{rows_whole}
-use Rattle.zf_block.proofs.codec.make_planes.Goals as goal
+use Rattle.zf_block.proofs.codec.write_or_make.Goals as goal
 
 pub bounds-values-0 : goal.bounds-values-0
 bounds-values-0 g c = omega (arith, c.requires.block.1, one-le-pow c.args.d 4 (omega arith))

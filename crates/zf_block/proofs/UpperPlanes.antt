@@ -1,0 +1,159 @@
+-- Planes of which the upper ones alone are reached.
+use Rattle.std.proofs.Common.{◌≡◌, refl, sym, ap, ◌∙◌, ℕ, zero, suc, ◌+◌, ◌-◌, ◌*◌, ◌/◌, ◌^◌, ◌<◌, ◌≤◌, max, Bool, true, false, true≢false, eqb, List, [], ◌∷◌, map, length, take, drop, get_or, get_or-take, take-append-drop, ext_get_or, ⊎_elim, arith, pow-suc}
+use Rattle.std.proofs.lemmas.Bool.{cases_lt}
+use Rattle.std.proofs.lemmas.List.{length-append, length-map, length-take, length-take-le, get_or-map, take_all}
+use Rattle.std.proofs.lemmas.List.Elements.{All-head, All-tail, All-take}
+use Rattle.std.proofs.lemmas.Nat.{leading_top, shr-shr}
+use Rattle.std.proofs.lemmas.Nat.Bits.{bit_at_cat_high}
+use lib.Count.{leading_of_zero}
+use Rattle.std.specs.Int.{bit_at, leading_zeros, w64}
+use Rattle.zf_spec.specs.Numbers.{field, is_odd}
+use Rattle.zf_spec.specs.Planes.{plane, planes_of, reach, reach_of_all, tail, plane_code, code_from, code, AreOfSize}
+use Rattle.zf_spec.specs.ReadPlanes.{first_bits}
+use Rattle.zf_spec.proofs.Beginnings.{first_bits-append}
+use Rattle.zf_spec.proofs.Fields.{get_or-field}
+use Rattle.zf_spec.proofs.PlaneDigits.{length-planes_of, get_or-planes_of, get_or-plane, planes_of-length}
+use Rattle.zf_spec.proofs.Reach.{reach_within, none_past_reach}
+use Rattle.zf_planes.proofs.Strings.{code_from-append}
+use Rattle.zf_coef.specs.HeldDigits.{digits_in}
+use Rattle.zf_block.specs.Held.{top_code}
+
+-- ---- how long codes are at least
+
+-- each plane has a bit for each rank that had a one above
+code_from-ge : (k n size : ℕ) (ps : List (List Bool)) → k ≤ n → n ≤ size → AreOfSize size ps → k * length ps ≤ length (code_from n ps)
+code_from-ge k n size [] few within all = omega arith
+code_from-ge k n size (ds ∷ ps) few within all =
+    let l : length ds ≡ size = All-head (λ ds. length ds ≡ size) ds ps all in
+    let next = max n (reach ds) in
+    let rest = code_from-ge k next size ps (omega arith) (reach_within size n ds within l) (All-tail (λ ds. length ds ≡ size) ds ps all) in
+    omega (arith, rest, l, length-append (plane_code n ds) (code_from next ps), length-append (take n ds) (tail (drop n ds)), length-take n ds)
+
+-- a plane whose last rank has a one reaches as far as it is long
+reach_whole : (size : ℕ) (ds : List Bool) → 0 < size → get_or ds (size - 1) false ≡ true → size ≤ reach ds
+reach_whole size ds some one = ⊎_elim
+    (λ (less : size - 1 < reach ds). omega arith)
+    (λ (more : reach ds ≤ size - 1). absurd (true≢false (sym one ∙ none_past_reach ds (size - 1) more)))
+    (cases_lt (size - 1) (reach ds))
+
+-- below such a plane, each plane has a bit for each rank
+below_whole : (size p n : ℕ) (ps : List (List Bool)) → 0 < size → p < length ps → n ≤ size → AreOfSize size ps → get_or (get_or ps p []) (size - 1) false ≡ true
+    → size * (length ps - suc p) ≤ length (code_from n ps)
+below_whole size p n [] some here within all one = absurd (omega arith)
+below_whole size zero n (ds ∷ ps) some here within all one =
+    let l : length ds ≡ size = All-head (λ ds. length ds ≡ size) ds ps all in
+    let next = max n (reach ds) in
+    let whole : size ≤ next = omega (arith, reach_whole size ds some one) in
+    let rest = code_from-ge size next size ps whole (reach_within size n ds within l) (All-tail (λ ds. length ds ≡ size) ds ps all) in
+    let count : length (ds ∷ ps) - suc zero ≡ length ps = omega arith in
+    rw count (omega (arith, rest, length-append (plane_code n ds) (code_from next ps)))
+below_whole size (suc p) n (ds ∷ ps) some here within all one =
+    let l : length ds ≡ size = All-head (λ ds. length ds ≡ size) ds ps all in
+    let next = max n (reach ds) in
+    let rest = below_whole size p next ps some (omega arith) (reach_within size n ds within l) (All-tail (λ ds. length ds ≡ size) ds ps all) one in
+    let count : length (ds ∷ ps) - suc (suc p) ≡ length ps - suc p = omega arith in
+    rw count (omega (arith, rest, length-append (plane_code n ds) (code_from next ps)))
+
+-- ---- the last digits
+
+-- the highest digit of a word
+highest : (v j : ℕ) → 2 ^ j ≤ v → v < 2 ^ suc j → is_odd (v / 2 ^ j) ≡ true
+highest v j low high =
+    let split : 1 * 2 ^ j + (v - 2 ^ j) ≡ v = omega arith in
+    let none : j - j ≡ 0 = omega arith in
+    ap (λ b. eqb b 1) (ap (λ u. bit_at u j) (sym split) ∙ bit_at_cat_high 1 j (v - 2 ^ j) j (omega (arith, pow-suc 2 j)) (omega arith) ∙ ap (bit_at 1) none)
+
+-- a word with fewer leading zeros than digits is not zero
+some_digit : (v p : ℕ) → leading_zeros w64 v ≡ p → p < 64 → 0 < v
+some_digit zero p is less = absurd (omega (arith, leading_of_zero 64, is, less))
+some_digit (suc v) p is less = omega arith
+
+-- the last rank has a one in the plane behind the leading zeros of its digits
+last_one : (us : List ℕ) (w r v p : ℕ) → w ≡ 64 → r < length us → get_or us r 0 ≡ v → v < 2 ^ 64 → leading_zeros w64 v ≡ p → p < w
+    → get_or (get_or (planes_of w (digits_in w us)) p []) r false ≡ true
+last_one us w r v p width within is word zeros here =
+    let cs = digits_in w us in
+    let top = leading_top 64 v (some_digit v p zeros (omega arith)) word in
+    let j = top.0 in
+    let place : w - 1 - p ≡ j = omega (arith, top.1, zeros) in
+    let small : j < w = omega (arith, top.1, zeros) in
+    ap (λ ds. get_or ds r false) (get_or-planes_of w cs p here ∙ ap (λ k. plane k cs) place)
+    ∙ get_or-plane j cs r
+    ∙ ap (λ ds. get_or ds j false) (get_or-map (field w) us r 0 [] within ∙ ap (field w) is)
+    ∙ get_or-field w v j false small
+    ∙ highest v j top.2 top.3
+
+-- so many bits stand in the code of the top planes
+pub top_has : (bits k w size v p : ℕ) (us : List ℕ) → w ≡ 64 → k ≤ w → size ≡ length us → 0 < size → get_or us (size - 1) 0 ≡ v → v < 2 ^ 64 → leading_zeros w64 v ≡ p → p < k
+    → bits ≤ size * (k - 1 - p) → bits ≤ length (top_code k w us)
+unfolding top_code
+top_has bits k w size v p us width top long some is word zeros here enough =
+    let cs = digits_in w us in
+    let ps = planes_of w cs in
+    let count : length (take k ps) ≡ k = length-take-le k ps (omega (arith, length-planes_of w cs)) in
+    let all : AreOfSize size ps = λ i e h. planes_of-length w cs i e h ∙ length-map us (field w) ∙ sym long in
+    let one : get_or (get_or (take k ps) p []) (size - 1) false ≡ true =
+    ap (λ ds. get_or ds (size - 1) false) (get_or-take k ps p [] here) ∙ last_one us w (size - 1) v p width (omega arith) is word zeros (omega arith) in
+    let left : length (take k ps) - suc p ≡ k - 1 - p = omega (arith, count) in
+    let least = below_whole size p 0 (take k ps) some (omega (arith, count)) (omega arith) (All-take (λ ds. length ds ≡ size) k ps all) one in
+    omega (arith, enough, ap (λ n. size * n) left, least)
+
+-- and then the first of them are those of the whole code
+first_of_top : (bits k : ℕ) (ps : List (List Bool)) → bits ≤ length (code (take k ps)) → take bits (code (take k ps)) ≡ first_bits bits (code ps)
+first_of_top bits k ps enough =
+    let rest = code_from (max 0 (reach_of_all (take k ps))) (drop k ps) in
+    sym (ap (λ qs. first_bits bits (code qs)) (sym (take-append-drop k ps))
+    ∙ ap (first_bits bits) (code_from-append 0 (take k ps) (drop k ps))
+    ∙ first_bits-append (code (take k ps)) rest bits enough)
+
+-- ---- planes of words without their lowest digits
+
+abbrev pub above : ℕ → List ℕ → List ℕ
+above k us = map (λ u. u / 2 ^ k) us
+
+plane-above : (m k w j : ℕ) (us : List ℕ) → w ≡ m + k → j < m → plane j (digits_in m (above k us)) ≡ plane (j + k) (digits_in w us)
+plane-above m k w j [] width here = refl
+plane-above m k w j (u ∷ us) width here =
+    let place : k + j ≡ j + k = omega arith in
+    let first : get_or (field m (u / 2 ^ k)) j false ≡ get_or (field w u) (j + k) false =
+    get_or-field m (u / 2 ^ k) j false here ∙ ap is_odd (shr-shr u k j) ∙ ap (λ i. is_odd (u / 2 ^ i)) place ∙ sym (get_or-field w u (j + k) false (omega arith)) in
+    ap (λ b. b ∷ plane j (digits_in m (above k us))) first ∙ ap (λ (bs : List Bool). get_or (field w u) (j + k) false ∷ bs) (plane-above m k w j us width here)
+
+planes_of-above : (m k w : ℕ) (us : List ℕ) → w ≡ m + k → planes_of m (digits_in m (above k us)) ≡ take m (planes_of w (digits_in w us))
+planes_of-above m k w us width =
+    let low = planes_of m (digits_in m (above k us)) in
+    let all = planes_of w (digits_in w us) in
+    let long : length low ≡ m = length-planes_of m (digits_in m (above k us)) in
+    let long' : length (take m all) ≡ m = length-take-le m all (omega (arith, length-planes_of w (digits_in w us))) in
+    ext_get_or [] low (take m all) (long ∙ sym long')
+    (λ i below.
+    let here : i < m = omega (arith, below, long) in
+    let place : m - 1 - i + k ≡ w - 1 - i = omega arith in
+    get_or-planes_of m (digits_in m (above k us)) i here
+    ∙ plane-above m k w (m - 1 - i) us width (omega arith)
+    ∙ ap (λ j. plane j (digits_in w us)) place
+    ∙ sym (get_or-take m all i [] here ∙ get_or-planes_of w (digits_in w us) i (omega arith)))
+
+-- words that are these without their lowest digits
+pub planes_of-shifted : (m k w : ℕ) (us vs : List ℕ) → w ≡ m + k → length vs ≡ length us → ((r : ℕ) → r < length vs → get_or vs r 0 ≡ get_or us r 0 / 2 ^ k)
+    → planes_of m (digits_in m vs) ≡ take m (planes_of w (digits_in w us))
+planes_of-shifted m k w us vs width long each =
+    let same : vs ≡ above k us =
+    ext_get_or 0 vs (above k us) (long ∙ sym (length-map us (λ u. u / 2 ^ k))) (λ r here. each r here ∙ sym (get_or-map (λ u. u / 2 ^ k) us r 0 0 (omega arith))) in
+    ap (λ xs. planes_of m (digits_in m xs)) same ∙ planes_of-above m k w us width
+
+-- what is written of the top planes is what is written of all
+pub writes_top : (bits m k w : ℕ) (us vs : List ℕ) → w ≡ m + k → length vs ≡ length us → ((r : ℕ) → r < length vs → get_or vs r 0 ≡ get_or us r 0 / 2 ^ k)
+    → bits ≤ length (top_code m w us) → take bits (code (take m (planes_of m (digits_in m vs)))) ≡ first_bits bits (top_code w w us)
+unfolding top_code
+writes_top bits m k w us vs width long each enough =
+    let low = planes_of m (digits_in m vs) in
+    let all = planes_of w (digits_in w us) in
+    ap (λ qs. take bits (code qs)) (take_all m low (omega (arith, length-planes_of m (digits_in m vs))) ∙ planes_of-shifted m k w us vs width long each)
+    ∙ first_of_top bits m all enough
+    ∙ ap (λ qs. first_bits bits (code qs)) (sym (take_all w all (omega (arith, length-planes_of w (digits_in w us)))))
+
+-- the code of all planes
+pub all_planes : (w : ℕ) (us : List ℕ) → top_code w w us ≡ code (planes_of w (digits_in w us))
+unfolding top_code
+all_planes w us = let all = planes_of w (digits_in w us) in ap code (take_all w all (omega (arith, length-planes_of w (digits_in w us))))
