@@ -103,7 +103,7 @@ fn all_go(rt: &impl Abort, alloc: Global, lines: u32, acts: &[Act]) -> Result<bo
     empty_caches_fit::<i32, Counted>();
     let mut all = true;
     for act in acts {
-        all = all && goes(rt, &mut cache, &mut back, act);
+        all &= goes(rt, &mut cache, &mut back, act);
     }
     // Said as calls: the end of a scope would be proved with each part that is given back.
     drop(cache);
