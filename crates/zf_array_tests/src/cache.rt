@@ -41,12 +41,7 @@ enum Act {
 }
 
 // Whether a call goes as it says. The cache and its backing of eight blocks fit.
-fn goes(
-    rt: &impl Abort,
-    cache: &mut Cache<i32, 1>,
-    back: &mut Counted,
-    act: &Act,
-) -> bool
+fn goes(rt: &impl Abort, cache: &mut Cache<i32, 1>, back: &mut Counted, act: &Act) -> bool
     requires fits { Fits ⟦<i32 as Lane>⟧.value cache.old
         (⟦<Counted as Reading<i32>>⟧.format back.old) (⟦<Counted as Reading<i32>>⟧.codes back.old) }
     requires format { ⟦<Counted as Reading<i32>>⟧.format back.old ≡ evens_format 8 }
