@@ -41,12 +41,7 @@ enum Act {
 }
 
 // Whether a call goes as it says. The cache and its backing of eight blocks fit.
-fn goes(
-    rt: &impl Abort,
-    cache: &mut Cache<i32, 1>,
-    back: &mut Counted,
-    act: &Act,
-) -> Result<bool, Fail>
+fn goes(rt: &impl Abort, cache: &mut Cache<i32, 1>, back: &mut Counted, act: &Act) -> bool
     requires fits { Fits ⟦<i32 as Lane>⟧.value cache.old
         (⟦<Counted as Reading<i32>>⟧.format back.old) (⟦<Counted as Reading<i32>>⟧.codes back.old) }
     requires format { ⟦<Counted as Reading<i32>>⟧.format back.old ≡ evens_format 8 }
@@ -58,15 +53,15 @@ fn goes(
         Act::Set(b, p, v) => {
             assert!(rt; *b < 8 && *p < 4);
             cache.set(back, *b, *p, *v);
-            Ok(true)
+            true
         }
         Act::Get(b, p, v) => {
             assert!(rt; *b < 8 && *p < 4);
-            Ok(cache.get(back, *b, *p) == *v)
+            cache.get(back, *b, *p) == *v
         }
         Act::Lend(b) => {
             assert!(rt; *b < 8);
-            Ok(cache.block_mut(back, *b).len() == 4)
+            cache.block_mut(back, *b).len() == 4
         }
         Act::Part(b, from, v) => {
             assert!(rt; *b < 8 && *from <= 2);
@@ -74,25 +69,24 @@ fn goes(
             for value in cache.part_mut(*b, *from, 2) {
                 *value = *v;
             }
-            Ok(true)
+            true
         }
         Act::Flush => {
             cache.flush(back);
-            Ok(true)
+            true
         }
         Act::Discard => {
             cache.discard();
-            Ok(true)
+            true
         }
         Act::Lines(lines) => {
             assert!(rt; 0 < *lines && *lines <= 65536);
-            cache.relined(back, raised(*lines))?;
-            Ok(true)
+            cache.relined(back, raised(*lines)).is_ok()
         }
-        Act::HasLines(lines) => Ok(cache.lines() == *lines),
-        Act::IsDirty(b, dirty) => Ok(cache.is_dirty(*b) == *dirty),
-        Act::Counts(hits, misses, writes) => Ok(cache.stats() == stats(*hits, *misses, *writes)),
-        Act::Calls(loads, stores) => Ok((back.loads, back.stores) == (*loads, *stores)),
+        Act::HasLines(lines) => cache.lines() == *lines,
+        Act::IsDirty(b, dirty) => cache.is_dirty(*b) == *dirty,
+        Act::Counts(hits, misses, writes) => cache.stats() == stats(*hits, *misses, *writes),
+        Act::Calls(loads, stores) => (back.loads, back.stores) == (*loads, *stores),
     }
 }
 
@@ -102,12 +96,14 @@ fn all_go(rt: &impl Abort, alloc: Global, lines: u32, acts: &[Act]) -> Result<bo
     assert!(rt; 0 < lines && lines <= 65536);
     let mut cache = Cache::<i32, 1>::new(alloc, raised(lines))?;
     empty_caches_fit::<i32, Counted>();
+    let mut all = true;
     for act in acts {
-        if !goes(rt, &mut cache, &mut back, act)? {
-            return Ok(false);
-        }
+        all &= goes(rt, &mut cache, &mut back, act);
     }
-    Ok(true)
+    // Said as calls: the end of a scope would be proved with each part that is given back.
+    drop(cache);
+    drop(back);
+    Ok(all)
 }
 
 // What the calls show, the number of lines, and the calls.
@@ -200,6 +196,8 @@ fn a_cache_that_only_reads(rt: HostRuntime) -> Result<(), Fail> {
     let relined = cache.relined_read(8).is_ok();
     assert!(rt; whole == 4 && relined && cache.lines() == 8);
     assert!(rt; cache.stats() == stats(2, 2, 0));
+    drop(cache);
+    drop(back);
     Ok(())
 }
 
@@ -215,6 +213,8 @@ fn a_cache_of_more_lines_than_blocks(rt: HostRuntime) -> Result<(), Fail> {
     let rounded = cache.get(&mut back, 0, 2);
     assert!(rt; cache.lines() == 2 && kept == 7 && rounded == 6);
     assert!(rt; cache.stats() == stats(1, 2, 1));
+    drop(cache);
+    drop(back);
     Ok(())
 }
 

@@ -117,7 +117,8 @@ fn all_go(rt: &impl Abort, a: &mut ConstArray<i32, 1>, steps: &[Step]) -> Result
     Ok(true)
 }
 
-// The same of the array of a file. It is dropped in one place: where it is, costs a proof.
+// The same of the array of a file. It is dropped in one place, and by a call: the end of a scope would be
+// proved with each part that is given back.
 fn file_goes(
     rt: &impl Abort,
     alloc: Global,
@@ -126,7 +127,9 @@ fn file_goes(
     steps: &[Step],
 ) -> Result<bool, Fail> {
     let mut a = opened(rt, alloc, file, lines)?;
-    all_go(rt, &mut a, steps)
+    let went = all_go(rt, &mut a, steps);
+    drop(a);
+    went
 }
 
 // What a script shows, a file, the lines of its array, and the steps.
@@ -209,7 +212,9 @@ fn keeps(
     let mut a = opened(rt, alloc, file, lines)?;
     let first = has(rt, &mut a, &FIRST, values);
     let relined = a.set_lines(1).is_ok();
-    Ok(first && relined && a.lines() == 1 && has(rt, &mut a, &THEN, values))
+    let goes = first && relined && a.lines() == 1 && has(rt, &mut a, &THEN, values);
+    drop(a);
+    Ok(goes)
 }
 
 // A file of five values, and these.
@@ -256,6 +261,7 @@ fn two_dimensions_and_wide_values(rt: HostRuntime) -> Result<(), Fail> {
     for (x, y, wanted) in OF_SHEET.iter() {
         assert!(rt; value(&rt, &mut a, *x, *y) == *wanted, "{x} {y}");
     }
+    drop(a);
     Ok(())
 }
 

@@ -152,12 +152,15 @@ fn all_go(rt: &impl Abort, alloc: Global, acts: &[(Of, Act)]) -> Result<bool, Fa
     let mut back = Counted::new(alloc, 2)?;
     let mut zero = view(alloc, &back, shape, 0)?;
     let mut one = view(alloc, &back, shape, 1)?;
+    let mut all = true;
     for (of, act) in acts {
-        if !one_goes(rt, &mut zero, &mut one, &mut back, shape, of, act) {
-            return Ok(false);
-        }
+        all &= one_goes(rt, &mut zero, &mut one, &mut back, shape, of, act);
     }
-    Ok(true)
+    // Said as calls: the end of a scope would be proved with each part that is given back.
+    drop(one);
+    drop(zero);
+    drop(back);
+    Ok(all)
 }
 
 // What the calls show, and the calls.

@@ -85,6 +85,7 @@ fn a_new_store_has_zeros(rt: HostRuntime) -> Result<(), Fail> {
     let mut store = zeros::<i32, 1>(&rt, rt.alloc(), 1, [8, 1], 64)?;
     assert!(rt; saves(rt.alloc(), &store, ZEROS)?);
     assert!(rt; has(&rt, &mut store, 1, [0; 4]));
+    drop(store);
     Ok(())
 }
 
@@ -96,6 +97,7 @@ fn an_opened_file_keeps_each_bit(rt: HostRuntime) -> Result<(), Fail> {
     put(&rt, &mut store, 0, &[1, 2, 3, 4]);
     assert!(rt; store.words() == [0x0000_0027_6000_0000, 0].as_slice());
     assert!(rt; has(&rt, &mut store, 0, [0, 2, 2, 4]));
+    drop(store);
     Ok(())
 }
 
@@ -114,6 +116,7 @@ fn blocks_share_words(rt: HostRuntime) -> Result<(), Fail> {
         assert!(rt; saves(rt.alloc(), &store, file)?, "{bits} bits");
         assert!(rt; has(&rt, &mut store, 1, [-2147483648; 4]));
         assert!(rt; has(&rt, &mut store, 0, [0; 4]));
+        drop(store);
     }
     Ok(())
 }
@@ -127,6 +130,7 @@ fn blocks_of_a_sheet_share_words(rt: HostRuntime) -> Result<(), Fail> {
         put(&rt, &mut store, b, &[-1073741824; 16]);
     }
     assert!(rt; saves(rt.alloc(), &store, SHEET)?);
+    drop(store);
     Ok(())
 }
 
@@ -139,6 +143,7 @@ fn a_code_over_two_words(rt: HostRuntime) -> Result<(), Fail> {
     put(&rt, &mut store, 1, &[0, -987654321987, 0, 0]);
     put(&rt, &mut store, 0, &[123456789012, 5, 0, 0]);
     assert!(rt; saves(rt.alloc(), &store, OVER_WORDS)?);
+    drop(store);
     Ok(())
 }
 

@@ -32,12 +32,7 @@ enum Act {
 }
 
 // Whether a call goes as it says. The cache and its backing of sixteen blocks fit.
-fn goes(
-    rt: &impl Abort,
-    cache: &mut TwoWay<i32, 1>,
-    back: &mut Counted,
-    act: &Act,
-) -> Result<bool, Fail>
+fn goes(rt: &impl Abort, cache: &mut TwoWay<i32, 1>, back: &mut Counted, act: &Act) -> bool
     requires fits { Fits ⟦<i32 as Lane>⟧.value cache.old
         (⟦<Counted as Reading<i32>>⟧.format back.old) (⟦<Counted as Reading<i32>>⟧.codes back.old) }
     requires format { ⟦<Counted as Reading<i32>>⟧.format back.old ≡ evens_format 16 }
@@ -49,40 +44,39 @@ fn goes(
         Act::Set(b, p, v) => {
             assert!(rt; *b < 16 && *p < 4);
             cache.set(back, *b, *p, *v);
-            Ok(true)
+            true
         }
         Act::Get(b, p, v) => {
             assert!(rt; *b < 16 && *p < 4);
-            Ok(cache.get(back, *b, *p) == *v)
+            cache.get(back, *b, *p) == *v
         }
         Act::Lend(b, v) => {
             assert!(rt; *b < 16);
             for value in cache.block_mut(back, *b) {
                 *value = *v;
             }
-            Ok(cache.block(back, *b)[3] == *v)
+            cache.block(back, *b)[3] == *v
         }
         Act::Flush => {
             cache.flush(back);
-            Ok(true)
+            true
         }
         Act::Discard => {
             discards::<i32, Counted>();
             cache.discard();
-            Ok(true)
+            true
         }
         Act::Lines(lines) => {
             assert!(rt; 0 < *lines && *lines <= 65536);
-            cache.relined(back, raised(*lines))?;
-            Ok(true)
+            cache.relined(back, raised(*lines)).is_ok()
         }
-        Act::HasLines(lines) => Ok(cache.lines() == *lines),
-        Act::IsDirty(b, dirty) => Ok(cache.is_dirty(*b) == *dirty),
+        Act::HasLines(lines) => cache.lines() == *lines,
+        Act::IsDirty(b, dirty) => cache.is_dirty(*b) == *dirty,
         Act::Counts(hits, misses, writes) => {
             let stats = cache.stats();
-            Ok((stats.hits, stats.misses, stats.writes) == (*hits, *misses, *writes))
+            (stats.hits, stats.misses, stats.writes) == (*hits, *misses, *writes)
         }
-        Act::Calls(loads, stores) => Ok((back.loads, back.stores) == (*loads, *stores)),
+        Act::Calls(loads, stores) => (back.loads, back.stores) == (*loads, *stores),
     }
 }
 
@@ -92,12 +86,14 @@ fn all_go(rt: &impl Abort, alloc: Global, lines: u32, acts: &[Act]) -> Result<bo
     assert!(rt; 0 < lines && lines <= 65536);
     let mut cache = TwoWay::<i32, 1>::new(alloc, raised(lines))?;
     empty_caches_fit::<i32, Counted>();
+    let mut all = true;
     for act in acts {
-        if !goes(rt, &mut cache, &mut back, act)? {
-            return Ok(false);
-        }
+        all &= goes(rt, &mut cache, &mut back, act);
     }
-    Ok(true)
+    // Said as calls: the end of a scope would be proved with each part that is given back.
+    drop(cache);
+    drop(back);
+    Ok(all)
 }
 
 // What the calls show, the number of lines, and the calls. Of two lines, blocks 0 and 1 have the first and

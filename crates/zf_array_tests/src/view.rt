@@ -230,6 +230,7 @@ fn a_view_and_its_array_see_one_state(rt: HostRuntime) -> Result<(), Fail> {
     assert!(rt; array.get(last) == 7);
     let stats = array.stats();
     assert!(rt; (stats.hits, stats.misses, stats.writes) == (8, 1, 0));
+    drop(array);
     Ok(())
 }
 
@@ -326,6 +327,7 @@ fn runs_and_values_are_lent(rt: HostRuntime) -> Result<(), Fail> {
     raise(&rt, &mut array, 3, 5);
     assert!(rt; value(&rt, &mut array, 4) == 14);
     assert!(rt; counts_are(&array, 14, 2));
+    drop(array);
     Ok(())
 }
 
@@ -362,5 +364,6 @@ fn windows_are_summed_and_read(rt: HostRuntime) -> Result<(), Fail> {
     assert!(rt; shows(&rt, &mut array, 4, &[0, 1]));
     assert!(rt; sum(&rt, &mut array) == 11);
     assert!(rt; counts_are(&array, 13, 2));
+    drop(array);
     Ok(())
 }

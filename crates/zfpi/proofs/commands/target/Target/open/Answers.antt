@@ -1,4 +1,5 @@
-use Rattle.std.proofs.Common.{refl}
+use Rattle.std.proofs.lemmas.Grind.{common_steps}
+use Rattle.std.proofs.Common.{refl, arith}
 use Rattle.zf_array.specs.Standing.{stored, state}
 use Rattle.zf_run.specs.Pairs.{pair_state}
 use Rattle.zfpi.specs.declared.command.Caching.TheVariants.{Direct, TwoWay}
@@ -45,3 +46,6 @@ returns-in-Ok-from_file-clause-stands g c =
 pub returns-in-Err-from_file-clause-refused : goal.returns-in-Err-from_file-clause-refused
 returns-in-Err-from_file-clause-refused g c =
     rw (c.from-in-Err-from_file.ensures, c.in-Look.is) (IsRefused-stream c.in-Look.lines c.args.loaded.file.items c.in-Err-from_file.fault c.in-Err-from_file.ensures.fault)
+
+pub returns-in-Ok-open-clause-fresh : goal.returns-in-Ok-open-clause-fresh
+returns-in-Ok-open-clause-fresh g c = grind (arith, common_steps)
