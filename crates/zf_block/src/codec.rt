@@ -168,7 +168,8 @@ fn write_or_make<C: BlockCode<T>, T: Lane, P: Plane>(
     write_or_turn(code, d, values, digits, planes, out)
 }
 
-/// The same of the coefficients by place.
+/// Appends the code of coefficients by place, where it is seen that the upper planes alone have it, and says
+/// so. Else it makes their planes, by way of their digits.
 #[inline(always)]
 fn write_or_turn<C: BlockCode<T>, T: Lane, P: Plane>(
     code: &C,
