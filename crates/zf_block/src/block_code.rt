@@ -121,8 +121,8 @@ pub(crate) trait BlockCode<T: Lane> {
             → PassesCode (len_at self.now size (rest reader.old)) reader.old reader.new }
         ensures zeros { IsTrue result → AreAbove size [] (planes_at self.now size (rest reader.old)) };
 
-    /// Reads the code of a block of which the first coefficient alone is not zero, where it is seen that one is
-    /// next. The answer is the digits of the first.
+    /// Reads the code of a block of which the first coefficient alone is not zero, where it is seen that one
+    /// is next. The answer is the digits of the first.
     fn read_first(&self, size: usize, reader: &mut BitReader<'_>) -> Option<u64>
         requires size { IsBlockSize size }
         ensures unread { IfNone result (reader.new ≡ reader.old) }
