@@ -7,6 +7,9 @@ ghost use Rattle.zf_block.specs.FirstAlone.{IsFirstCode, ReadsDigits};
 use crate::zero_block::are_zeros;
 use zf_bits::BitReader;
 
+/// Where the group bits behind digits lie.
+const GROUP_BITS: u64 = 0xaaaa_aaaa_aaaa_aaaa;
+
 /// The code of planes in which the first rank alone has ones.
 #[derive(Clone, Copy)]
 pub(crate) struct FirstCode {
@@ -67,6 +70,10 @@ fn next_digits(count: u32, place: &mut BitReader<'_>) -> Option<u64>
         return None;
     }
     let mut rest = place.peek();
+    // Another code is mostly told at once.
+    if rest & (GROUP_BITS >> (64 - len.max(2))) != 0 {
+        return None;
+    }
     let mut digits = 0;
     for _ in 0..count {
         if rest % 4 > 1 {
