@@ -41,10 +41,10 @@ class Calls:
         return [mode, str(self.random.randint(1, self.random.choice((12, 36, 128))))]
 
     def raw(self, width, count):
-        """Raw values: noise, few values, small ones, the ends of the type, or a slope."""
+        """Raw values: noise, few values, small ones, the ends of the type, one value, or a slope."""
         top = 1 << width
         ends = [0, 1, top - 1, top // 2 - 1, top // 2, top // 2 + 1, top // 4, top - top // 4]
-        kind = self.random.randrange(5)
+        kind = self.random.randrange(6)
         if kind == 0:
             return self.random.randbytes(width // 8 * count)
         if kind == 1:
@@ -55,6 +55,10 @@ class Calls:
             values = [self.random.randint(-most, most) for _ in range(count)]
         elif kind == 3:
             values = [self.random.choice(ends) for _ in range(count)]
+        elif kind == 4:
+            values = [self.random.getrandbits(self.random.randint(1, width))] * count
+            if self.random.random() < 0.3:
+                values[self.random.randrange(count)] += 1
         else:
             start, step = self.random.randrange(top), self.random.randint(-9, 99)
             values = [start + step * k for k in range(count)]
