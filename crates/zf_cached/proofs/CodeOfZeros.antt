@@ -3,7 +3,7 @@ use Rattle.std.proofs.Common.{◌≡◌, refl, sym, ap, subst, ◌∙◌, ℕ, z
 use Rattle.std.proofs.Math.Path.{fun_ext}
 use Rattle.std.proofs.Math.Nat.{one-le-pow}
 use Rattle.std.proofs.lemmas.List.{length-replicate, get_or-replicate}
-use Rattle.std.specs.Int.{Width, w8, w16, w32, w64, w128, int_wrap}
+use Rattle.std.specs.Int.{Width, w8, int_wrap}
 use Rattle.std.specs.List.{position_or_len}
 use mir.Val.{bits}
 use Rattle.zf_spec.specs.Numbers.{digits_sum, value_of, wrap}
