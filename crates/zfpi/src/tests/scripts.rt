@@ -1,6 +1,6 @@
 //! Scripts: `run` over one line or two for a block, and `look`.
 
-use super::calls::{BOTH, Row, ends_so};
+use super::calls::{BOTH, Row, all_end_so};
 use super::known::{SIXTEEN, TWO, UNUSED, ZEROS};
 use crate::status::Status;
 use std::test::Fail;
@@ -117,10 +117,6 @@ static SCRIPTS: [Row; 29] = scripts! {
 
 #[test]
 fn scripts_are_answered_and_the_array_is_saved(rt: HostRuntime) -> Result<(), Fail> {
-    for row in SCRIPTS.iter() {
-        for devices in BOTH.iter() {
-            assert!(rt; ends_so(rt.alloc(), row, devices)?);
-        }
-    }
+    assert!(rt; all_end_so(rt.alloc(), &SCRIPTS, &BOTH)?);
     Ok(())
 }
