@@ -115,8 +115,13 @@ static SCRIPTS: [Row; 29] = scripts! {
     COUNTED, "look a", b"" => Status::Done, b"", b"", COUNTED;
 };
 
+// The table is named here alone: what a function says of it is proved with each byte, in each of its steps.
+fn scripts() -> &'static [Row] {
+    &SCRIPTS
+}
+
 #[test]
 fn scripts_are_answered_and_the_array_is_saved(rt: HostRuntime) -> Result<(), Fail> {
-    assert!(rt; all_end_so(rt.alloc(), &SCRIPTS, &BOTH)?);
+    assert!(rt; all_end_so(rt.alloc(), scripts(), &BOTH)?);
     Ok(())
 }
