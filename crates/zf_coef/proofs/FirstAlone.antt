@@ -24,6 +24,74 @@ use Rattle.zf_coef.proofs.Halves.{no_word}
 use Rattle.zf_coef.proofs.ShiftedBits.{bit_at-mod, bit_at-shl_low, bit_at-shl_high}
 use Rattle.zf_coef.proofs.Transposed.{HoldsGroups, digits_of_groups}
 
+-- ---- the bits of planes as a number
+
+-- bit k of a number is the word of plane k, for so many planes
+pub record HasBits (planes : List (List ℕ)) (digits count : ℕ) : Type 0 where
+  pub inside : (k : ℕ) → k < count → bit_at digits k ≡ word_of planes 0 k
+  pub above : (k : ℕ) → count ≤ k → bit_at digits k ≡ 0
+
+pub bits_none : (planes : List (List ℕ)) → HasBits planes 0 0
+bits_none planes = record { inside = λ k h. absurd (omega arith); above = λ k h. bit_at-zero k }
+
+-- a bit at its place in a word
+bit_here : (w k : ℕ) → k < 64 → w < 2 → bit_at (w * 2 ^ k % 2 ^ 64) k ≡ w
+bit_here w k small one =
+    let none : k - k ≡ 0 = omega arith in
+    bit_at-mod (w * 2 ^ k) k small ∙ bit_at-shl_high w k k (omega arith) ∙ ap (bit_at w) none ∙ omega arith
+
+bit_elsewhere : (w k j : ℕ) → k < 64 → w < 2 → j ≢ k → bit_at (w * 2 ^ k % 2 ^ 64) j ≡ 0
+bit_elsewhere w k j small one other = ⊎_elim
+    (λ (inside : j < 64).
+    bit_at-mod (w * 2 ^ k) j inside
+    ∙ ⊎_elim
+    (λ (below : j < k). bit_at-shl_low w k j below)
+    (λ (from : k ≤ j). bit_at-shl_high w k j from ∙ bit_at_above w 1 (j - k) (omega arith) (omega arith))
+    (cases_lt j k))
+    (λ (past : 64 ≤ j). bit_at_above (w * 2 ^ k % 2 ^ 64) 64 j (omega arith) past)
+    (cases_lt j 64)
+
+pub bits_more : (planes : List (List ℕ)) (digits k w : ℕ) → k < 64 → word_of planes 0 k < 2 → w ≡ word_of planes 0 k → HasBits planes digits k
+    → HasBits planes (bit_or digits (w * 2 ^ k % 2 ^ 64)) (k + 1)
+bits_more planes digits k w small one is before =
+    let bit : w < 2 = omega arith in
+    record {
+      inside = λ j h. ⊎_elim
+          (λ (earlier : j < k).
+          bit_at_or digits (w * 2 ^ k % 2 ^ 64) j ∙ omega (arith, bit_elsewhere w k j small bit (λ (e : j ≡ k). omega arith), before.inside j earlier))
+          (λ (last : k ≤ j).
+          let same : k ≡ j = omega arith in
+          subst (λ i. bit_at (bit_or digits (w * 2 ^ k % 2 ^ 64)) i ≡ word_of planes 0 i) same
+          (bit_at_or digits (w * 2 ^ k % 2 ^ 64) k ∙ omega (arith, bit_here w k small bit, before.above k (omega arith), is)))
+          (cases_lt j k);
+      above = λ j h. bit_at_or digits (w * 2 ^ k % 2 ^ 64) j ∙ omega (arith, bit_elsewhere w k j small bit (λ (e : j ≡ k). omega arith), before.above j (omega arith));
+    }
+
+-- ---- the digits of all coefficients
+
+pub digits_of_first : (number size u : ℕ) (planes : List (List ℕ)) → 0 < size → size ≤ 64 * number → length planes ≤ 64
+    → ((k : ℕ) → k < length planes → length (get_or planes k []) ≡ number)
+    → ((p k : ℕ) → 0 < p → p < number → word_of planes p k ≡ 0) → ((k : ℕ) → word_of planes 0 k < 2) → ((k : ℕ) → bit_at u k ≡ word_of planes 0 k)
+    → digits_in (length planes) (u ∷ replicate (size - 1) 0) ≡ digits_in_planes (length planes) size (planes_held size planes)
+digits_of_first number size u planes some room few each others one first =
+    let digits = u ∷ replicate (size - 1) 0 in
+    let n = length planes in
+    let long : length digits ≡ size = omega (arith, length-replicate {A = ℕ} (size - 1) 0) in
+    digits_of_groups number planes digits few (omega arith)
+    (λ r k below within. let wide = ap (λ m. 64 * m) (each k within) in omega arith)
+    (record { each = bit })
+    ∙ ap (λ s. digits_in_planes n s (planes_held s planes)) long
+  where
+    bit : (r k : ℕ) → r < 64 * number → r < length (u ∷ replicate (size - 1) 0) → k < 64 → bit_of (u ∷ replicate (size - 1) 0) r k ≡ bit_at (word_of planes (r / 64) k) (r % 64)
+    bit zero k inside below small =
+        let whole : word_of planes 0 k ≡ word_of planes 0 k / 2 ^ 0 % 2 = let b = one k in omega arith in
+        first k ∙ whole
+    bit (suc r) k inside below small = ap (λ v. bit_at v k) (no_word (size - 1) r) ∙ bit_at-zero k ∙ sym (none (suc r / 64) (suc r % 64) (omega arith) (omega arith))
+      where
+        none : (p i : ℕ) → p < number → (0 < p + i) → bit_at (word_of planes p k) i ≡ 0
+        none zero i inside' later = bit_at_above (word_of planes 0 k) 1 i (one k) (omega arith)
+        none (suc p) i inside' later = ap (λ v. bit_at v i) (others (suc p) k (omega arith) inside') ∙ bit_at-zero i
+
 -- ---- the coefficients
 
 -- rank 0 is at place 0
