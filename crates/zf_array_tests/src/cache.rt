@@ -107,7 +107,7 @@ fn all_go(rt: &impl Abort, alloc: Global, lines: u32, acts: &[Act]) -> Result<bo
 }
 
 // What the calls show, the number of lines, and the calls.
-const ROWS: [(&str, u32, &[Act]); 5] = [
+static ROWS: [(&str, u32, &[Act]); 5] = [
     (
         "a value is rounded when its block makes room",
         1,
@@ -190,12 +190,11 @@ fn a_cache_that_only_reads(rt: HostRuntime) -> Result<(), Fail> {
     let first = cache.get_read(&mut back, 1, 2);
     let again = cache.get_read(&mut back, 1, 3);
     let other = cache.get_read(&mut back, 3, 0);
-    assert!(rt; first == 0 && again == 0 && other == 0);
-    assert!(rt; cache.stats() == stats(1, 2, 0));
+    let counts = cache.stats();
     let whole = cache.block_read(&mut back, 3).len();
     let relined = cache.relined_read(8).is_ok();
-    assert!(rt; whole == 4 && relined && cache.lines() == 8);
-    assert!(rt; cache.stats() == stats(2, 2, 0));
+    assert!(rt; (first, again, other, whole, relined) == (0, 0, 0, 4, true));
+    assert!(rt; (counts, cache.stats(), cache.lines()) == (stats(1, 2, 0), stats(2, 2, 0), 8));
     drop(cache);
     drop(back);
     Ok(())
@@ -211,7 +210,7 @@ fn a_cache_of_more_lines_than_blocks(rt: HostRuntime) -> Result<(), Fail> {
     let kept = cache.get(&mut back, 0, 2);
     cache.flush(&mut back);
     let rounded = cache.get(&mut back, 0, 2);
-    assert!(rt; cache.lines() == 2 && kept == 7 && rounded == 6);
+    assert!(rt; (kept, rounded, cache.lines()) == (7, 6, 2));
     assert!(rt; cache.stats() == stats(1, 2, 1));
     drop(cache);
     drop(back);
@@ -219,7 +218,7 @@ fn a_cache_of_more_lines_than_blocks(rt: HostRuntime) -> Result<(), Fail> {
 }
 
 // A number of lines, and what it is raised to.
-const RAISED: [(u32, u32); 8] = [
+static RAISED: [(u32, u32); 8] = [
     (1, 1),
     (2, 2),
     (3, 4),
@@ -232,7 +231,7 @@ const RAISED: [(u32, u32); 8] = [
 
 // A number of values in one dimension, and the lines that they have by themselves: blocks 1, 2, 4, 5, 16,
 // 17, and 2^25, as many as there can be.
-const BY_THEMSELVES: [(u64, u32); 7] = [
+static BY_THEMSELVES: [(u64, u32); 7] = [
     (4, 1),
     (8, 2),
     (16, 2),
@@ -249,7 +248,7 @@ fn numbers_of_lines(rt: HostRuntime) -> Result<(), Fail> {
         assert!(rt; raised(*lines) == *least);
     }
     for (values, least) in BY_THEMSELVES.iter() {
-        let shape = Shape::new(1, *values, 1, 1, 1).ok().ok_or("no shape")?;
+        let shape = Shape::new(1, *values, 1, 1, 1)?;
         assert!(rt; default_lines(&shape) == *least);
     }
     Ok(())

@@ -1,13 +1,16 @@
 //! The values of streams in each mode, for several numbers of lines, and every fault of a file.
 
-ghost use Rattle.std.specs.Prelude.{◌≡◌};
+ghost use Rattle.std.specs.Prelude.{◌≡◌, length};
+ghost use Rattle.zf_base.specs.Widths.{width_of};
+ghost use Rattle.zf_index.specs.Files.{HasHeader};
 
 use std::alloc::Global;
 use std::process::Abort;
 use std::test::Fail;
-use zf_base::{Pos, Ty};
+use zf_base::{Lane, Pos};
 use zf_bits::{bytes_of_words, put_bits};
 use zf_const::ConstArray;
+use zf_header::Header;
 use zf_index::IndexFault;
 use zf_script::Stats;
 
@@ -45,28 +48,33 @@ fn at(x: u64, y: u64) -> Pos {
     Pos { x, y, z: 0, w: 0 }
 }
 
-// The array of a file of int32 in one dimension, or its fault.
-fn open(
-    rt: &impl Abort,
-    alloc: Global,
-    file: &[u8],
-    lines: u32,
-) -> Result<Result<ConstArray<i32, 1>, IndexFault>, Fail> {
-    let (h, _) = zf_header::read(file).ok().ok_or("a header")?;
-    assert!(rt; h.ty == Ty::I32);
-    assert!(rt; h.shape.dims() == 1);
-    assert!(rt; 0 < lines && lines <= 65536);
-    Ok(ConstArray::from_file(alloc, &h, file.to_vec(alloc)?, lines))
+// The header of a file of this type and number of dimensions.
+fn header_of<T: Lane, const D: usize>(rt: &impl Abort, file: &[u8]) -> Header
+    ensures header { HasHeader file.now result }
+    ensures same_type { T.width ≡ width_of result.ty }
+    ensures dims { length result.shape ≡ D }
+{
+    let Ok((h, _)) = zf_header::read(file) else {
+        panic!(rt; "no header");
+    };
+    assert!(rt; h.ty == T::TY);
+    assert!(rt; usize::from(h.shape.dims()) == D);
+    h
 }
 
-// The array of a file that is one.
-fn opened(
+// The array of a file, or its fault.
+fn open<T: Lane, const D: usize>(
     rt: &impl Abort,
     alloc: Global,
     file: &[u8],
     lines: u32,
-) -> Result<ConstArray<i32, 1>, Fail> {
-    Ok(open(rt, alloc, file, lines)?.ok().ok_or("an array")?)
+) -> Result<ConstArray<T, D>, IndexFault> {
+    let h = header_of::<T, D>(rt, file);
+    assert!(rt; 0 < lines && lines <= 65536);
+    let Ok(bytes) = file.to_vec(alloc) else {
+        return Err(IndexFault::Memory);
+    };
+    ConstArray::from_file(alloc, &h, bytes, lines)
 }
 
 fn get(rt: &impl Abort, a: &mut ConstArray<i32, 1>, x: u64) -> i32 {
@@ -126,14 +134,14 @@ fn file_goes(
     lines: u32,
     steps: &[Step],
 ) -> Result<bool, Fail> {
-    let mut a = opened(rt, alloc, file, lines)?;
+    let mut a = open::<i32, 1>(rt, alloc, file, lines)?;
     let went = all_go(rt, &mut a, steps);
     drop(a);
     went
 }
 
 // What a script shows, a file, the lines of its array, and the steps.
-const SCRIPTS: [(&str, &[u8], u32, &[Step]); 3] = [
+static SCRIPTS: [(&str, &[u8], u32, &[Step]); 3] = [
     (
         "a value in each block",
         &ONE,
@@ -209,7 +217,7 @@ fn keeps(
     lines: u32,
     values: &[i32; 5],
 ) -> Result<bool, Fail> {
-    let mut a = opened(rt, alloc, file, lines)?;
+    let mut a = open::<i32, 1>(rt, alloc, file, lines)?;
     let first = has(rt, &mut a, &FIRST, values);
     let relined = a.set_lines(1).is_ok();
     let goes = first && relined && a.lines() == 1 && has(rt, &mut a, &THEN, values);
@@ -218,7 +226,7 @@ fn keeps(
 }
 
 // A file of five values, and these.
-const FILES: [(&[u8; 24], [i32; 5]); 2] = [
+static FILES: [(&[u8; 24], [i32; 5]); 2] = [
     (&FIVE, [1, 2, 3, 4, 5]),
     (&FIVE_PRECISE, [0, 2, 2, 4, 5]),
 ];
@@ -234,20 +242,7 @@ fn the_same_values_for_every_number_of_lines(rt: HostRuntime) -> Result<(), Fail
 }
 
 // A position along x and y, and its value.
-const OF_SHEET: [(u64, u64, i64); 5] = [(4, 1, 10), (0, 0, 1), (4, 0, 5), (3, 1, 9), (0, 1, 6)];
-
-// The array of the sheet.
-fn sheet(rt: &impl Abort, alloc: Global) -> Result<ConstArray<i64, 2>, Fail> {
-    let (h, _) = zf_header::read(&SHEET).ok().ok_or("a header")?;
-    assert!(rt; h.ty == Ty::I64);
-    assert!(rt; h.shape.dims() == 2);
-    let file = SHEET.to_vec(alloc)?;
-    Ok(
-        ConstArray::from_file(alloc, &h, file, 1)
-            .ok()
-            .ok_or("an array")?,
-    )
-}
+static OF_SHEET: [(u64, u64, i64); 5] = [(4, 1, 10), (0, 0, 1), (4, 0, 5), (3, 1, 9), (0, 1, 6)];
 
 fn value(rt: &impl Abort, a: &mut ConstArray<i64, 2>, x: u64, y: u64) -> i64 {
     let p = at(x, y);
@@ -257,16 +252,16 @@ fn value(rt: &impl Abort, a: &mut ConstArray<i64, 2>, x: u64, y: u64) -> i64 {
 
 #[test]
 fn two_dimensions_and_wide_values(rt: HostRuntime) -> Result<(), Fail> {
-    let mut a = sheet(&rt, rt.alloc())?;
+    let mut a = open::<i64, 2>(&rt, rt.alloc(), &SHEET, 1)?;
     for (x, y, wanted) in OF_SHEET.iter() {
-        assert!(rt; value(&rt, &mut a, *x, *y) == *wanted, "{x} {y}");
+        assert!(rt; value(&rt, &mut a, *x, *y) == *wanted);
     }
     drop(a);
     Ok(())
 }
 
 // Of 4100 blocks.
-const MANY: [Step; 6] = [
+static MANY: [Step; 6] = [
     Step::HasBlocks(4100),
     Step::Get(16399, 1),
     Step::Get(0, 0),
@@ -296,7 +291,7 @@ fn many_blocks(rt: HostRuntime) -> Result<(), Fail> {
 }
 
 // How many of the bytes of the five values there are, the byte that is changed, and the fault.
-const FAULTS: [(usize, usize, u8, Option<IndexFault>); 6] = [
+static FAULTS: [(usize, usize, u8, Option<IndexFault>); 6] = [
     (24, 23, 0x00, None),
     (17, 11, 0x88, Some(IndexFault::Truncated(0))),
     (18, 11, 0x88, Some(IndexFault::Truncated(1))),
@@ -305,6 +300,11 @@ const FAULTS: [(usize, usize, u8, Option<IndexFault>); 6] = [
     (25, 23, 0x00, Some(IndexFault::Trailing)),
 ];
 
+// The fault of a file of int32 in one dimension.
+fn fault_of(rt: &impl Abort, alloc: Global, file: &[u8]) -> Option<IndexFault> {
+    open::<i32, 1>(rt, alloc, file, 1).err()
+}
+
 #[test]
 fn each_fault_of_a_file(rt: HostRuntime) -> Result<(), Fail> {
     for (count, at, byte, fault) in FAULTS.iter() {
@@ -312,8 +312,7 @@ fn each_fault_of_a_file(rt: HostRuntime) -> Result<(), Fail> {
         file[..24].copy_from_slice(&FIVE);
         assert!(rt; *at < 40 && *count <= 40);
         file[*at] = *byte;
-        let found = open(&rt, rt.alloc(), &file[..*count], 1)?.err();
-        assert!(rt; found == *fault, "{count} bytes, byte {at} {byte}");
+        assert!(rt; fault_of(&rt, rt.alloc(), &file[..*count]) == *fault);
     }
     Ok(())
 }

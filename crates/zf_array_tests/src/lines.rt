@@ -1,11 +1,10 @@
 //! Lines beside a plain vector of vectors, over writes that a generator chooses.
 
-ghost use Rattle.std.specs.Prelude.{◌≡◌, ◌≤◌, ◌<◌, ◌^◌, length};
+ghost use Rattle.std.specs.Prelude.{◌≡◌, ◌≤◌, ◌<◌, ◌+◌, ◌^◌, length};
 ghost use Rattle.zf_lines.specs.Rows.{HasSize};
 
 use std::alloc::{AllocError, Global};
 use std::fs;
-use std::process::Abort;
 use std::rt::Files;
 use std::test::Fail;
 use zf_lines::Lines;
@@ -66,46 +65,81 @@ fn write(
     let i = numbers.below(count as usize);
     let a = numbers.below(len);
     let n = numbers.below(len - a) + 1;
-    let plain = all.get_mut(i);
-    if n == len {
-        for place in lines.line_mut(i as u32) {
-            *place = value;
-        }
-    } else {
-        for place in lines.part_mut(i as u32, a, n) {
-            *place = value;
-        }
+    if let Some(block) = all.get_mut(i) {
+        write_plain(block, a, n, value);
     }
-    if let Some(block) = plain {
-        for place in block.iter_mut().skip(a).take(n) {
-            *place = value;
-        }
+    if n == len {
+        write_whole(lines, count, len, i as u32, value);
+    } else {
+        write_part(lines, count, len, i as u32, a, n, value);
     }
 }
 
-fn compare(rt: &impl Abort, alloc: Global, count: u32, len: usize) -> Result<(), Fail>
+// Makes so many values from a place on be one.
+fn write_plain(block: &mut Vec<i64>, from: usize, count: usize, value: i64) {
+    for place in block.iter_mut().skip(from).take(count) {
+        *place = value;
+    }
+}
+
+// Makes all values of a line be one.
+fn write_whole(lines: &mut Lines<i64>, count: u32, len: usize, i: u32, value: i64)
+    requires sized { HasSize lines.old count len }
+    requires line { i < count }
+    ensures { HasSize lines.new count len }
+{
+    for place in lines.line_mut(i) {
+        *place = value;
+    }
+}
+
+// Makes a part of a line be one value.
+fn write_part(
+    lines: &mut Lines<i64>,
+    count: u32,
+    len: usize,
+    i: u32,
+    from: usize,
+    values: usize,
+    value: i64,
+)
+    requires sized { HasSize lines.old count len }
+    requires line { i < count }
+    requires part { from + values ≤ len }
+    ensures { HasSize lines.new count len }
+{
+    for place in lines.part_mut(i, from, values) {
+        *place = value;
+    }
+}
+
+// Whether both are the same after each of a hundred writes.
+fn compare(alloc: Global, count: u32, len: usize) -> Result<bool, AllocError>
     requires { (0 < count) × (count ≤ 2 ^ 16) × (0 < len) × (len ≤ 2 ^ 8) }
 {
-    let mut lines = Lines::new(alloc, count, len, 7i64)?;
     let mut all = plain(alloc, count, len, 7)?;
+    let mut lines = Lines::new(alloc, count, len, 7i64)?;
     let mut numbers = Numbers(count as u64);
+    let mut same = true;
     for step in 0..100i64 {
         write(&mut lines, &mut all, count, len, &mut numbers, step);
-        assert!(rt;
-            is_same(&lines, count, &all),
-            "write {step} of {count} lines of {len}"
-        );
+        same &= is_same(&lines, count, &all);
     }
-    Ok(())
+    drop(lines);
+    drop(all);
+    Ok(same)
 }
+
+// How many lines there are, and how long each is.
+static SIZES: [(u32, usize); 5] = [(1, 4), (2, 4), (3, 16), (8, 64), (5, 256)];
 
 #[test]
 fn as_vectors_over_random_writes(rt: HostRuntime) -> Result<(), Fail> {
-    compare(&rt, rt.alloc(), 1, 4)?;
-    compare(&rt, rt.alloc(), 2, 4)?;
-    compare(&rt, rt.alloc(), 3, 16)?;
-    compare(&rt, rt.alloc(), 8, 64)?;
-    compare(&rt, rt.alloc(), 5, 256)
+    for (count, len) in SIZES.iter() {
+        assert!(rt; 0 < *count && *count <= 65536 && 0 < *len && *len <= 256);
+        assert!(rt; compare(rt.alloc(), *count, *len)?);
+    }
+    Ok(())
 }
 
 #[test]
@@ -113,6 +147,7 @@ fn made_and_dropped_many_times(rt: HostRuntime) -> Result<(), Fail> {
     for round in 0..4096i64 {
         let lines = Lines::new(rt.alloc(), 16, 64, round)?;
         assert!(rt; lines.line(15) == [round; 64].as_slice());
+        drop(lines);
     }
     Ok(())
 }
@@ -120,10 +155,11 @@ fn made_and_dropped_many_times(rt: HostRuntime) -> Result<(), Fail> {
 #[test]
 fn lines_of_every_size(rt: HostRuntime) -> Result<(), Fail> {
     for len in [0usize, 4, 16, 64, 256] {
-        let lines = Lines::new(rt.alloc(), 65536, len, -1i32)?;
-        assert!(rt; lines.line(65535).len() == len);
         let none = Lines::new(rt.alloc(), 0, len, -1i32)?;
         drop(none);
+        let lines = Lines::new(rt.alloc(), 65536, len, -1i32)?;
+        assert!(rt; lines.line(65535).len() == len);
+        drop(lines);
     }
     Ok(())
 }
@@ -131,8 +167,14 @@ fn lines_of_every_size(rt: HostRuntime) -> Result<(), Fail> {
 // How many pages of memory the process has: the first number that the system says of it.
 fn pages(rt: &(impl Files + AllocGlobal)) -> Result<u64, Fail> {
     let text = fs::read_to_string(rt, "/proc/self/statm")?;
-    let word = text.as_str().split(' ').next().ok_or("a word")?;
-    Ok(word.parse::<u64>().ok().ok_or("a number")?)
+    let number = first_number(text.as_str());
+    drop(text);
+    Ok(number.ok_or("a number")?)
+}
+
+// The number that a text begins with.
+fn first_number(text: &str) -> Option<u64> {
+    text.split(' ').next()?.parse::<u64>().ok()
 }
 
 // 512 times lines of 2 MiB, one after the other. Where they leak, the process has 262144 pages more
@@ -143,11 +185,9 @@ fn dropped_lines_give_their_memory_back(rt: HostRuntime) -> Result<(), Fail> {
     for round in 0..512i64 {
         let lines = Lines::new(rt.alloc(), 4096, 64, round)?;
         assert!(rt; lines.line(4095).len() == 64);
+        drop(lines);
     }
     let after = pages(&rt)?;
-    assert!(rt;
-        after < before.saturating_add(131072),
-        "{before} pages, then {after}"
-    );
+    assert!(rt; after < before.saturating_add(131072));
     Ok(())
 }

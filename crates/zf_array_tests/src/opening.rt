@@ -11,13 +11,13 @@ use zf_index::IndexFault;
 use zf_view::{ConstView, Window};
 
 // An array of int32 at 64 bits a block, whose values are 0 2 2 4, 0 0 0 0.
-const FILE: [u8; 32] = [
+static FILE: [u8; 32] = [
     0x7a, 0x66, 0x70, 0x05, 0x70, 0, 0, 0, 0, 0, 0xf0, 0x03, 0, 0, 0, 0x60, 0x27, 0, 0, 0, 0, 0, 0,
     0, 0, 0, 0, 0, 0, 0, 0, 0,
 ];
 
 // How many bytes the file has, which of them is another, and what is wrong then.
-const FAULTS: [(usize, usize, u8, Option<OpenFault>); 9] = [
+static FAULTS: [(usize, usize, u8, Option<OpenFault>); 9] = [
     (32, 4, 0x70, None),
     (11, 4, 0x70, Some(OpenFault::Header(HeaderFault::Short))),
     (32, 0, 0x00, Some(OpenFault::Header(HeaderFault::Magic))),
@@ -43,12 +43,20 @@ fn changed(alloc: Global, len: usize, at: usize, byte: u8) -> Result<Vec<u8>, Al
     Ok(file)
 }
 
+// What is wrong with a file where it is opened as an array, and where as one that is only read.
+fn fault_of(alloc: Global, file: Vec<u8>) -> Option<OpenFault> {
+    Array::<i32, 1>::open(alloc, file, 2).err()
+}
+
+fn const_fault_of(alloc: Global, file: Vec<u8>) -> Option<OpenFault> {
+    ConstArray::<i32, 1>::open(alloc, file, 2).err()
+}
+
 #[test]
 fn arrays_are_opened(rt: HostRuntime) -> Result<(), Fail> {
     for (len, at, byte, fault) in FAULTS.iter() {
         let file = changed(rt.alloc(), *len, *at, *byte)?;
-        let opened = Array::<i32, 1>::open(rt.alloc(), file, 2);
-        assert!(rt; opened.err() == *fault, "{len} bytes, byte {at} {byte}");
+        assert!(rt; fault_of(rt.alloc(), file) == *fault);
     }
     Ok(())
 }
@@ -57,8 +65,7 @@ fn arrays_are_opened(rt: HostRuntime) -> Result<(), Fail> {
 fn read_only_arrays_are_opened(rt: HostRuntime) -> Result<(), Fail> {
     for (len, at, byte, fault) in FAULTS.iter() {
         let file = changed(rt.alloc(), *len, *at, *byte)?;
-        let opened = ConstArray::<i32, 1>::open(rt.alloc(), file, 2);
-        assert!(rt; opened.err() == *fault, "{len} bytes, byte {at} {byte}");
+        assert!(rt; const_fault_of(rt.alloc(), file) == *fault);
     }
     Ok(())
 }
@@ -67,8 +74,8 @@ fn read_only_arrays_are_opened(rt: HostRuntime) -> Result<(), Fail> {
 #[test]
 fn an_array_has_a_rate(rt: HostRuntime) -> Result<(), Fail> {
     let file = changed(rt.alloc(), 32, 11, 0x81)?;
-    let opened = Array::<i32, 1>::open(rt.alloc(), file, 2);
-    assert!(rt; opened.err() == Some(OpenFault::Mode(Mode::Precision(32))));
+    let fault = OpenFault::Mode(Mode::Precision(32));
+    assert!(rt; fault_of(rt.alloc(), file) == Some(fault));
     Ok(())
 }
 
@@ -89,8 +96,8 @@ fn is_viewed(rt: &impl Abort, array: &mut ConstArray<i32, 1>) -> bool {
 #[test]
 fn a_read_only_array_is_viewed(rt: HostRuntime) -> Result<(), Fail> {
     let file = FILE.to_vec(rt.alloc())?;
-    let opened = ConstArray::<i32, 1>::open(rt.alloc(), file, 2);
-    let mut array = opened.ok().ok_or("an array")?;
+    let mut array = ConstArray::<i32, 1>::open(rt.alloc(), file, 2)?;
     assert!(rt; is_viewed(&rt, &mut array));
+    drop(array);
     Ok(())
 }

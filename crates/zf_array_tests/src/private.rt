@@ -148,7 +148,7 @@ fn one_goes(
 
 // Whether all calls of two new views go as they say.
 fn all_go(rt: &impl Abort, alloc: Global, acts: &[(Of, Act)]) -> Result<bool, Fail> {
-    let shape = Shape::new(1, 8, 1, 1, 1).ok().ok_or("a shape")?;
+    let shape = Shape::new(1, 8, 1, 1, 1)?;
     let mut back = Counted::new(alloc, 2)?;
     let mut zero = view(alloc, &back, shape, 0)?;
     let mut one = view(alloc, &back, shape, 1)?;
@@ -164,7 +164,7 @@ fn all_go(rt: &impl Abort, alloc: Global, acts: &[(Of, Act)]) -> Result<bool, Fa
 }
 
 // What the calls show, and the calls.
-const ROWS: [(&str, &[(Of, Act)]); 2] = [
+static ROWS: [(&str, &[(Of, Act)]); 2] = [
     (
         "what a view has not written back is seen by no other, and is written back by its own flush alone",
         &[

@@ -1,9 +1,10 @@
 //! The rows of a store, and every fault of a file.
 
-ghost use Rattle.std.specs.Prelude.{◌≡◌, IsTrue};
+ghost use Rattle.std.specs.Prelude.{◌≡◌, IsTrue, length};
 ghost use Rattle.zf_header.specs.HeaderBits.{IsRate};
+ghost use Rattle.zf_store.specs.Files.{HasHeader};
 
-use std::alloc::Global;
+use std::alloc::{AllocError, Global};
 use std::process::Abort;
 use std::test::Fail;
 use zf_base::{Backing, Lane, Reading, Shape, Ty};
@@ -27,17 +28,25 @@ fn is_rate(h: &Header) -> bool
     }
 }
 
-// The store of a file in one dimension, or its fault.
-fn open(
-    rt: &impl Abort,
-    alloc: Global,
-    file: &[u8],
-) -> Result<Result<Store<i32, 1>, StoreFault>, Fail> {
-    let (h, _) = zf_header::read(file).ok().ok_or("a header")?;
+// The header of a file of int32 in one dimension, at a rate.
+fn header_of(rt: &impl Abort, file: &[u8]) -> Header
+    ensures header { HasHeader file.now result }
+    ensures ty { result.ty ≡ Ty.I32 }
+    ensures dims { length result.shape ≡ 1 }
+{
+    let Ok((h, _)) = zf_header::read(file) else {
+        panic!(rt; "no header");
+    };
     assert!(rt; is_rate(&h));
     assert!(rt; h.ty == Ty::I32);
     assert!(rt; h.shape.dims() == 1);
-    Ok(Store::from_file(alloc, &h, file))
+    h
+}
+
+// The store of a file of int32 in one dimension, or its fault.
+fn open(rt: &impl Abort, alloc: Global, file: &[u8]) -> Result<Store<i32, 1>, StoreFault> {
+    let h = header_of(rt, file);
+    Store::from_file(alloc, &h, file)
 }
 
 // A new store in one dimension or two.
@@ -49,9 +58,7 @@ fn zeros<T: Lane, const D: usize>(
     bits: u32,
 ) -> Result<Store<T, D>, Fail> {
     assert!(rt; 1 <= dims && dims <= 2 && 1 <= bits && bits <= 32768);
-    let shape = Shape::new(dims, sizes[0], sizes[1], 1, 1)
-        .ok()
-        .ok_or("a shape")?;
+    let shape = Shape::new(dims, sizes[0], sizes[1], 1, 1)?;
     assert!(rt; usize::from(shape.dims()) == D);
     Ok(Store::zeros(alloc, shape, bits)?)
 }
@@ -74,7 +81,7 @@ fn saves<T: Lane, const D: usize>(
     alloc: Global,
     store: &Store<T, D>,
     file: &[u8],
-) -> Result<bool, Fail> {
+) -> Result<bool, AllocError> {
     let mut out = vec![in alloc; 1; rate_bytes(&store.header()) as usize]?;
     store.write_file(&mut out);
     Ok(out.as_slice() == file)
@@ -83,27 +90,29 @@ fn saves<T: Lane, const D: usize>(
 #[test]
 fn a_new_store_has_zeros(rt: HostRuntime) -> Result<(), Fail> {
     let mut store = zeros::<i32, 1>(&rt, rt.alloc(), 1, [8, 1], 64)?;
-    assert!(rt; saves(rt.alloc(), &store, ZEROS)?);
+    let saved = saves(rt.alloc(), &store, ZEROS);
     assert!(rt; has(&rt, &mut store, 1, [0; 4]));
     drop(store);
+    assert!(rt; saved?);
     Ok(())
 }
 
 #[test]
 fn an_opened_file_keeps_each_bit(rt: HostRuntime) -> Result<(), Fail> {
-    let mut store = open(&rt, rt.alloc(), UNUSED)?.ok().ok_or("a store")?;
+    let mut store = open(&rt, rt.alloc(), UNUSED)?;
     assert!(rt; has(&rt, &mut store, 0, [0; 4]));
-    assert!(rt; saves(rt.alloc(), &store, UNUSED)?);
+    let saved = saves(rt.alloc(), &store, UNUSED);
     put(&rt, &mut store, 0, &[1, 2, 3, 4]);
     assert!(rt; store.words() == [0x0000_0027_6000_0000, 0].as_slice());
     assert!(rt; has(&rt, &mut store, 0, [0, 2, 2, 4]));
     drop(store);
+    assert!(rt; saved?);
     Ok(())
 }
 
 // Bits of a block, and the file of two blocks, of which the second is stored as one value, or some. The
 // file is the reference program's.
-const SHARED: [(u32, &[u8]); 2] = [
+static SHARED: [(u32, &[u8]); 2] = [
     (1, b"zfp\x05\x70\0\0\0\0\0\0\0\x02\0\0\0"),
     (3, b"zfp\x05\x70\0\0\0\0\0\x20\0\x18\0\0\0"),
 ];
@@ -113,10 +122,11 @@ fn blocks_share_words(rt: HostRuntime) -> Result<(), Fail> {
     for (bits, file) in SHARED.iter() {
         let mut store = zeros::<i32, 1>(&rt, rt.alloc(), 1, [8, 1], *bits)?;
         put(&rt, &mut store, 1, &[-1073741824; 4]);
-        assert!(rt; saves(rt.alloc(), &store, file)?, "{bits} bits");
+        let saved = saves(rt.alloc(), &store, file);
         assert!(rt; has(&rt, &mut store, 1, [-2147483648; 4]));
         assert!(rt; has(&rt, &mut store, 0, [0; 4]));
         drop(store);
+        assert!(rt; saved?);
     }
     Ok(())
 }
@@ -129,8 +139,9 @@ fn blocks_of_a_sheet_share_words(rt: HostRuntime) -> Result<(), Fail> {
     for b in 0..6 {
         put(&rt, &mut store, b, &[-1073741824; 16]);
     }
-    assert!(rt; saves(rt.alloc(), &store, SHEET)?);
+    let saved = saves(rt.alloc(), &store, SHEET);
     drop(store);
+    assert!(rt; saved?);
     Ok(())
 }
 
@@ -142,13 +153,14 @@ fn a_code_over_two_words(rt: HostRuntime) -> Result<(), Fail> {
     let mut store = zeros::<i64, 1>(&rt, rt.alloc(), 1, [6, 1], 70)?;
     put(&rt, &mut store, 1, &[0, -987654321987, 0, 0]);
     put(&rt, &mut store, 0, &[123456789012, 5, 0, 0]);
-    assert!(rt; saves(rt.alloc(), &store, OVER_WORDS)?);
+    let saved = saves(rt.alloc(), &store, OVER_WORDS);
     drop(store);
+    assert!(rt; saved?);
     Ok(())
 }
 
 // How many bytes there are, the byte that is changed, and the fault.
-const FAULTS: [(usize, usize, u8, Option<StoreFault>); 12] = [
+static FAULTS: [(usize, usize, u8, Option<StoreFault>); 12] = [
     (32, 31, 0x00, None),
     (12, 11, 0x03, Some(StoreFault::Truncated(0))),
     (19, 11, 0x03, Some(StoreFault::Truncated(0))),
@@ -170,8 +182,7 @@ fn each_fault_of_a_file(rt: HostRuntime) -> Result<(), Fail> {
         file.resize(*count, 0)?;
         assert!(rt; *at < file.len());
         file[*at] = *byte;
-        let found = open(&rt, rt.alloc(), &file)?.err();
-        assert!(rt; found == *fault, "{count} bytes, byte {at} {byte}");
+        assert!(rt; open(&rt, rt.alloc(), &file).err() == *fault);
     }
     Ok(())
 }

@@ -98,7 +98,7 @@ fn all_go(rt: &impl Abort, alloc: Global, lines: u32, acts: &[Act]) -> Result<bo
 
 // What the calls show, the number of lines, and the calls. Of two lines, blocks 0 and 1 have the first and
 // the second one alone, block 2 has both.
-const ROWS: [(&str, u32, &[Act]); 5] = [
+static ROWS: [(&str, u32, &[Act]); 5] = [
     (
         "an empty second line is taken",
         2,

@@ -20,7 +20,7 @@ fn at(x: u64, y: u64) -> Pos {
 fn sheet(rt: &impl Abort, x: u64, y: u64) -> Result<Shape, Fail>
     ensures { IfOk result (λ shape. length shape ≡ 2) }
 {
-    let shape = Shape::new(2, x, y, 1, 1).ok().ok_or("a shape")?;
+    let shape = Shape::new(2, x, y, 1, 1)?;
     assert!(rt; shape.dims() == 2);
     Ok(shape)
 }
@@ -59,7 +59,7 @@ fn window(
 }
 
 // Origin, size and step of a window of 4 by 4 places along x and y, and its fault.
-const FAULTS: [([u64; 2], [u64; 2], [u64; 2], Option<ViewFault>); 9] = [
+static FAULTS: [([u64; 2], [u64; 2], [u64; 2], Option<ViewFault>); 9] = [
     ([1, 1], [2, 2], [2, 2], None),
     ([0, 0], [4, 4], [1, 1], None),
     ([3, 3], [1, 1], [u64::MAX, u64::MAX], None),
@@ -114,7 +114,7 @@ fn mapped(shape: &Shape, of: Of, place: [u64; 2]) -> Option<Option<Pos>>
 }
 
 // A window, a place, and where it lies.
-const PLACES: [(Of, [u64; 2], Option<Option<[u64; 2]>>); 8] = [
+static PLACES: [(Of, [u64; 2], Option<Option<[u64; 2]>>); 8] = [
     (Of::Whole, [3, 2], Some(Some([3, 2]))),
     (Of::Whole, [4, 0], Some(None)),
     (Of::Part, [1, 1], Some(Some([3, 1]))),
@@ -136,7 +136,7 @@ fn windows_map_and_are_sliced(rt: HostRuntime) -> Result<(), Fail> {
 }
 
 // The blocks of 5 by 6 values: the origin and the size of each.
-const BLOCKS: [([u64; 2], [u64; 2]); 4] = [
+static BLOCKS: [([u64; 2], [u64; 2]); 4] = [
     ([0, 0], [4, 4]),
     ([4, 0], [1, 4]),
     ([0, 4], [4, 2]),
@@ -211,7 +211,7 @@ fn goes(rt: &impl Abort, array: &mut Array<i32, 2>, x: u64, y: u64, act: &Act) -
 }
 
 // A place, and a call there.
-const ACTS: [(u64, u64, Act); 5] = [
+static ACTS: [(u64, u64, Act); 5] = [
     (0, 0, Act::Set(5)),
     (1, 1, Act::Set(9)),
     (0, 0, Act::Get(5)),
@@ -300,7 +300,7 @@ fn counts_are(array: &Array<i32, 1>, hits: u64, misses: u64) -> bool {
 
 // Where a run begins, what its first value is made, and how long it is: each ends with its block or with
 // the window.
-const RUNS: [(u64, i32, usize); 6] = [
+static RUNS: [(u64, i32, usize); 6] = [
     (0, 9, 3),
     (3, 9, 3),
     (1, 0, 2),
@@ -314,7 +314,7 @@ const VALUES: [i32; 8] = [0, 9, 0, 0, 9, 0, 0, 0];
 
 #[test]
 fn runs_and_values_are_lent(rt: HostRuntime) -> Result<(), Fail> {
-    let shape = Shape::new(1, 8, 1, 1, 1).ok().ok_or("a shape")?;
+    let shape = Shape::new(1, 8, 1, 1, 1)?;
     assert!(rt; shape.dims() == 1);
     let mut array = Array::<i32, 1>::new(rt.alloc(), shape, 64, 2)?;
     for (x, v, len) in RUNS.iter() {
@@ -353,7 +353,7 @@ fn add_at(rt: &impl Abort, array: &mut Array<i32, 1>, x: u64, v: i32) {
 
 #[test]
 fn windows_are_summed_and_read(rt: HostRuntime) -> Result<(), Fail> {
-    let shape = Shape::new(1, 8, 1, 1, 1).ok().ok_or("a shape")?;
+    let shape = Shape::new(1, 8, 1, 1, 1)?;
     assert!(rt; shape.dims() == 1);
     let mut array = Array::<i32, 1>::new(rt.alloc(), shape, 64, 2)?;
     for (x, v) in [(0, 100), (1, 5), (3, -2), (4, 7), (6, 1), (7, 100)] {

@@ -8,10 +8,8 @@ pub Appends-nil : (w : Writer) → Appends w w []
 Appends-nil w = record { bits = sym (append-nil w.bits); room = omega arith }
 
 pub Appends-append : {a b c : Writer} {xs ys : List Bool} → Appends a b xs → Appends b c ys → Appends a c (xs ++ ys)
-Appends-append {a} {b} {c} {xs} {ys} first second = record {
-  bits = second.bits ∙ ap (λ bs. bs ++ ys) first.bits ∙ append_assoc a.bits xs ys;
-  room = omega (arith, length-append xs ys);
-}
+Appends-append {a} {b} {c} {xs} {ys} first second =
+    grind (arith, append_assoc a.bits xs ys, length-append xs ys)
 
 pub Appends-same : {a b : Writer} {xs ys : List Bool} → Appends a b xs → xs ≡ ys → Appends a b ys
 Appends-same {a} {b} appends e = let P : List Bool → Type 0 = λ bs. Appends a b bs in subst P e appends

@@ -1,5 +1,5 @@
 -- A few of the bits of a file.
-use Rattle.std.proofs.Common.{◌≡◌, ◌⊎◌, inl, inr, sym, ap, ◌∙◌, ℕ, ◌+◌, ◌-◌, ◌*◌, ◌/◌, ◌%◌, ◌<◌, ◌≤◌, min, Bool, List, ◌++◌, length, take, drop, length-drop, arith}
+use Rattle.std.proofs.Common.{◌≡◌, sym, ap, ◌∙◌, ℕ, ◌+◌, ◌-◌, ◌*◌, ◌/◌, ◌%◌, ◌≤◌, min, Bool, List, ◌++◌, length, take, drop, length-drop, arith, rules}
 use Rattle.std.proofs.lemmas.Bool.{cases_lt}
 use Rattle.std.proofs.lemmas.List.{take_at, take_all, take-append-drop, drop_at, drop-drop, drop-take, length-take-le}
 use Rattle.std.proofs.lemmas.Grind.{flat_map-append}
@@ -34,18 +34,4 @@ module _ (file : List ℕ) (at room count : ℕ) (within : at ≤ 8 * length fil
       let inside : first + count ≤ length file = omega (arith, is) in
       let split : 8 * count ≡ at % 64 + (8 * count - at % 64) = omega (arith, place_within) in
       let sum : 8 * first + at % 64 ≡ at = omega arith in
-      ap (drop (at % 64)) (is_bits ∙ to_bits-cut file first count inside ∙ ap (λ n. take n (drop (8 * first) s)) split)
-      ∙ drop-take (at % 64) (8 * count - at % 64) (drop (8 * first) s)
-      ∙ ap (take (8 * count - at % 64)) (drop-drop (at % 64) (8 * first) s ∙ ap (λ n. drop n s) sum)
-      ∙ both (cases_lt (8 * room) (length file - first))
-    where
-      s : List Bool
-      s = to_bits file
-
-      left : length (drop at s) ≡ 8 * length file - at
-      left = length-drop at s ∙ ap (λ n. n - at) (length-to_bits file)
-
-      both : (8 * room < length file - 8 * (at / 64)) ⊎ (length file - 8 * (at / 64) ≤ 8 * room) → take (8 * count - at % 64) (drop at s) ≡ take (64 * room - at % 64) (drop at s)
-      both (inl more) = let same : 8 * count - at % 64 ≡ 64 * room - at % 64 = omega (arith, is, more) in ap (λ n. take n (drop at s)) same
-      both (inr all) =
-          take_all (8 * count - at % 64) (drop at s) (omega (arith, is, all, left)) ∙ sym (take_all (64 * room - at % 64) (drop at s) (omega (arith, all, left)))
+      search (rules, place_within, to_bits-cut, drop-take, drop-drop, cases_lt, length-drop, length-to_bits, take_all)

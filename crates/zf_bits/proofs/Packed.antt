@@ -1,5 +1,5 @@
 -- The bits of bytes are the bits of their words, and then zeros.
-use Rattle.std.proofs.Common.{◌≡◌, ℕ, Bool, zero, suc, ◌+◌, ◌-◌, ◌*◌, ◌%◌, ◌^◌, ◌<◌, ◌≤◌, false, List, [], ◌∷◌, ◌++◌, length, get_or, take, drop, replicate, All, min, refl, sym, ap, ◌∙◌, arith, append_assoc, length-append, length-drop, lit<}
+use Rattle.std.proofs.Common.{◌≡◌, ℕ, zero, suc, ◌+◌, ◌-◌, ◌*◌, ◌%◌, ◌^◌, ◌<◌, ◌≤◌, false, List, [], ◌∷◌, ◌++◌, length, get_or, take, drop, replicate, All, min, refl, sym, ap, ◌∙◌, arith, append_assoc, length-append, length-drop, lit<, rules}
 use Rattle.std.specs.List.{flat_map}
 use Rattle.std.specs.Int.{w64, byte_worth, sum_through, div_ceil, from_le_bytes, to_le_bytes}
 use Rattle.std.proofs.Math.Nat.{pow-suc, mul-suc, mod-eq_of_lt}
@@ -22,9 +22,7 @@ first_bytes-append-drop (suc n) [] =
     let more : suc n - 0 ≡ suc (n - 0) = omega arith in
     let none : drop n [] ≡ [] = drop_all n [] (omega arith) in
     rw more (ap (λ bs. 0 ∷ bs) (ap (λ bs. first_bytes n [] ++ bs) (sym none) ∙ first_bytes-append-drop n []))
-first_bytes-append-drop (suc n) (b ∷ s) =
-    let less : suc n - suc (length s) ≡ n - length s = omega arith in
-    rw less (ap (λ bs. b ∷ bs) (first_bytes-append-drop n s))
+first_bytes-append-drop (suc n) (b ∷ s) = grind (arith, first_bytes-append-drop n s)
 
 pub first_bytes-short : (n : ℕ) (s : List ℕ) → length s ≤ n → first_bytes n s ≡ s ++ replicate (n - length s) 0
 first_bytes-short n s short =
@@ -50,14 +48,11 @@ sum_through-cons (suc k) b bs =
 -- the bits of bytes are those of the number that they are, least significant byte first
 pub number-to_bits : (k : ℕ) (bs : List ℕ) → length bs ≡ suc k → ((i : ℕ) → get_or bs i 0 < 256) → number (to_bits bs) ≡ sum_through (λ i. byte_worth i (get_or bs i 0)) k
 number-to_bits k [] count bytes = absurd (omega arith)
-number-to_bits zero (b ∷ []) count bytes =
-    let first : b % 2 ^ 8 ≡ b = mod-eq_of_lt (bytes 0) in
-    number-flat_map-field 8 b [] ∙ omega (arith, first)
+number-to_bits zero (b ∷ []) count bytes = grind (arith, mod-eq_of_lt (bytes 0), number-flat_map-field 8 b [])
 number-to_bits zero (b ∷ c ∷ bs) count bytes = absurd (omega arith)
 number-to_bits (suc k) (b ∷ bs) count bytes =
-    let first : b % 2 ^ 8 ≡ b = mod-eq_of_lt (bytes 0) in
     let others = number-to_bits k bs (omega arith) (λ i. bytes (suc i)) in
-    number-flat_map-field 8 b bs ∙ rw (first, others) (sym (sum_through-cons k b bs))
+    cc (mod-eq_of_lt (bytes 0), number-flat_map-field 8 b bs, sum_through-cons k b bs)
 
 -- ---- words
 
@@ -103,9 +98,7 @@ word_bits-words_from (suc n) s fits bytes =
 
 pub word_bits-words_of : (s : List ℕ) → ((i : ℕ) → get_or s i 0 < 256) → word_bits (words_of s) ≡ with_fill (to_bits s)
 word_bits-words_of s bytes =
-    let n = div_ceil (length s) 8 in
-    let zeros : 64 * n - 8 * length s ≡ (64 - length (to_bits s) % 64) % 64 = omega (arith, length-to_bits s) in
-    word_bits-words_from n s (omega arith) bytes ∙ ap (λ k. to_bits s ++ replicate k false) zeros
+    grind (arith, length-to_bits s, word_bits-words_from (div_ceil (length s) 8) s (omega arith) bytes)
 
 length-words_from : (n : ℕ) (s : List ℕ) → length (words_from n s) ≡ n
 length-words_from zero s = refl
@@ -126,11 +119,7 @@ first_bytes-more (suc n) (b ∷ s) more fits = ap (λ bs. b ∷ bs) (first_bytes
 words_of-whole : (piece rest : List ℕ) → length piece ≡ 8 → words_of (piece ++ rest) ≡ word_of piece ∷ words_of rest
 unfolding word_of
 words_of-whole piece rest count =
-    let n = div_ceil (length rest) 8 in
-    let more : div_ceil (length (piece ++ rest)) 8 ≡ suc n = omega (arith, length-append piece rest) in
-    let prefix = first_bytes-more 8 piece rest (omega arith) in
-    let behind : drop 8 (piece ++ rest) ≡ rest = drop_at piece rest 8 count in
-    rw (more, behind) (ap (λ bs. from_le_bytes w64 bs ∷ words_from n rest) prefix)
+    grind (arith, length-append piece rest, first_bytes-more 8 piece rest (omega arith), drop_at piece rest 8 count)
 
 -- the last word
 words_of-last : (piece : List ℕ) → 0 < length piece → length piece ≤ 8 → words_of piece ≡ word_of piece ∷ []
@@ -146,20 +135,12 @@ words_of-append piece (b ∷ rest) count some =
 -- one word more
 pub words_from-more : (n : ℕ) (s : List ℕ) → words_from (n + 1) s ≡ words_from n s ++ word_of (drop (8 * n) s) ∷ []
 words_from-more zero s = refl
-words_from-more (suc n) s =
-    let next : suc n + 1 ≡ suc (n + 1) = omega arith in
-    let sum : 8 + 8 * n ≡ 8 * suc n = omega arith in
-    let place : drop (8 * n) (drop 8 s) ≡ drop (8 * suc n) s = drop-drop (8 * n) 8 s ∙ ap (λ k. drop k s) sum in
-    ap (λ k. words_from k s) next
-    ∙ ap (λ (ws : List ℕ). word_of s ∷ ws) (words_from-more n (drop 8 s) ∙ ap (λ (bs : List ℕ). words_from n (drop 8 s) ++ word_of bs ∷ []) place)
+words_from-more (suc n) s = grind (arith, drop-drop (8 * n) 8 s, words_from-more n (drop 8 s))
 
 -- the word of the first 8 bytes
 pub word_of-eight : (s : List ℕ) → 8 ≤ length s → word_of (take 8 s) ≡ word_of s
 unfolding word_of
-word_of-eight s within =
-    let size : length (take 8 s) ≡ 8 = length-take-le 8 s within in
-    ap (from_le_bytes w64)
-    (sym (first_bytes-more 8 (take 8 s) (drop 8 s) (omega (arith, size))) ∙ ap (first_bytes 8) (take-append-drop 8 s))
+word_of-eight s within = search (rules, length-take-le, first_bytes-more, take-append-drop)
 
 -- ---- the bytes of words
 
@@ -201,16 +182,4 @@ bytes-words words small = sym (to_bytes-to_bits (flat_map (to_le_bytes w64) word
 pub bits_put : (words rest s : List ℕ) (bits held k : ℕ) → bits ≡ 64 * held → held ≤ length words → length s ≤ 8 * k → ((i : ℕ) → get_or s i 0 < 256)
     → take (bits + 8 * length s) (word_bits (take held words ++ (words_from k s ++ rest))) ≡ take bits (word_bits words) ++ to_bits s
 bits_put words rest s bits held k bits_are within fits bytes =
-    let prefix = take bits (word_bits words) in
-    let zeros = replicate (64 * k - 8 * length s) false in
-    let more = zeros ++ word_bits rest in
-    let old : word_bits (take held words) ≡ prefix = sym (take-words 64 held words) ∙ ap (λ n. take n (word_bits words)) (sym bits_are) in
-    let long : length prefix ≡ bits = length-take-le bits (word_bits words) (omega (arith, length-word_bits words)) in
-    let size : length prefix + length (to_bits s) ≡ bits + 8 * length s = omega (arith, long, length-to_bits s) in
-    let parts : word_bits (take held words ++ (words_from k s ++ rest)) ≡ prefix ++ (to_bits s ++ more) =
-    flat_map-append (field 64) (take held words) (words_from k s ++ rest)
-    ∙ ap (λ (bs : List Bool). bs ++ word_bits (words_from k s ++ rest)) old
-    ∙ ap (λ (bs : List Bool). prefix ++ bs)
-    (flat_map-append (field 64) (words_from k s) rest ∙ ap (λ (bs : List Bool). bs ++ word_bits rest) (word_bits-words_from k s fits bytes) ∙ append_assoc (to_bits s) zeros (word_bits rest)) in
-    ap (take (bits + 8 * length s)) (parts ∙ sym (append_assoc prefix (to_bits s) more))
-    ∙ take_at (prefix ++ to_bits s) more (bits + 8 * length s) (length-append prefix (to_bits s) ∙ size)
+    search (rules, take-words, length-take-le, length-word_bits, length-to_bits, flat_map-append, word_bits-words_from, append_assoc, take_at, length-append)

@@ -6,22 +6,16 @@ use Rattle.zf_bits.specs.Reader.{Reader, rest, Reads}
 use Rattle.zf_spec.proofs.WordBits.{length-word_bits, get_or-flat_map-field}
 
 pub Reads-append : {a b c : Reader} {xs ys : List Bool} → Reads a b xs → Reads b c ys → Reads a c (xs ++ ys)
-Reads-append {a} {b} {c} {xs} {ys} first second = record {
-  next = first.next ∙ ap (λ bs. xs ++ bs) second.next ∙ sym (append_assoc xs ys (rest c));
-  place = omega (arith, first.place, second.place, length-append xs ys);
-  all = second.all ∙ first.all;
-}
+Reads-append {a} {b} {c} {xs} {ys} first second =
+    grind (arith, append_assoc xs ys (rest c), length-append xs ys)
 
 pub Reads-same : {a b : Reader} {xs ys : List Bool} → Reads a b xs → xs ≡ ys → Reads a b ys
 Reads-same {a} {b} reads e = let P : List Bool → Type 0 = λ bs. Reads a b bs in subst P e reads
 
 -- the next n bits
 pub Reads-take : (r : Reader) (n : ℕ) → n ≤ length (rest r) → Reads r (record r { at = r.at + n }) (take n (rest r))
-Reads-take r n fits = record {
-  next = sym (take-append-drop n (rest r)) ∙ ap (λ (bs : List Bool). take n (rest r) ++ bs) (drop-drop n r.at r.all);
-  place = omega (arith, length-take-le n (rest r) fits);
-  all = refl;
-}
+Reads-take r n fits =
+    grind (arith, take-append-drop n (rest r), drop-drop n r.at r.all, length-take-le n (rest r) fits)
 
 -- ---- over words
 

@@ -1,5 +1,5 @@
 -- The bits of words at a place: in one word, and over the end of one. w is the width of a word.
-use Rattle.std.proofs.Common.{◌≡◌, ℕ, zero, suc, ◌+◌, ◌-◌, ◌*◌, ◌/◌, ◌%◌, ◌^◌, ◌<◌, ◌≤◌, Bool, false, List, [], ◌∷◌, ◌++◌, length, get_or, set, take, drop, replicate, refl, sym, ap, ◌∙◌, arith, append_assoc, length-append, length-drop, take-take}
+use Rattle.std.proofs.Common.{◌≡◌, ℕ, zero, suc, ◌+◌, ◌-◌, ◌*◌, ◌/◌, ◌%◌, ◌^◌, ◌<◌, ◌≤◌, Bool, false, List, [], ◌∷◌, ◌++◌, length, get_or, set, take, drop, replicate, refl, sym, ap, ◌∙◌, arith, append_assoc, length-append, length-drop, take-take, rules}
 use Rattle.std.specs.List.{flat_map}
 use Rattle.std.specs.Int.Bits.{bit_or}
 use Rattle.std.proofs.Math.Nat.{mul-suc, mul_assoc, add-mul, mul-mod_left, div-eq_of_lt, mod-eq_of_lt}
@@ -19,18 +19,14 @@ take-words w zero words = let none : w * zero ≡ zero = omega arith in rw none 
 take-words w (suc q) [] = take-nil (w * suc q)
 take-words w (suc q) (v ∷ words) =
     let more : w * suc q ≡ length (field w v) + w * q = omega (arith, length-field w v, mul-suc w q) in
-    ap (λ n. take n (field w v ++ flat_map (field w) words)) more
-    ∙ take-append-add (field w v) (flat_map (field w) words) (w * q)
-    ∙ ap (λ (bs : List Bool). field w v ++ bs) (take-words w q words)
+    cc (take-append-add (field w v) (flat_map (field w) words) (w * q), take-words w q words)
 
 pub drop-words : (w q : ℕ) (words : List ℕ) → drop (w * q) (flat_map (field w) words) ≡ flat_map (field w) (drop q words)
 drop-words w zero words = let none : w * zero ≡ zero = omega arith in rw none refl
 drop-words w (suc q) [] = drop_all (w * suc q) [] (omega arith)
 drop-words w (suc q) (v ∷ words) =
     let more : w * suc q ≡ length (field w v) + w * q = omega (arith, length-field w v, mul-suc w q) in
-    ap (λ n. drop n (field w v ++ flat_map (field w) words)) more
-    ∙ drop-append-add (field w v) (flat_map (field w) words) (w * q)
-    ∙ drop-words w q words
+    cc (drop-append-add (field w v) (flat_map (field w) words) (w * q), drop-words w q words)
 
 -- two words that are set
 pub two_set : (q : ℕ) (words : List ℕ) (x y : ℕ) → suc q < length words → set (set words q x) (suc q) y ≡ take q words ++ x ∷ y ∷ drop (suc (suc q)) words
@@ -43,10 +39,7 @@ pub words-two_set : (w q : ℕ) (words : List ℕ) (x y : ℕ) → suc q < lengt
     → flat_map (field w) (set (set words q x) (suc q) y) ≡ take (w * q) (flat_map (field w) words) ++ (field w x ++ (field w y ++ drop (w * suc (suc q)) (flat_map (field w) words)))
 words-two_set w q words x y within =
     let rest = drop (suc (suc q)) words in
-    ap (flat_map (field w)) (two_set q words x y within)
-    ∙ flat_map-append (field w) (take q words) (x ∷ y ∷ rest)
-    ∙ ap (λ (bs : List Bool). bs ++ (field w x ++ (field w y ++ flat_map (field w) rest))) (sym (take-words w q words))
-    ∙ ap (λ (bs : List Bool). take (w * q) (flat_map (field w) words) ++ (field w x ++ (field w y ++ bs))) (sym (drop-words w (suc (suc q)) words))
+    cc (two_set q words x y within, flat_map-append (field w) (take q words) (x ∷ y ∷ rest), take-words w q words, drop-words w (suc (suc q)) words)
 
 one_set : (q : ℕ) (words : List ℕ) (x : ℕ) → q < length words → set words q x ≡ take q words ++ x ∷ drop (suc q) words
 one_set q [] x within = absurd (omega arith)
@@ -86,10 +79,7 @@ field_shifted s n v a small =
 
 -- what a shift to the left leaves in a word
 pub shl_in_word : (j s v : ℕ) → v * 2 ^ s % 2 ^ (j + s) ≡ (v % 2 ^ j) * 2 ^ s
-shl_in_word j s v =
-    let high : v * 2 ^ s / 2 ^ s ≡ v = shl-shr v s in
-    let low : v * 2 ^ s % 2 ^ s ≡ 0 = mul-mod_left v (2 ^ s) in
-    mod-pow-add (v * 2 ^ s) j s ∙ rw (high, low) (omega arith)
+shl_in_word j s v = grind (arith, shl-shr v s, mul-mod_left v (2 ^ s), mod-pow-add (v * 2 ^ s) j s)
 
 -- a word with s bits, and above them the lowest bits of a number
 pub field_or : (w s j v a : ℕ) → s + j ≡ w → a < 2 ^ s → field w (bit_or a (v * 2 ^ s % 2 ^ w)) ≡ field s a ++ field j v
@@ -106,42 +96,23 @@ pub field_over_end : (w s j n k v a : ℕ) → s + j ≡ w → j + w ≡ n + k �
     → field w (bit_or a (v * 2 ^ s % 2 ^ w)) ++ field w (v / 2 ^ j) ≡ field s a ++ (field n v ++ replicate k false)
 field_over_end w s j n k v a parts all small narrow =
     let none : v / 2 ^ n ≡ 0 = div-eq_of_lt narrow in
-    ap (λ (bs : List Bool). bs ++ field w (v / 2 ^ j)) (field_or w s j v a parts small)
-    ∙ append_assoc (field s a) (field j v) (field w (v / 2 ^ j))
-    ∙ ap (λ (bs : List Bool). field s a ++ bs)
-    (sym (field-add j w v) ∙ ap (λ m. field m v) all ∙ field-add n k v ∙ ap (λ u. field n v ++ field k u) none ∙ ap (λ (bs : List Bool). field n v ++ bs) (field-zero k))
+    cc (field_or w s j v a parts small, append_assoc (field s a) (field j v) (field w (v / 2 ^ j)), field-add j w v, field-add n k v, field-zero k)
 
 -- a word from place s on, and above it the lowest bits of the next word
 pub field_window : (w s j a b : ℕ) → s + j ≡ w → a < 2 ^ w → field w (bit_or (a / 2 ^ s) (b * 2 ^ j % 2 ^ w)) ≡ take w (drop s (field w a ++ field w b))
 field_window w s j a b parts small =
     let order : j + s ≡ w = omega arith in
-    let fits : a / 2 ^ s < 2 ^ j = shr_below a j s (rw order small) in
-    let low : drop s (field w a) ≡ field j (a / 2 ^ s) = ap (λ k. drop s (field k a)) (sym parts) ∙ drop-field s j a in
-    let high : take s (field w b) ≡ field s b = ap (λ k. take s (field k b)) (sym parts) ∙ take-field s j b in
     let whole : w ≡ length (field j (a / 2 ^ s)) + s = omega (arith, length-field j (a / 2 ^ s)) in
-    let moved : drop s (field w a ++ field w b) ≡ field j (a / 2 ^ s) ++ field w b =
-    drop-append-le s (field w a) (field w b) (omega (arith, length-field w a)) ∙ ap (λ (bs : List Bool). bs ++ field w b) low in
-    field_or w j s b (a / 2 ^ s) order fits
-    ∙ sym (ap (take w) moved ∙ ap (λ k. take k (field j (a / 2 ^ s) ++ field w b)) whole ∙ take-append-add (field j (a / 2 ^ s)) (field w b) s ∙ ap (λ (bs : List Bool). field j (a / 2 ^ s) ++ bs) high)
+    search (rules, shr_below, drop-field, take-field, length-field, drop-append-le, field_or, take-append-add)
 
 -- ---- zeros behind the words
 
 -- the first two words, with zeros where there are fewer
 pub two_words : (w : ℕ) (words : List ℕ) → take (w + w) (flat_map (field w) words ++ replicate (w + w) false) ≡ field w (get_or words 0 0) ++ field w (get_or words 1 0)
-two_words w [] =
-    take_all (w + w) (replicate (w + w) false) (omega (arith, length-replicate (w + w) false))
-    ∙ sym (replicate-append-replicate w w false) ∙ ap (λ (bs : List Bool). bs ++ replicate w false) (sym (field-zero w)) ∙ ap (λ (bs : List Bool). field w 0 ++ bs) (sym (field-zero w))
+two_words w [] = search (rules, take_all, length-replicate, replicate-append-replicate, field-zero)
 two_words w (a ∷ []) =
-    let zeros = replicate (w + w) false in
-    let whole : w + w ≡ length (field w a) + w = omega (arith, length-field w a) in
-    ap (λ (bs : List Bool). take (w + w) (bs ++ zeros)) (append-nil (field w a)) ∙ ap (λ k. take k (field w a ++ zeros)) whole ∙ take-append-add (field w a) zeros w
-    ∙ ap (λ (bs : List Bool). field w a ++ bs) (take-replicate w (w + w) false (omega arith) ∙ sym (field-zero w))
-two_words w (a ∷ b ∷ words) =
-    let rest = flat_map (field w) words ++ replicate (w + w) false in
-    let split = append_assoc (field w a) (field w b ++ flat_map (field w) words) (replicate (w + w) false)
-    ∙ ap (λ (bs : List Bool). field w a ++ bs) (append_assoc (field w b) (flat_map (field w) words) (replicate (w + w) false))
-    ∙ sym (append_assoc (field w a) (field w b) rest) in
-    ap (take (w + w)) split ∙ take_at (field w a ++ field w b) rest (w + w) (omega (arith, length-append (field w a) (field w b), length-field w a, length-field w b))
+    cc (length-field w a, append-nil (field w a), take-append-add (field w a) (replicate (w + w) false) w, take-replicate w (w + w) false (omega arith), field-zero w)
+two_words w (a ∷ b ∷ words) = search (rules, append_assoc, take_at, length-append, length-field)
 
 -- as many bits from a place on as a word has, where zeros follow behind the last word
 pub bits_window : (w q s j : ℕ) (words : List ℕ) → s + j ≡ w → w * q + s ≤ w * length words → get_or words q 0 < 2 ^ w
@@ -155,11 +126,9 @@ bits_window w q s j words parts within small =
     let first : get_or (drop q words) 0 0 ≡ get_or words q 0 = get_or-drop q words 0 0 ∙ ap (λ i. get_or words i 0) order in
     let second : get_or (drop q words) 1 0 ≡ get_or words (q + 1) 0 = get_or-drop q words 1 0 in
     let both : take (w + w) (from ++ zeros) ≡ field w (get_or words q 0) ++ field w (get_or words (q + 1) 0) =
-    ap (λ (bs : List Bool). take (w + w) (bs ++ zeros)) (drop-words w q words) ∙ two_words w (drop q words)
-    ∙ ap (λ v. field w v ++ field w (get_or (drop q words) 1 0)) first ∙ ap (λ v. field w (get_or words q 0) ++ field w v) second in
-    let cut : w + w ≡ s + (w + j) = omega arith in
+    cc (drop-words w q words, two_words w (drop q words)) in
     let here : drop s (take (w + w) (from ++ zeros)) ≡ take (w + j) (drop s (from ++ zeros)) =
-    ap (λ k. drop s (take k (from ++ zeros))) cut ∙ drop-take s (w + j) (from ++ zeros) in
+    ap (λ k. drop s (take k (from ++ zeros))) (omega arith) ∙ drop-take s (w + j) (from ++ zeros) in
     let place : drop s (from ++ zeros) ≡ drop (w * q + s) bits ++ zeros =
     drop-append-le s from zeros left ∙ ap (λ (bs : List Bool). bs ++ zeros) (drop-drop s (w * q) bits) in
     field_window w s j (get_or words q 0) (get_or words (q + 1) 0) parts small
@@ -218,15 +187,13 @@ field_behind w q s j n k m v words prefix blank long parts all room within small
     let y = field w (v / 2 ^ j) in
     let two = field_over_end w s j n k v a parts all below narrow in
     let count : k + (m - (j + w)) ≡ m - n = omega arith in
-    words-two_set w q words (bit_or a (v * 2 ^ s % 2 ^ w)) (v / 2 ^ j) within
-    ∙ ap (λ (bs : List Bool). bs ++ (x ++ (y ++ drop (w * suc (suc q)) bits))) before
-    ∙ ap (λ (bs : List Bool). take (w * q) prefix ++ (x ++ (y ++ bs))) behind
-    ∙ ap (λ (bs : List Bool). take (w * q) prefix ++ bs) (sym (append_assoc x y (replicate (m - (j + w)) false)))
-    ∙ ap (λ (bs : List Bool). take (w * q) prefix ++ (bs ++ replicate (m - (j + w)) false)) two
-    ∙ ap (λ (bs : List Bool). take (w * q) prefix ++ ((bs ++ (field n v ++ replicate k false)) ++ replicate (m - (j + w)) false)) same
-    ∙ regroup (take (w * q) prefix) last (field n v) (replicate k false) (replicate (m - (j + w)) false)
-    ∙ ap (λ (bs : List Bool). (bs ++ field n v) ++ (replicate k false ++ replicate (m - (j + w)) false)) (take-append-drop (w * q) prefix)
-    ∙ ap (λ (bs : List Bool). (prefix ++ field n v) ++ bs) (replicate-append-replicate k (m - (j + w)) false ∙ ap (λ c. replicate c false) count)
+    cc (
+      words-two_set w q words (bit_or a (v * 2 ^ s % 2 ^ w)) (v / 2 ^ j) within,
+      append_assoc x y (replicate (m - (j + w)) false),
+      regroup (take (w * q) prefix) last (field n v) (replicate k false) (replicate (m - (j + w)) false),
+      take-append-drop (w * q) prefix,
+      replicate-append-replicate k (m - (j + w)) false,
+    )
 
 -- ---- a field among other bits
 
@@ -256,13 +223,7 @@ word_with-lt s n k word v small =
 pub field-word_with : (s n k word v : ℕ) → field (s + (n + k)) ((word / 2 ^ s / 2 ^ n * 2 ^ n + v % 2 ^ n) * 2 ^ s + word % 2 ^ s) ≡ field s word ++ field n v ++ drop (s + n) (field (s + (n + k)) word)
 field-word_with s n k word v =
     let parts : s + (n + k) ≡ s + n + k = omega arith in
-    let rest : drop (s + n) (field (s + (n + k)) word) ≡ field k (word / 2 ^ s / 2 ^ n) =
-    ap (λ w. drop (s + n) (field w word)) parts ∙ drop-field (s + n) k word ∙ ap (field k) (sym (shr-shr word s n)) in
-    field_shifted s (n + k) (word / 2 ^ s / 2 ^ n * 2 ^ n + v % 2 ^ n) (word % 2 ^ s) (mod_below word (2 ^ s) (pow_pos s))
-    ∙ ap (λ (bs : List Bool). bs ++ field (n + k) (word / 2 ^ s / 2 ^ n * 2 ^ n + v % 2 ^ n)) (field-mod s word)
-    ∙ ap (λ (bs : List Bool). field s word ++ bs) (field_shifted n k (word / 2 ^ s / 2 ^ n) (v % 2 ^ n) (mod_below v (2 ^ n) (pow_pos n)) ∙ ap (λ (bs : List Bool). bs ++ field k (word / 2 ^ s / 2 ^ n)) (field-mod n v))
-    ∙ sym (append_assoc (field s word) (field n v) (field k (word / 2 ^ s / 2 ^ n)))
-    ∙ ap (λ (bs : List Bool). field s word ++ field n v ++ bs) (sym rest)
+    search (rules, drop-field, shr-shr, field_shifted, mod_below, pow_pos, field-mod, append_assoc)
 
 take-add : (m n : ℕ) (bs : List Bool) → m ≤ length bs → take (m + n) bs ≡ take m bs ++ take n (drop m bs)
 take-add m n bs fits =
@@ -283,16 +244,11 @@ words_with w q s n v x words within fits is =
     let parts : w ≡ s + (w - s) = omega arith in
     let inside : w * q ≤ length bits = omega (arith, length-flat_map-field w words, mul-le-mul w q (length words) (omega arith)) in
     let prefix : take (w * q + s) bits ≡ take (w * q) bits ++ field s a =
-    take-add (w * q) s bits inside ∙ ap (λ (bs : List Bool). take (w * q) bits ++ bs)
-    (ap (take s) here ∙ take-append-le s (field w a) rest (omega (arith, length-field w a)) ∙ ap (λ k. take s (field k a)) parts ∙ take-field s (w - s) a) in
+    search (rules, take-add, take-append-le, length-field, take-field) in
     let sum : w * q + s + n ≡ w * q + (s + n) = omega arith in
     let behind : drop (w * q + s + n) bits ≡ drop (s + n) (field w a) ++ rest =
     ap (λ k. drop k bits) sum ∙ sym (drop-drop (s + n) (w * q) bits) ∙ ap (drop (s + n)) here ∙ drop-append-le (s + n) (field w a) rest (omega (arith, length-field w a)) in
-    words-set w q words x within
-    ∙ ap (λ (bs : List Bool). take (w * q) bits ++ (bs ++ rest)) is
-    ∙ regroup_word (take (w * q) bits) (field s a) (field n v) (drop (s + n) (field w a)) rest
-    ∙ ap (λ (bs : List Bool). bs ++ field n v ++ (drop (s + n) (field w a) ++ rest)) (sym prefix)
-    ∙ ap (λ (bs : List Bool). take (w * q + s) bits ++ field n v ++ bs) (sym behind)
+    cc (words-set w q words x within, regroup_word (take (w * q) bits) (field s a) (field n v) (drop (s + n) (field w a)) rest)
   where
     mul-le-mul : (w q l : ℕ) → q ≤ l → w * q ≤ w * l
     mul-le-mul w q l h = mul-le w q w l (omega arith) h
@@ -302,25 +258,12 @@ pub put_twice : (at m n v : ℕ) (old : List Bool) → at + m + n ≤ length old
     → take (at + m) (take at old ++ field m v ++ drop (at + m) old) ++ field n (v / 2 ^ m) ++ drop (at + m + n) (take at old ++ field m v ++ drop (at + m) old)
     ≡ take at old ++ field (m + n) v ++ drop (at + (m + n)) old
 put_twice at m n v old fits =
-    let prefix = take at old ++ field m v in
-    let rest = drop (at + m) old in
-    let long : length prefix ≡ at + m = omega (arith, length-append (take at old) (field m v), length-take-le at old (omega arith), length-field m v) in
-    let sum : at + m + n ≡ length prefix + n = omega arith in
-    let whole : at + m + n ≡ at + (m + n) = omega arith in
-    let first : take (at + m) (prefix ++ rest) ≡ prefix = take_at prefix rest (at + m) long in
-    let second : drop (at + m + n) (prefix ++ rest) ≡ drop (at + (m + n)) old =
-    ap (λ k. drop k (prefix ++ rest)) sum ∙ drop-append-add prefix rest n ∙ drop-drop n (at + m) old ∙ ap (λ k. drop k old) whole in
-    ap (λ (bs : List Bool). bs ++ field n (v / 2 ^ m) ++ drop (at + m + n) (prefix ++ rest)) first
-    ∙ ap (λ (bs : List Bool). prefix ++ field n (v / 2 ^ m) ++ bs) second
-    ∙ ap (λ (bs : List Bool). bs ++ drop (at + (m + n)) old) (append_assoc (take at old) (field m v) (field n (v / 2 ^ m)) ∙ ap (λ (bs : List Bool). take at old ++ bs) (sym (field-add m n v)))
+    search (rules, length-append, length-take-le, length-field, take_at, drop-append-add, drop-drop, append_assoc, field-add)
 
 -- the lowest bits of a window
 pub low_of_window : (w n v : ℕ) (bits zeros : List Bool) → field w v ≡ take w (bits ++ zeros) → n ≤ w → n ≤ length bits → v % 2 ^ n ≡ number (take n bits)
 low_of_window w n v bits zeros is narrow within =
-    let parts : w ≡ n + (w - n) = omega arith in
-    let low : field n v ≡ take n bits =
-    sym (ap (λ k. take n (field k v)) parts ∙ take-field n (w - n) v) ∙ ap (take n) is ∙ take-take n w (bits ++ zeros) narrow ∙ take-append-le n bits zeros within in
-    sym (number-field n v) ∙ ap number low
+    grind (arith, take-field n (w - n) v, take-take n w (bits ++ zeros) narrow, take-append-le n bits zeros within, number-field n v)
 
 -- a word from which a field is taken and to which another is added, as shifts and sums make it
 pub word_put : (w s n k word v old new : ℕ) → s + (n + k) ≡ w → word < 2 ^ w → old ≡ word / 2 ^ s % 2 ^ n → new ≡ v % 2 ^ n
@@ -343,7 +286,4 @@ pub put_parts : (at m n whole v p q : ℕ) (old one two : List Bool) → p ≡ a
     → one ≡ take p old ++ field m v ++ drop (p + m) old → two ≡ take q one ++ field n (v / 2 ^ m) ++ drop (q + n) one
     → two ≡ take at old ++ field whole v ++ drop (at + whole) old
 put_parts at m n whole v p q old one two first second sum fits is_one is_two =
-    let made : one ≡ take at old ++ field m v ++ drop (at + m) old = is_one ∙ ap (λ k. take k old ++ field m v ++ drop (k + m) old) first in
-    is_two ∙ ap (λ k. take k one ++ field n (v / 2 ^ m) ++ drop (k + n) one) second
-    ∙ ap (λ (bs : List Bool). take (at + m) bs ++ field n (v / 2 ^ m) ++ drop (at + m + n) bs) made
-    ∙ put_twice at m n v old (omega arith) ∙ ap (λ k. take at old ++ field k v ++ drop (at + k) old) (sym sum)
+    cc (put_twice at m n v old (omega arith))

@@ -1,5 +1,6 @@
 -- Words that hold bits and then zeros, as a writer has them.
-use Rattle.std.proofs.Common.{◌≡◌, ℕ, suc, ◌+◌, ◌-◌, ◌*◌, ◌/◌, ◌%◌, ◌^◌, ◌<◌, ◌≤◌, Bool, false, List, [], ◌++◌, length, get_or, set, take, drop, replicate, refl, sym, ap, ◌∙◌, arith, append_assoc, length-append, length-drop, length-set}
+use Rattle.std.proofs.lemmas.Grind.{common_steps}
+use Rattle.std.proofs.Common.{◌≡◌, ℕ, suc, ◌+◌, ◌-◌, ◌*◌, ◌/◌, ◌%◌, ◌^◌, ◌<◌, ◌≤◌, Bool, false, List, [], ◌++◌, length, get_or, set, take, drop, replicate, refl, sym, ap, ◌∙◌, arith, append_assoc, length-append, length-drop, length-set, rules}
 use Rattle.std.specs.Int.Bits.{bit_or}
 use Rattle.std.specs.Int.{div_ceil}
 use Rattle.std.proofs.lemmas.Nat.{shr-shr}
@@ -36,13 +37,11 @@ put_written words len n v written small some width narrow fits =
     let q = len / 64 in
     let s = len % 64 in
     let m = 64 * length words - len in
-    let next : q + 1 ≡ suc q = omega arith in
     let size : 63 - s + 1 ≡ 64 - s = omega arith in
-    let high : v / 2 ^ (63 - s) / 2 ≡ v / 2 ^ (64 - s) = shr-shr v (63 - s) 1 ∙ ap (λ k. v / 2 ^ k) size in
     let long : length (take len (word_bits words)) ≡ 64 * q + s = length-written written ∙ omega arith in
     let one = set words q (bit_or (get_or words q 0) (v * 2 ^ s % 2 ^ 64)) in
-    ap (λ i. word_bits (set one i (v / 2 ^ (63 - s) / 2))) next
-    ∙ ap (λ y. word_bits (set one (suc q) y)) high
+    ap (λ i. word_bits (set one i (v / 2 ^ (63 - s) / 2))) (omega arith)
+    ∙ ap (λ y. word_bits (set one (suc q) y)) (shr-shr v (63 - s) 1 ∙ ap (λ k. v / 2 ^ k) size)
     ∙ field_behind 64 q s (64 - s) n (128 - s - n) m v words (take len (word_bits words)) (bits_written written) long (omega arith) (omega arith) (omega arith) (omega arith) small narrow
 
 -- the words behind which a field is put: their last word, and the word behind it
@@ -92,13 +91,7 @@ words_filled words len written =
 -- more words of zeros
 grown_bits : (words : List ℕ) (len n : ℕ) → IsWritten words len → word_bits (words ++ replicate n 0) ≡ take len (word_bits words) ++ replicate (64 * length words - len + 64 * n) false
 grown_bits words len n written =
-    let bits = take len (word_bits words) in
-    let m = 64 * length words - len in
-    flat_map-append (field 64) words (replicate n 0)
-    ∙ ap (λ (bs : List Bool). word_bits words ++ bs) (flat_map-field-replicate 64 n)
-    ∙ ap (λ (bs : List Bool). bs ++ replicate (64 * n) false) (bits_written written)
-    ∙ append_assoc bits (replicate m false) (replicate (64 * n) false)
-    ∙ ap (λ (bs : List Bool). bits ++ bs) (replicate-append-replicate m (64 * n) false)
+    search (rules, flat_map-append, flat_map-field-replicate, bits_written, append_assoc, replicate-append-replicate)
 
 resized : (words more : List ℕ) (count held : ℕ) → more ≡ take count words ++ replicate (count - held) 0 → held ≡ length words → length words ≤ count → more ≡ words ++ replicate (count - length words) 0
 resized words more count held is long fits =
@@ -113,9 +106,7 @@ IsWritten-resized words more len count held written is long fits small =
 
 pub bits-resized : (words more : List ℕ) (len count held : ℕ) → IsWritten words len → more ≡ take count words ++ replicate (count - held) 0 → held ≡ length words → length words ≤ count → take len (word_bits more) ≡ take len (word_bits words)
 bits-resized words more len count held written is long fits =
-    ap (λ (ws : List ℕ). take len (word_bits ws)) (resized words more count held is long fits)
-    ∙ ap (take len) (grown_bits words len (count - length words) written)
-    ∙ take_at (take len (word_bits words)) (replicate (64 * length words - len + 64 * (count - length words)) false) len (length-written written)
+    grind (arith, common_steps, resized, grown_bits, take_at, length-written)
 
 -- the words used are blank again
 pub IsWritten-cleared : (words blank : List ℕ) (len used n : ℕ) → IsWritten words len → blank ≡ replicate used 0 ++ drop used words → used ≡ div_ceil len 64 → n ≡ length words → IsWritten (take n (blank ++ drop (length blank) words)) 0

@@ -5,6 +5,7 @@
 --     Kept        planes that a budget keeps whole, and planes that are missing below
 --     Zeros       zero bits that fill a code
 --     ZeroPlanes  planes of zeros: their code, what is read as such, and the block that they stand for
+--     FirstAlone  planes in which the first rank alone has ones: their code, what is read as such, and their digits
 --     AfterReserve   room that was asked for before
 --     Answered    what follows of an answer that may be nothing
 --     Decoded     what comes of reading a code
@@ -18,6 +19,7 @@ pub mod Digits
 pub mod Kept
 pub mod Zeros
 pub mod ZeroPlanes
+pub mod FirstAlone
 pub mod AfterReserve
 pub mod Answered
 pub mod Decoded

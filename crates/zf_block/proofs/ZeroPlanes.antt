@@ -132,24 +132,25 @@ pad-zeros es n =
     ext_get_or (pos 0) (pad es block) (replicate (4 ^ length es) (pos 0)) (omega (arith, long, length-replicate (4 ^ length es) (pos 0)))
     (λ p below. get_or-pad es block p (omega (arith, long)) ∙ alike_at (pos 0) n (source_place es p) ∙ sym (alike_at (pos 0) (4 ^ length es) p))
 
+-- a plane of digits that are all zero
+pub plane-zeros : (n k size : ℕ) → plane k (digits_in n (replicate size 0)) ≡ replicate size false
+plane-zeros n k zero = refl
+plane-zeros n k (suc size) =
+    let digit : get_or (field n 0) k false ≡ false = ap (λ ds. get_or ds k false) (field-zero n) ∙ get_or-blank n k in
+    ap (λ b. b ∷ plane k (digits_in n (replicate size 0))) digit ∙ ap (λ bs. false ∷ bs) (plane-zeros n k size)
+
 -- the planes of digits that are all zero
 planes_of-zeros : (n size : ℕ) → planes_of n (digits_in n (replicate size 0)) ≡ zero_planes n size
 planes_of-zeros n size =
     let same = alike (reverse (upto n)) in
     same ∙ ap (λ k. zero_planes k size) (sym (length-replicate (length (reverse (upto n))) (replicate size false)) ∙ ap length (sym same) ∙ length-planes_of n (digits_in n (replicate size 0)))
   where
-    one : (k size : ℕ) → plane k (digits_in n (replicate size 0)) ≡ replicate size false
-    one k zero = refl
-    one k (suc size) =
-        let digit : get_or (field n 0) k false ≡ false = ap (λ ds. get_or ds k false) (field-zero n) ∙ get_or-blank n k in
-        ap (λ b. b ∷ plane k (digits_in n (replicate size 0))) digit ∙ ap (λ bs. false ∷ bs) (one k size)
-
     alike : (ks : List ℕ) → map (λ k. plane k (digits_in n (replicate size 0))) ks ≡ zero_planes (length ks) size
     alike [] = refl
-    alike (k ∷ ks) = ap (λ (ds : List Bool). ds ∷ map (λ k. plane k (digits_in n (replicate size 0))) ks) (one k size) ∙ ap (λ ps. replicate size false ∷ ps) (alike ks)
+    alike (k ∷ ks) = ap (λ (ds : List Bool). ds ∷ map (λ k. plane k (digits_in n (replicate size 0))) ks) (plane-zeros n k size) ∙ ap (λ ps. replicate size false ∷ ps) (alike ks)
 
 -- zeros in a row, the first one apart
-first_apart : {A : Type 0} (size : ℕ) (x : A) → 1 ≤ size → x ∷ replicate (size - 1) x ≡ replicate size x
+pub first_apart : {A : Type 0} (size : ℕ) (x : A) → 1 ≤ size → x ∷ replicate (size - 1) x ≡ replicate size x
 first_apart zero x some = absurd (omega arith)
 first_apart (suc size) x some = let less : suc size - 1 ≡ size = omega arith in ap (λ n. x ∷ replicate n x) less
 

@@ -2,7 +2,7 @@
 //! are written and read.
 
 ghost use Rattle.std.specs.Prelude.{◌≡◌, ◌≤◌, ◌-◌, ◌^◌, ℕ, ℤ, pos, [], ◌∷◌, Bool, IsTrue, false, List};
-ghost use Rattle.std.specs.Prelude.{map, length, replicate};
+ghost use Rattle.std.specs.Prelude.{map, length, replicate, IfNone, IfSome, OnSome};
 ghost use Rattle.zf_spec.specs.Grid.{IsDimension, IsBlockSize};
 ghost use Rattle.zf_spec.specs.HeldPlanes.{planes_held};
 ghost use Rattle.zf_spec.specs.Planes.{planes_of};
@@ -87,13 +87,13 @@ pub(crate) trait BlockCode<T: Lane> {
     }
 
     /// Reads the code of planes into planes of zeros, or answers `None` where the bits end before it does.
-    /// The planes below those that it has stay zero. The answer is how many bits the planes took.
+    /// The planes below those that it has stay zero.
     fn read<P: Plane>(
         &self,
         size: usize,
         reader: &mut BitReader<'_>,
         planes: &mut [P],
-    ) -> Option<u64>
+    ) -> Option<()>
         requires size { IsHeldSize size P.word_count }
         requires blank { AreBlank T.WIDTH P.word_count P.words planes.old }
         ensures { Decodes (len_at self.now size)
@@ -120,6 +120,16 @@ pub(crate) trait BlockCode<T: Lane> {
         ensures passes { IsTrue result
             → PassesCode (len_at self.now size (rest reader.old)) reader.old reader.new }
         ensures zeros { IsTrue result → AreAbove size [] (planes_at self.now size (rest reader.old)) };
+
+    /// Reads the code of a block of which the first coefficient alone is not zero, where it is seen that one
+    /// is next. The answer is the digits of the first.
+    fn read_first(&self, size: usize, reader: &mut BitReader<'_>) -> Option<u64>
+        requires size { IsBlockSize size }
+        ensures unread { IfNone result (reader.new ≡ reader.old) }
+        ensures reads { OnSome result
+            (PassesCode (len_at self.now size (rest reader.old)) reader.old reader.new) }
+        ensures planes { IfSome result (λ u. HoldsAbove size (planes_at self.now size)
+            (planes_of T.WIDTH (digits_in T.WIDTH (u ∷ replicate (size - 1) 0))) (rest reader.old)) };
 
     /// Appends the code of a block of zeros in room that is there already.
     fn write_zero_block(&self, size: usize, out: &mut BitWriter)

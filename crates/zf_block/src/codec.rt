@@ -10,9 +10,7 @@ ghost use Rattle.zf_block.specs.Decoding.{Decodes, StandsFor};
 
 use crate::Scratch;
 use crate::block_code::BlockCode;
-use crate::coefficients::{
-    first_alone, from_digits, from_planes, is_all, to_digits, to_planes_of_first,
-};
+use crate::coefficients::{from_digits, from_planes, is_all, to_digits, to_planes_of_first};
 use crate::partial::Partial;
 use zf_base::Lane;
 use zf_bits::{BitReader, BitWriter, Plane};
@@ -216,6 +214,11 @@ pub(crate) fn decode<C: BlockCode<T>, T: Lane>(
         C::inverse_of_first(d, T::zero(), block);
         return Some(());
     }
+    // A block of one value needs neither planes nor a transform.
+    if let Some(digits) = code.read_first(block.len(), reader) {
+        C::inverse_of_first(d, zf_coef::from_digits(digits), block);
+        return Some(());
+    }
     // Planes of up to 64 coefficients lie in one word each.
     match d {
         2 => read_narrow::<C, T, 16>(code, d, reader, block),
@@ -323,15 +326,7 @@ fn read_block<C: BlockCode<T>, T: Lane, P: Plane, const N: usize>(
         (StandsFor T.width d (C.back d) (C.planes_at code.now (4 ^ d)) (map T.value block.new))
         result reader.old reader.new }
 {
-    let count = code.read(N, reader, planes)?;
-    // A block of one value needs no transform. Where its two top planes are zero, its code has fewer than two
-    // bits a plane; a longer code is mostly a cut one of another block.
-    if count < 2 * u64::from(T::WIDTH) {
-        if let Some(first) = first_alone(d, planes) {
-            C::inverse_of_first(d, first, block);
-            return Some(());
-        }
-    }
+    code.read(N, reader, planes)?;
     // They stand here, behind the reading, so that no block clears those of another size.
     let mut digits = [0; N];
     from_planes(d, planes, &mut digits, block);

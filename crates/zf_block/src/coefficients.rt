@@ -1,6 +1,6 @@
 //! The digits and bit planes of the coefficients of a block.
 
-ghost use Rattle.std.specs.Prelude.{◌≡◌, ◌≤◌, ◌-◌, ◌*◌, ◌^◌, pos, ◌∷◌, ◌%◌, ◌+◌, IsTrue, IfSome, map, length};
+ghost use Rattle.std.specs.Prelude.{◌≡◌, ◌≤◌, ◌-◌, ◌*◌, ◌^◌, pos, ◌∷◌, ◌%◌, ◌+◌, IsTrue, map, length};
 ghost use Rattle.std.specs.Prelude.{take, drop, replicate};
 ghost use Rattle.zf_spec.specs.Grid.{IsDimension};
 ghost use Rattle.zf_spec.specs.Codes as codes;
@@ -11,7 +11,7 @@ ghost use Rattle.zf_coef.specs.HeldDigits.{digits_in};
 ghost use Rattle.zf_base.specs.WholeBlocks.{IsBlockOf};
 ghost use Rattle.zf_block.specs.Held.{IsWorkRoom, HoldPlanes};
 
-use zf_base::{Lane, block_len};
+use zf_base::Lane;
 use zf_bits::Plane;
 
 /// Whether all values, which are whole rows of four, are this one.
@@ -96,17 +96,4 @@ pub(crate) fn from_planes<T: Lane, P: Plane>(
 {
     zf_coef::digits_of_planes(planes, digits);
     zf_coef::unranked(d, digits, coefficients);
-}
-
-/// The first of the coefficients of which these are the planes, where no other has a one.
-#[inline(always)]
-pub(crate) fn first_alone<T: Lane, P: Plane>(d: u8, planes: &[P]) -> Option<T>
-    requires dimension { IsDimension d }
-    requires words { 4 ^ d ≤ 64 * P.word_count }
-    requires planes { length planes.now ≡ T.WIDTH }
-    ensures { IfSome result (λ first. coefficients_of T.width d (planes_held (4 ^ d) (map P.words planes.now))
-        ≡ T.value first ∷ replicate (4 ^ d - 1) (pos 0)) }
-{
-    let digits = zf_coef::first_digits(planes, block_len(d))?;
-    Some(zf_coef::from_digits(digits))
 }

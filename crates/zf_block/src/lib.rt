@@ -6,6 +6,7 @@
 mod block_code;
 mod codec;
 mod coefficients;
+mod first_code;
 pub mod laws;
 mod partial;
 mod precision;

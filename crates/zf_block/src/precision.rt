@@ -14,6 +14,7 @@ ghost use Rattle.zf_block.specs.ReadBlocks.{ReadsPrec, LacksPrec, prec_planes, p
 use crate::Scratch;
 use crate::block_code::BlockCode;
 use crate::codec::{decode, encode};
+use crate::first_code::first_code;
 use crate::partial::Partial;
 use crate::uncut::{read_uncut, read_uncut_four, write_uncut, write_uncut_four, zeros_above};
 use crate::zero_block::{are_zeros, write_zeros};
@@ -119,7 +120,7 @@ impl<T: Lane> BlockCode<T> for Precision {
         size: usize,
         reader: &mut BitReader<'_>,
         planes: &mut [P],
-    ) -> Option<u64> {
+    ) -> Option<()> {
         read_uncut(self.prec.min(T::WIDTH), size, reader, planes)
     }
 
@@ -142,6 +143,14 @@ impl<T: Lane> BlockCode<T> for Precision {
             return true;
         }
         false
+    }
+
+    fn read_first(&self, size: usize, reader: &mut BitReader<'_>) -> Option<u64> {
+        let width = T::WIDTH;
+        let prec = self.prec.min(width);
+        let first = first_code(prec, reader)?;
+        reader.skip(first.len);
+        Some(first.digits << (width - prec))
     }
 
     fn write_zero_block(&self, size: usize, out: &mut BitWriter) {

@@ -15,6 +15,7 @@ ghost use Rattle.zf_block.specs.ReadBlocks.{ReadsRate};
 use crate::Scratch;
 use crate::block_code::BlockCode;
 use crate::codec::{decode, encode};
+use crate::first_code::first_code;
 use crate::partial::Partial;
 use crate::upper::{reaches_upper, write_upper};
 use crate::zero_block::{are_zeros, write_zeros};
@@ -127,7 +128,7 @@ impl<T: Lane> BlockCode<T> for Rate {
         size: usize,
         reader: &mut BitReader<'_>,
         planes: &mut [P],
-    ) -> Option<u64> {
+    ) -> Option<()> {
         let bits = u64::from(self.bits);
         if reader.left() < bits {
             return None;
@@ -135,7 +136,7 @@ impl<T: Lane> BlockCode<T> for Rate {
         let used = zf_planes::read_planes(bits, T::WIDTH, size, reader, planes)?;
         // Bits that the code of the planes leaves are passed too.
         reader.skip(bits - used);
-        Some(used)
+        Some(())
     }
 
     fn write_four(&self, digits: &[u64; 4], out: &mut BitWriter) {
@@ -164,6 +165,16 @@ impl<T: Lane> BlockCode<T> for Rate {
             return true;
         }
         false
+    }
+
+    fn read_first(&self, size: usize, reader: &mut BitReader<'_>) -> Option<u64> {
+        let bits = u64::from(self.bits);
+        let first = first_code(T::WIDTH, reader)?;
+        if bits < first.len || reader.left() < bits {
+            return None;
+        }
+        reader.skip(bits);
+        Some(first.digits)
     }
 
     fn write_zero_block(&self, size: usize, out: &mut BitWriter) {

@@ -18,6 +18,7 @@ ghost use Rattle.zf_block.specs.ReadBlocks.{ReadsRev, LacksRev, rev_planes, rev_
 use crate::Scratch;
 use crate::block_code::BlockCode;
 use crate::codec::{decode, encode};
+use crate::first_code::first_code;
 use crate::partial::Partial;
 use crate::uncut::{read_uncut, read_uncut_four, write_uncut, write_uncut_four, zeros_above};
 use crate::zero_block::are_zeros;
@@ -114,13 +115,13 @@ impl<T: Lane> BlockCode<T> for Reversible {
         size: usize,
         reader: &mut BitReader<'_>,
         planes: &mut [P],
-    ) -> Option<u64> {
+    ) -> Option<()> {
         let start = reader.at();
         // Known by this call: the start is within the bits, so that the reader can go back.
         let _left = reader.left();
         let prec = read_count::<T>(reader)?;
         match read_uncut(prec, size, reader, planes) {
-            Some(count) => Some(count),
+            Some(()) => Some(()),
             None => {
                 reader.seek(start);
                 None
@@ -157,6 +158,15 @@ impl<T: Lane> BlockCode<T> for Reversible {
             return true;
         }
         false
+    }
+
+    fn read_first(&self, size: usize, reader: &mut BitReader<'_>) -> Option<u64> {
+        let mut place = reader.another();
+        let prec = read_count::<T>(&mut place)?;
+        let first = first_code(prec, &place)?;
+        place.skip(first.len);
+        *reader = place;
+        Some(first.digits << (T::WIDTH - prec))
     }
 
     fn write_zero_block(&self, size: usize, out: &mut BitWriter) {

@@ -66,13 +66,13 @@ pub(crate) fn write_uncut_four(
 }
 
 /// Reads the whole code of the top `prec` planes, or answers `None` where the bits end before it does. The
-/// planes below are zero. The answer is how many bits it has.
+/// planes below are zero.
 pub(crate) fn read_uncut<P: Plane>(
     prec: u32,
     size: usize,
     reader: &mut BitReader<'_>,
     planes: &mut [P],
-) -> Option<u64>
+) -> Option<()>
     requires size { IsHeldSize size P.word_count }
     requires planes { prec ≤ length planes.old }
     requires few { length planes.old ≤ 64 }
@@ -83,8 +83,8 @@ pub(crate) fn read_uncut<P: Plane>(
 {
     // Known by this call: the greatest budget is more than what is left.
     let _left = reader.left();
-    let count = zf_planes::read_planes(u64::MAX, prec, size, reader, planes)?;
-    Some(count)
+    zf_planes::read_planes(u64::MAX, prec, size, reader, planes)?;
+    Some(())
 }
 
 /// Reads the whole code of the top `prec` planes of four coefficients, into their digits.

@@ -1,5 +1,5 @@
 -- The codes of arrays: what they mean, how values are rounded, and the code of zeros.
-use Rattle.std.proofs.Common.{◌≡◌, sym, ap, ◌∙◌, ℕ, ◌^◌, ◌<◌, ℤ, pos, cond, Bool, false, List, map, length, get_or, replicate, All, ◌+◌, ◌*◌}
+use Rattle.std.proofs.Common.{◌≡◌, sym, ap, ◌∙◌, ℕ, ◌^◌, ◌<◌, ℤ, pos, cond, Bool, false, List, map, length, get_or, replicate, All, ◌+◌, ◌*◌, rules}
 use Rattle.std.proofs.lemmas.List.Elements.{All-from_recursion}
 use Rattle.std.specs.Int.{Width, div_ceil}
 use Rattle.zf_spec.specs.Grid.{upto, blocks, indices, is_inside, extent_of}
@@ -46,9 +46,7 @@ encoded-rate w budget ns b values below =
 -- what a write-back makes of a block's values
 pub rounded-rate : (w : Width) (budget : ℕ) (ns : List ℕ) (b : ℕ) (values : List ℤ) → b < blocks ns → rounded (array_format (rate_coding w budget) ns) b values ≡ round w budget (extent_of ns b) values
 unfolding rounded
-rounded-rate w budget ns b values below =
-    let format = array_format (rate_coding w budget) ns in
-    meant-rate w budget ns b (encoded format b values) ∙ ap (read_rate w (extent_of ns b)) (encoded-rate w budget ns b values below) ∙ read_rate-rate w budget (extent_of ns b) values
+rounded-rate w budget ns b values below = search (rules, meant-rate, encoded-rate, read_rate-rate)
 
 -- the code of zeros means zeros
 pub meant-zeros : (w : Width) (budget : ℕ) (ns : List ℕ) (b : ℕ) → meant (array_format (rate_coding w budget) ns) b (rate_coding w budget).zero ≡ zeros (array_format (rate_coding w budget) ns)

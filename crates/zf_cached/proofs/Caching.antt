@@ -1,5 +1,5 @@
 -- Touches and write-backs, and what becomes of each block.
-use Rattle.std.proofs.Common.{◌≡◌, ◌≢◌, refl, sym, ap, subst, ◌∙◌, ℕ, ◌%◌, Bool, true, false, eqb, eqb-true, eq-eqb, Option, Some, None, ◌⊎◌, inl, inr}
+use Rattle.std.proofs.Common.{◌≡◌, ◌≢◌, refl, sym, ap, subst, ◌∙◌, ℕ, ◌%◌, Bool, true, false, eqb, eqb-true, eq-eqb, Option, Some, None, rules}
 use Rattle.std.proofs.lemmas.Bool.{cases_eq}
 use Rattle.zf_base.specs.Formats.{Format, rounded, with_at}
 use Rattle.zf_base.proofs.Formats.{with_at-same, with_at-other}
@@ -13,22 +13,14 @@ true_is_not_false b t f = absurd (cc)
 
 -- what holds at k and at every other number holds of a function that is changed at k
 pub at_change : {A : Type 0} (P : ℕ → A → Type 0) (f : ℕ → A) (k : ℕ) (a : A) (n : ℕ) → P k a → (n ≢ k → P n (f n)) → P n (with_at f k a n)
-at_change P f k a n here other = by (cases_eq n k)
-  where
-    by : (n ≡ k) ⊎ (n ≡ k → ⊥) → P n (with_at f k a n)
-    by (inl e) = subst (λ m. P m (with_at f k a m)) (sym e) (subst (P k) (sym (with_at-same f k a)) here)
-    by (inr ne) = subst (P n) (sym (with_at-other f k a n ne)) (other ne)
+at_change P f k a n here other = search (rules, cases_eq, with_at-same, with_at-other)
 
 -- ---- write-back
 
 -- what is written back only where it is dirty
 pub write_back_dirty_by : {Code : Type 0} (format : Format Code) (s : State Code) (b : ℕ) (P : State Code → Type 0) → (s.dirty b ≡ true → P (write_back format s b)) → (s.dirty b ≡ false → P s) → P (write_back_dirty format s b)
 unfolding write_back_dirty
-write_back_dirty_by format s b P dirty clean = by (s.dirty b) dirty clean
-  where
-    by : (d : Bool) → (d ≡ true → P (write_back format s b)) → (d ≡ false → P s) → P (elim d [ true ↦ write_back format s b | false ↦ s ])
-    by true dirty clean = dirty refl
-    by false dirty clean = clean refl
+write_back_dirty_by format s b P dirty clean = search rules
 
 pub write_back_line_by : {Code : Type 0} (format : Format Code) (s : State Code) (l : ℕ) (P : State Code → Type 0)
     → ((b : ℕ) → s.held l ≡ Some b → s.dirty b ≡ true → P (write_back format s b)) → ((b : ℕ) → s.held l ≡ Some b → s.dirty b ≡ false → P s) → (s.held l ≡ None → P s) → P (write_back_line format s l)
@@ -107,11 +99,7 @@ write_back_line-rounded format s l b held dirty = write_back_line_by format s l 
 module _ (line : Line) {Code : Type 0} (format : Format Code) (s : State Code) where
   pub touch_by : (b : ℕ) (P : State Code → Type 0) → (is_at line s b ≡ true → P (hit s)) → (is_at line s b ≡ false → P (miss format s (line_in line s b) b)) → P (touch_at line format s b)
   unfolding touch_at
-  touch_by b P here away = by (is_at line s b) here away
-    where
-      by : (t : Bool) → (t ≡ true → P (hit s)) → (t ≡ false → P (miss format s (line_in line s b) b)) → P (elim t [ true ↦ hit s | false ↦ miss format s (line_in line s b) b ])
-      by true here away = here refl
-      by false here away = away refl
+  touch_by b P here away = search rules
 
   pub touch-lines : (b : ℕ) → (touch_at line format s b).lines ≡ s.lines
   unfolding hit miss

@@ -1,16 +1,16 @@
 -- The code of zeros: bits that are all 0 read as a block of zeros.
-use Rattle.std.proofs.Common.{◌≡◌, refl, sym, ap, subst, ◌∙◌, ℕ, zero, suc, ◌-◌, ◌*◌, ◌/◌, ◌%◌, ◌^◌, ◌≤◌, min, max, Bool, true, false, ◌==◌, cond, leb, ℤ, pos, negsuc, ◌+ℤ◌, ◌*ℤ◌, List, [], ◌∷◌, ◌++◌, map, length, get_or, take, drop, replicate, reverse, All, arith}
+use Rattle.std.proofs.Common.{◌≡◌, refl, sym, ap, subst, ◌∙◌, ℕ, zero, suc, ◌-◌, ◌*◌, ◌/◌, ◌%◌, ◌^◌, ◌≤◌, Bool, true, false, ◌==◌, cond, ℤ, pos, negsuc, ◌+ℤ◌, ◌*ℤ◌, List, [], ◌∷◌, map, length, get_or, replicate, reverse, All, arith, rules}
 use Rattle.std.proofs.Math.Path.{fun_ext}
 use Rattle.std.proofs.Math.Nat.{one-le-pow}
 use Rattle.std.proofs.lemmas.List.{length-replicate, get_or-replicate}
-use Rattle.std.specs.Int.{Width, w8, w16, w32, w64, w128, int_wrap}
+use Rattle.std.specs.Int.{Width, w8, int_wrap}
 use Rattle.std.specs.List.{position_or_len}
 use mir.Val.{bits}
-use Rattle.zf_spec.specs.Numbers.{digits_sum, value_of, wrap}
+use Rattle.zf_spec.specs.Numbers.{digits_sum, value_of}
 use Rattle.zf_spec.specs.Grid.{upto, places, indices, is_inside}
 use Rattle.zf_spec.specs.Lift.{unlift_line, line_value, along, along_axes_back, unlift}
 use Rattle.zf_spec.specs.Planes.{reach, plane_code, code_from}
-use Rattle.zf_spec.specs.Kept.{kept_plane, cut_plane, kept_tail, kept_planes_from, kept_planes}
+use Rattle.zf_spec.specs.Kept.{kept_plane, kept_planes_from, kept_planes}
 use Rattle.zf_spec.specs.ReadPlanes.{Begins, planes_in}
 use Rattle.zf_spec.specs.Codes.{coefficients_of, existing_values, read_rate}
 use Rattle.zf_spec.specs.Ranks.{order, by_place}
@@ -43,11 +43,7 @@ reach-blank size = reach_none (replicate size false) (has_one-zeros size)
 
 code-blanks : (p k : ℕ) → code_from 0 (replicate p (replicate (suc k) false)) ≡ replicate p false
 code-blanks zero k = refl
-code-blanks (suc p) k =
-    let n : max 0 (reach (replicate (suc k) false)) ≡ 0 = omega (arith, reach-blank (suc k)) in
-    ap (λ bs. bs ++ code_from (max 0 (reach (replicate (suc k) false))) (replicate p (replicate (suc k) false))) (plane_code-blank k)
-    ∙ ap (λ m. (false ∷ []) ++ code_from m (replicate p (replicate (suc k) false))) n
-    ∙ ap (λ bs. false ∷ bs) (code-blanks p k)
+code-blanks (suc p) k = cc (reach-blank (suc k), plane_code-blank k, code-blanks p k)
 
 begins-blank : (m n : ℕ) → Begins (replicate m false) (replicate n false)
 begins-blank zero n = tt
@@ -65,29 +61,12 @@ planes_in-blank p k n =
     ∙ sym (full_only (suc k) ps s (All-blanks p (suc k)) (subst (λ bs. Begins bs s) (sym (code-blanks p k)) (begins-blank p n)))
 
 kept_plane-blank : (r k : ℕ) → kept_plane r 0 (replicate (suc k) false) ≡ replicate (suc k) false
-kept_plane-blank r k = by (leb (length (plane_code 0 (replicate (suc k) false))) r)
-  where
-    ds : List Bool
-    ds = replicate (suc k) false
-
-    with_first : ℕ → List Bool
-    with_first q = take q ds ++ replicate (length (drop q (take 0 ds))) false ++ kept_tail (r - q) (drop 0 ds)
-
-    none : min 0 r ≡ 0
-    none = omega arith
-
-    by : (t : Bool) → cond t (replicate (suc k) false) (cut_plane r 0 (replicate (suc k) false)) ≡ replicate (suc k) false
-    by true = refl
-    by false = ap with_first none ∙ kept_tail-zeros (r - 0) ds (has_one-zeros (suc k)) ∙ ap (λ n. replicate n false) (length-replicate (suc k) false)
+kept_plane-blank r k = search (rules, kept_tail-zeros, has_one-zeros, length-replicate)
 
 kept_planes-blanks : (r p k : ℕ) → kept_planes_from r 0 (replicate p (replicate (suc k) false)) ≡ replicate p (replicate (suc k) false)
 kept_planes-blanks r zero k = refl
 kept_planes-blanks r (suc p) k =
-    let ds = replicate (suc k) false in
-    let planes = replicate p (replicate (suc k) false) in
-    let left = r - length (plane_code 0 ds) in
-    let n : max 0 (reach ds) ≡ 0 = omega (arith, reach-blank (suc k)) in
-    ap (λ d. d ∷ kept_planes_from left (max 0 (reach ds)) planes) (kept_plane-blank r k) ∙ ap (λ m. ds ∷ kept_planes_from left m planes) n ∙ ap (λ ps. ds ∷ ps) (kept_planes-blanks left p k)
+    cc (reach-blank (suc k), kept_plane-blank r k, kept_planes-blanks (r - length (plane_code 0 (replicate (suc k) false))) p k)
 
 -- ---- coefficients and values of zeros
 
@@ -96,15 +75,11 @@ digits_sum-zeros [] = refl
 digits_sum-zeros (x ∷ xs) = ap (λ v. pos 0 +ℤ negsuc 1 *ℤ v) (digits_sum-zeros xs)
 
 value-blanks : (w : Width) (p size r : ℕ) (ks : List ℕ) → value_of w (map (λ k. get_or (get_or (replicate p (replicate size false)) k []) r false) ks) ≡ pos 0
-value-blanks w p size r ks =
-    let none : (λ (k : ℕ). get_or (get_or (replicate p (replicate size false)) k []) r false) ≡ (λ (k : ℕ). false) = fun_ext (λ k. get_or-blanks p size k r) in
-    ap (λ f. value_of w (map f ks)) none ∙ ap (wrap w) (digits_sum-zeros ks) ∙ wrap_value w (pos 0) (zero_fits w)
+value-blanks w p size r ks = search (rules, fun_ext, get_or-blanks, digits_sum-zeros, wrap_value, zero_fits)
 
 by_place-zeros : {X : Type 0} (d : ℕ) (xs : List X) → by_place d (zeros xs) ≡ zeros (places d)
 unfolding zeros
-by_place-zeros d xs =
-    let same : (λ (p : ℕ). get_or (zeros xs) (position_or_len (λ q. q == p) (order d)) (pos 0)) ≡ (λ (p : ℕ). pos 0) = fun_ext (λ p. get_or-zeros xs (position_or_len (λ q. q == p) (order d))) in
-    ap (λ f. map f (places d)) same
+by_place-zeros d xs = cc (fun_ext (λ p. get_or-zeros xs (position_or_len (λ q. q == p) (order d))))
 
 coefficients-blanks : (w : Width) (d p size : ℕ) → coefficients_of w d (replicate p (replicate size false)) ≡ zeros (places d)
 unfolding zeros
@@ -158,21 +133,18 @@ pub read_rate-zeros : (w : Width) (es : List ℕ) (n : ℕ) → read_rate w es (
 unfolding read_rate
 read_rate-zeros w es n =
     let d = length es in
-    let p = bits w in
     from_size (4 ^ d) refl (one-le-pow d 4 (omega arith))
   where
     from_size : (size : ℕ) → 4 ^ length es ≡ size → 1 ≤ size
         → existing_values es (unlift w (length es) (coefficients_of w (length es) (kept_planes (length (replicate n false)) (planes_in (bits w) (4 ^ length es) (replicate n false))))) ≡ replicate (4 ^ length es) (pos 0)
     from_size zero e some = absurd (omega arith)
     from_size (suc k) e some =
-        let d = length es in
-        let back = λ (ps : List (List Bool)). existing_values es (unlift w (length es) (coefficients_of w (length es) ps)) in
-        let budget = length (replicate n false) in
-        ap (λ s. back (kept_planes budget (planes_in (bits w) s (replicate n false)))) e
-        ∙ ap (λ ps. back (kept_planes budget ps)) (planes_in-blank (bits w) k n)
-        ∙ ap back (kept_planes-blanks budget (bits w) k)
-        ∙ ap (λ c. existing_values es (unlift w d c)) (coefficients-blanks w d (bits w) (suc k))
-        ∙ ap (existing_values es) (unlift-zeros w 1 d (4 ^ d))
-        ∙ existing_values-zeros es (4 ^ d)
-        ∙ zeros-replicate (places d)
-        ∙ ap (λ m. replicate m (pos 0)) (length-upto (4 ^ d))
+        cc (
+          planes_in-blank (bits w) k n,
+          kept_planes-blanks (length (replicate n false)) (bits w) k,
+          coefficients-blanks w (length es) (bits w) (suc k),
+          unlift-zeros w 1 (length es) (4 ^ (length es)),
+          existing_values-zeros es (4 ^ (length es)),
+          zeros-replicate (places (length es)),
+          length-upto (4 ^ (length es)),
+        )

@@ -1,5 +1,5 @@
 -- Texts that are cut at a byte, and numbers between such bytes.
-use Rattle.std.proofs.Common.{◌≡◌, ◌≢◌, ℕ, ◌≤◌, List, [], ◌∷◌, length, map, true, false, ◌==◌, refl, ap, sym, ◌∙◌, arith, decimal, suc, ◌+◌, ltb, not, take, drop, Option, Some, None, position}
+use Rattle.std.proofs.Common.{◌≡◌, ◌≢◌, ℕ, ◌≤◌, List, [], ◌∷◌, length, map, true, false, ◌==◌, refl, ap, sym, ◌∙◌, arith, decimal, suc, ◌+◌, not, take, drop, Some, None, position, rules}
 use Rattle.std.specs.List.{AllByRecursion, join_with_byte, list_all, position_or_len, onto_first}
 use Rattle.std.specs.Str.Parse.{digits_value}
 use Rattle.std.proofs.lemmas.Bool.{eq-eqb, ne_eqb, ltb-true, and_parts, not-true, ltb-false, cond_both}
@@ -77,19 +77,8 @@ no_place byte (b ∷ bs) far =
 
 -- where no such byte stands, the text is the one part
 pub cut_at-nowhere : (byte : ℕ) (bs : List ℕ) → position (λ b. b == byte) bs ≡ None → cut_at byte bs ≡ bs ∷ []
-cut_at-nowhere byte bs nowhere =
-    let place : ℕ = position_or_len (λ b. b == byte) bs in
-    let P : Option ℕ → Type 0 = λ o. o ≡ None → cut_at byte bs ≡ bs ∷ [] in
-    cond_both (ltb place (length bs)) (Some place) None P
-    (λ within none. absurd (cc))
-    (λ outside none. no_place byte bs (ltb-false place (length bs) outside)) nowhere
+cut_at-nowhere byte bs nowhere = search (rules, cond_both, no_place, ltb-false)
 
 -- else the first part ends there
 pub cut_at-place : (byte : ℕ) (bs : List ℕ) (end : ℕ) → position (λ b. b == byte) bs ≡ Some end → cut_at byte bs ≡ take end bs ∷ cut_at byte (drop (end + 1) bs)
-cut_at-place byte bs end at =
-    let place : ℕ = position_or_len (λ b. b == byte) bs in
-    let P : Option ℕ → Type 0 = λ o. o ≡ Some end → cut_at byte bs ≡ take end bs ∷ cut_at byte (drop (end + 1) bs) in
-    cond_both (ltb place (length bs)) (Some place) None P
-    (λ within some. let same : place ≡ end = cc in
-    slice_split_first (λ b. b == byte) bs 0 (ltb-true place (length bs) within) ∙ ap (λ i. take i bs ∷ cut_at byte (drop (i + 1) bs)) same)
-    (λ outside some. absurd (cc)) at
+cut_at-place byte bs end at = search (rules, cond_both, slice_split_first, ltb-true)

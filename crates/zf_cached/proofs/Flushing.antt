@@ -1,7 +1,7 @@
 -- What a flush and a discard leave.
-use Rattle.std.proofs.Common.{◌≡◌, refl, sym, ap, ◌∙◌, ℕ, zero, suc, ◌<◌, Bool, true, false, cond, Some, ◌⊎◌, inl, inr, arith}
+use Rattle.std.proofs.Common.{◌≡◌, refl, sym, ap, ◌∙◌, ℕ, zero, suc, ◌<◌, true, false, Some, ◌⊎◌, inl, inr, arith, rules}
 use Rattle.std.proofs.lemmas.Bool.{cases_eq}
-use Rattle.zf_base.specs.Formats.{Format, meant, encoded, rounded, with_at}
+use Rattle.zf_base.specs.Formats.{Format, meant, encoded, rounded}
 use Rattle.zf_base.proofs.Formats.{with_at-same, with_at-other}
 use Rattle.zf_cached.specs.State.{State}
 use Rattle.zf_cached.specs.Touch.{write_back, write_back_line}
@@ -54,14 +54,7 @@ fate {Code} format s (suc n) b = let before = fate format s n b in write_back_li
 
     written : (a : ℕ) → t.dirty a ≡ true → (b ≡ a) ⊎ (b ≡ a → ⊥) → IsKept s t b ⊎ IsWritten format s t b → IsKept s (write_back format t a) b ⊎ IsWritten format s (write_back format t a) b
     written a dirty (inl e) (inl kept) =
-        let code = encoded format a (t.values a) in
-        inr (
-          sym kept.0 ∙ ap t.dirty e ∙ dirty,
-          ap (with_at t.dirty a false) e ∙ with_at-same t.dirty a false,
-          ap (with_at t.values a (meant format a code)) e ∙ with_at-same t.values a (meant format a code)
-              ∙ ap (λ m. meant format m (encoded format m (t.values m))) (sym e) ∙ ap (λ vs. meant format b (encoded format b vs)) kept.1,
-          ap (with_at t.codes a code) e ∙ with_at-same t.codes a code ∙ ap (λ m. encoded format m (t.values m)) (sym e) ∙ ap (encoded format b) kept.1,
-        )
+        grind (arith, with_at-same t.dirty a false, with_at-same t.values a (meant format a (encoded format a (t.values a))), with_at-same t.codes a (encoded format a (t.values a)))
     written a dirty (inl e) (inr was) = true_is_not_false (t.dirty a) dirty (ap t.dirty (sym e) ∙ was.1)
     written a dirty (inr ne) (inl kept) = inl (with_at-other t.dirty a false b ne ∙ kept.0, with_at-other t.values a _ b ne ∙ kept.1, with_at-other t.codes a _ b ne ∙ kept.2)
     written a dirty (inr ne) (inr was) = inr (was.0, with_at-other t.dirty a false b ne ∙ was.1, with_at-other t.values a _ b ne ∙ was.2, with_at-other t.codes a _ b ne ∙ was.3)
@@ -76,14 +69,7 @@ flush-lines format s = write_back_lines-lines format s s.lines
 pub flush-dirty_codes : {Code : Type 0} (format : Format Code) (s : State Code) (b : ℕ) → (flush format s).dirty b ≡ false → s.dirty b ≡ true
     → ((flush format s).codes b ≡ encoded format b (s.values b)) × ((flush format s).values b ≡ rounded format b (s.values b))
 unfolding flush emptied
-flush-dirty_codes {Code} format s b cleaned dirty = by (fate format s s.lines b)
-  where
-    t : State Code
-    t = write_back_lines format s s.lines
-
-    by : IsKept s t b ⊎ IsWritten format s t b → (t.codes b ≡ encoded format b (s.values b)) × (t.values b ≡ rounded format b (s.values b))
-    by (inl kept) = true_is_not_false (s.dirty b) dirty (sym kept.0 ∙ cleaned)
-    by (inr was) = (was.3, was.2)
+flush-dirty_codes {Code} format s b cleaned dirty = search (rules, fate, true_is_not_false)
 
 -- a clean block keeps its code and its values
 pub flush-clean : {Code : Type 0} (format : Format Code) (s : State Code) (b : ℕ) → s.dirty b ≡ false
@@ -118,11 +104,7 @@ discard-empty format s = record { none_dirty = λ b. refl; none_held = λ l b e.
 -- each block has the values that its code means, where a clean one had them
 pub discard-values_by : {Code : Type 0} (format : Format Code) (s : State Code) (b : ℕ) → (s.dirty b ≡ false → s.values b ≡ meant format b (s.codes b)) → (discard format s).values b ≡ meant format b (s.codes b)
 unfolding discard
-discard-values_by format s b coded = by (s.dirty b) refl
-  where
-    by : (d : Bool) → s.dirty b ≡ d → cond d (meant format b (s.codes b)) (s.values b) ≡ meant format b (s.codes b)
-    by true e = refl
-    by false e = coded e
+discard-values_by format s b coded = search rules
 
 -- the hits and misses are not changed by write-backs
 write_back_lines-touches : {Code : Type 0} (format : Format Code) (s : State Code) (n : ℕ) →

@@ -1,5 +1,5 @@
 -- The end of a split: each view's dirty blocks are rounded, and all other codes stay.
-use Rattle.std.proofs.Common.{◌≡◌, ◌≢◌, refl, sym, ap, subst, ◌∙◌, ℕ, zero, suc, ◌<◌, ◌≤◌, Bool, true, false, length, ◌⊎◌, inl, inr, arith}
+use Rattle.std.proofs.Common.{◌≡◌, ◌≢◌, refl, sym, ap, subst, ◌∙◌, ℕ, zero, suc, ◌<◌, ◌≤◌, Bool, true, false, length, ◌⊎◌, inl, inr, arith, rules}
 use Rattle.std.proofs.lemmas.Bool.{cases_eq}
 use Rattle.std.proofs.lemmas.List.{get_or-set_other}
 use Rattle.zf_base.specs.Formats.{Format, meant, encoded, rounded}
@@ -83,12 +83,7 @@ module _ (line : Line) (may_hold : ℕ → ℕ → ℕ → Type 0) (placing : Is
       by (inl e) rest =
           (flush-dirty_codes f (before m) b ((cleaned m (omega (arith, most))).none_dirty b) (ap (λ k. (seen k).dirty b) (sym e) ∙ dirty)).0
           ∙ ap (λ k. encoded f b ((seen k).values b)) (sym e)
-      by (inr ne) rest =
-          (flush-clean f (before m) b (other_clean i m b (omega (arith, lt, most)) (omega (arith, most)) ne dirty)).0
-          ∙ rest (below i m lt ne)
-        where
-          below : (i m : ℕ) → i < suc m → (i ≡ m → ⊥) → i < m
-          below i m lt ne = omega (arith, lt, ne)
+      by (inr ne) rest = search (rules, flush-clean, other_clean)
 
   untouched : (m : ℕ) → m ≤ n → (b : ℕ) → ((i : ℕ) → i < m → (seen i).dirty b ≡ false) → (u m).state.codes b ≡ s.state.codes b
   unfolding flushed_views
@@ -103,10 +98,7 @@ module _ (line : Line) (may_hold : ℕ → ℕ → ℕ → Type 0) (placing : Is
 
   pub joined-values : is_split s ≡ true → (b : ℕ) → (joined setting s).state.values b ≡ meant f b ((joined setting s).state.codes b)
   unfolding joined
-  joined-values split b =
-      let k = flushed_views-sound line may_hold placing setting s n (omega arith) h in
-      let t = (u n).state in
-      subst (λ ns. t.values b ≡ meant (array_format setting.coding ns) b (t.codes b)) (same_shape n) (k.state.clean_is_coded b refl ((k.split (still_split split n)).none_dirty b))
+  joined-values split b = search (rules, flushed_views-sound, same_shape, still_split)
 
   joined-code : (i b : ℕ) → i < n → (seen i).dirty b ≡ true → (joined setting s).state.codes b ≡ encoded f b ((seen i).values b)
   unfolding joined
@@ -114,15 +106,7 @@ module _ (line : Line) (may_hold : ℕ → ℕ → ℕ → Type 0) (placing : Is
 
   pub joined-rounded : (i b : ℕ) → i < n → (state_of_view s i).dirty b ≡ true → IsRounded f (state_of_view s i) (joined setting s).state b
   unfolding rounded
-  joined-rounded i b lt dirty = by (is_split s) refl
-    where
-      by : (t : Bool) → is_split s ≡ t → IsRounded f (state_of_view s i) (joined setting s).state b
-      by false e = absurd (no_views s.split e i lt)
-      by true e = record {
-        clean = (joined-empty e).none_dirty b;
-        values = joined-values e b ∙ ap (meant f b) (joined-code i b lt dirty);
-        code = joined-code i b lt dirty;
-      }
+  joined-rounded i b lt dirty = search (rules, no_views, joined-empty, joined-values, joined-code)
 
   pub joined-kept : (b : ℕ) → ((i : ℕ) → i < n → (state_of_view s i).dirty b ≡ false) → (joined setting s).state.codes b ≡ s.state.codes b
   unfolding joined

@@ -12,6 +12,7 @@
 --     Passes       passes over all blocks
 --     Sessions     what the step of a command keeps
 --     Runs         what the lines of a script keep, and lines one after the other
+--     Computing    what a run of a script computes with
 pub mod States
 pub mod Caching
 pub mod Flushing
@@ -30,3 +31,4 @@ pub mod Joining
 pub mod Reading
 pub mod Passes
 pub mod Runs
+pub mod Computing

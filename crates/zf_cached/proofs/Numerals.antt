@@ -1,5 +1,5 @@
 -- Numbers and values as digits.
-use Rattle.std.proofs.Common.{◌≡◌, ◌≢◌, ℕ, suc, ◌<◌, ◌^◌, ℤ, pos, negsuc, List, length, get_or, true, false, ◌==◌, All, ap, sym, refl, arith, decimal}
+use Rattle.std.proofs.Common.{◌≡◌, ◌≢◌, ℕ, suc, ◌<◌, ◌^◌, ℤ, pos, negsuc, List, length, get_or, true, false, ◌==◌, All, sym, refl, arith, decimal, rules}
 use Rattle.std.specs.Fmt.{signed_decimal}
 use Rattle.std.specs.Str.Parse.{AllDigits, digits_value, signed_digits_value}
 use Rattle.std.proofs.lemmas.Bool.{ne_eqb, ltb-true}
@@ -44,7 +44,5 @@ no_plus r = omega arith
 
 -- a sign and digits say the value
 pub value-signed : (v : ℤ) → is_value v ≡ true → signed_digits_value 10 (signed_decimal v) ≡ v
-value-signed (pos n) small =
-    let lt : n < 2 ^ 64 = ltb-true n _ small in
-    rw (first_is_not n 45 lt no_minus, first_is_not n 43 lt no_plus) (ap pos (number-decimal n lt))
+value-signed (pos n) small = search (rules, ltb-true, first_is_not, no_minus, no_plus, number-decimal)
 value-signed (negsuc n) small = rw (number-decimal (suc n) (ltb-true (suc n) _ small)) refl

@@ -1,5 +1,5 @@
 -- A pass over all blocks misses each of them, where each line has two blocks or more.
-use Rattle.std.proofs.Common.{◌≡◌, refl, sym, ap, subst, ◌∙◌, ℕ, zero, suc, ◌+◌, ◌*◌, ◌%◌, ◌<◌, ◌≤◌, Option, Some, ◌⊎◌, inl, inr, mod-lt, mod-eq_of_lt, arith}
+use Rattle.std.proofs.Common.{◌≡◌, refl, sym, ap, subst, ◌∙◌, ℕ, zero, suc, ◌+◌, ◌*◌, ◌%◌, ◌<◌, ◌≤◌, Option, Some, ◌⊎◌, inl, inr, mod-lt, mod-eq_of_lt, arith, rules}
 use Rattle.std.proofs.Math.Nat.{add-mod_right}
 use Rattle.std.proofs.lemmas.Bool.{cases_eq}
 use Rattle.zf_base.specs.Formats.{Format, with_at}
@@ -19,11 +19,7 @@ record IsUnderway (n k lines : ℕ) (held : ℕ → Option ℕ) : Type 0 where
 
 -- so block k is in no line
 not_held : (n k lines : ℕ) (held : ℕ → Option ℕ) → k < n → IsUnderway n k lines held → held (k % lines) ≡ Some k → ⊥
-not_held n k lines held below h e = by (h.blocks (k % lines) k e).1
-  where
-    by : ((k < k) × (k ≤ k + lines)) ⊎ ((k ≤ k % lines) × (n ≤ k + lines)) → ⊥
-    by (inl x) = let y = x.0 in omega arith
-    by (inr x) = let y = x.0 in let z = x.1 in let some = h.some in let enough = h.enough in let m : k % lines < lines = mod-lt k some in omega arith
+not_held n k lines held below h e = search (rules, mod-lt)
 
 underway_more : (n k lines : ℕ) (held : ℕ → Option ℕ) → k < n → IsUnderway n k lines held → IsUnderway n (suc k) lines (with_at held (k % lines) (Some k))
 underway_more n k lines held below h = record { enough = h.enough; some = h.some; blocks = λ l b e. by l b e (cases_eq l (k % lines)) }
@@ -34,18 +30,10 @@ underway_more n k lines held below h = record { enough = h.enough; some = h.some
         next : (k ≡ b + lines) ⊎ (k ≡ b + lines → ⊥) → suc k ≤ b + lines
         next (inl e) = absurd (ne (sym own ∙ sym (add-mod_right b lines) ∙ ap (λ m. m % lines) (sym e)))
         next (inr other) = let y = x.1 in omega arith
-    kept l b ne own (inr x) = inr (next (cases_eq k l), x.1)
-      where
-        next : (k ≡ l) ⊎ (k ≡ l → ⊥) → suc k ≤ l
-        next (inl e) = let some = h.some in let small : b % lines < lines = mod-lt b some in let low : k < lines = omega arith in absurd (ne (sym e ∙ sym (mod-eq_of_lt low)))
-        next (inr other) = let y = x.0 in omega arith
+    kept l b ne own (inr x) = search (rules, cases_eq, mod-lt, mod-eq_of_lt)
 
     by : (l b : ℕ) → with_at held (k % lines) (Some k) l ≡ Some b → (l ≡ k % lines) ⊎ (l ≡ k % lines → ⊥) → (b % lines ≡ l) × (((b < suc k) × (suc k ≤ b + lines)) ⊎ ((suc k ≤ l) × (n ≤ b + lines)))
-    by l b e (inl same) =
-        let found : Some k ≡ Some b = sym (with_at-same held (k % lines) (Some k)) ∙ sym (ap (with_at held (k % lines) (Some k)) same) ∙ e in
-        let is : k ≡ b = cc in
-        let some = h.some in
-        (sym (ap (λ m. m % lines) is) ∙ sym same, inl (omega arith, omega arith))
+    by l b e (inl same) = grind (arith, with_at-same held (k % lines) (Some k))
     by l b e (inr ne) = let old = h.blocks l b (sym (with_at-other held (k % lines) (Some k) l ne) ∙ e) in (old.0, kept l b ne old.0 old.1)
 
 -- ---- a miss
@@ -86,13 +74,11 @@ passed {Code} format s n (suc k) below room h =
     let own : own_line t k ≡ k % s.lines = ap (λ m. k % m) p.lines in
     let m = touch-misses format t k (λ e. not_held n k s.lines t.held (omega arith) p.underway (ap t.held (sym own) ∙ e)) in
     let held : (touch format t k).held ≡ with_at t.held (k % s.lines) (Some k) = m.held ∙ ap (λ l. with_at t.held l (Some k)) own in
-    let so_far = p.misses in
-    let one : risen t.counts.misses ≡ s.counts.misses + suc k = omega arith in
     record {
       lines = touch-lines direct format t k ∙ p.lines;
       underway = subst (IsUnderway n (suc k) s.lines) (sym held) (underway_more n k s.lines t.held (omega arith) p.underway);
       hits = m.hits ∙ p.hits;
-      misses = m.misses ∙ one;
+      misses = m.misses ∙ (omega arith);
     }
 
 pub pass-misses : {Code : Type 0} (format : Format Code) (s : State Code) (n : ℕ) → IsConsistent direct every format s → HasLastBlocks n s → s.counts.misses + n ≤ most_counted

@@ -1,16 +1,12 @@
 -- The least power of two that passes a test.
-use Rattle.std.proofs.Common.{◌≡◌, refl, ap, subst, ◌∙◌, ℕ, zero, suc, ◌+◌, ◌*◌, ◌^◌, ◌≤◌, Bool, true, false, ◌⊎◌, inl, inr, pow-suc, leb, leb-true, le-leb, arith}
+use Rattle.std.proofs.Common.{◌≡◌, refl, ap, ◌∙◌, ℕ, zero, suc, ◌+◌, ◌*◌, ◌^◌, ◌≤◌, Bool, true, false, ◌⊎◌, inl, inr, pow-suc, leb, leb-true, le-leb, arith}
 use Rattle.std.proofs.Math.Pow.{pow_mono, pow_pos}
 use Rattle.std.proofs.lemmas.Bool.{cases_eq}
 use Rattle.zf_cached.specs.Changes.{first_doubled, raised, default_lines}
 use Rattle.zf_cached.proofs.Caching.{true_is_not_false}
 
 by_test : (test : ℕ → Bool) (n m : ℕ) (P : ℕ → Type 0) → (test (2 ^ m) ≡ true → P (2 ^ m)) → (test (2 ^ m) ≡ false → P (first_doubled test n (2 ^ suc m))) → P (first_doubled test (suc n) (2 ^ m))
-by_test test n m P passed failed = by (test (2 ^ m)) passed (λ f. subst (λ p. P (first_doubled test n p)) (let e : 2 ^ suc m ≡ 2 * 2 ^ m = omega (arith, pow-suc 2 m) in e) (failed f))
-  where
-    by : (t : Bool) → (t ≡ true → P (2 ^ m)) → (t ≡ false → P (first_doubled test n (2 * 2 ^ m))) → P (elim t [ true ↦ 2 ^ m | false ↦ first_doubled test n (2 * 2 ^ m) ])
-    by true passed failed = passed refl
-    by false passed failed = failed refl
+by_test test n m P passed failed = grind (arith, pow-suc 2 m)
 
 -- it is a power of two
 first_doubled-power : (test : ℕ → Bool) (n m : ℕ) → (k : ℕ) × (first_doubled test n (2 ^ m) ≡ 2 ^ k)
@@ -21,9 +17,7 @@ first_doubled-power test (suc n) m = let rest = first_doubled-power test n (suc 
 first_doubled-passes : (test : ℕ → Bool) (n m : ℕ) → test (2 ^ (n + m)) ≡ true → test (first_doubled test n (2 ^ m)) ≡ true
 first_doubled-passes test zero m last = let e : m ≡ zero + m = omega arith in ap (λ k. test (2 ^ k)) e ∙ last
 first_doubled-passes test (suc n) m last =
-    let e : n + suc m ≡ suc n + m = omega arith in
-    let rest = first_doubled-passes test n (suc m) (ap (λ k. test (2 ^ k)) e ∙ last) in
-    by_test test n m (λ q. test q ≡ true) (λ t. t) (λ f. rest)
+    grind (arith, first_doubled-passes test n (suc m) (ap (λ k. test (2 ^ k)) (omega arith) ∙ last))
 
 -- and none before it does
 first_doubled-least : (test : ℕ → Bool) (n m j : ℕ) → m ≤ j → test (2 ^ j) ≡ true → first_doubled test n (2 ^ m) ≤ 2 ^ j

@@ -133,6 +133,11 @@ position_and_value_back d p v some ok =
 number_back : (n : ℕ) → is_number n ≡ true → digits_value 10 (decimal n) ≡ n
 number_back n small = number-decimal n (ltb-true n _ small)
 
+-- the candidate at place k, where those before it fail
+in_place : (d : ℕ) (c : Command) (k : ℕ) → is_writable d c ≡ true → list_all (λ x. not (is_line d (line_of c) x)) (take k (candidates (words_of c))) ≡ true
+    → k < length (candidates (words_of c)) → get_or (candidates (words_of c)) k c ≡ c → find (is_line d (line_of c)) (candidates (words_of c)) ≡ Some c
+in_place d c k ok others lt same = found_at (is_line d (line_of c)) (candidates (words_of c)) k c others lt same (own_line d c ok)
+
 -- ---- the candidates on a view, which begin alike
 -- words of which the first byte or the second word is another
 abbrev other : List (List ℕ) → List (List ℕ) → Bool
@@ -160,77 +165,56 @@ others_fail d c (x ∷ cs) ok others =
 
 on_view : (d : ℕ) (c : Command) (k : ℕ) → is_writable d c ≡ true → list_all (λ x. other (words_of x) (words_of c)) (take k (candidates (words_of c))) ≡ true
     → k < length (candidates (words_of c)) → get_or (candidates (words_of c)) k c ≡ c → find (is_line d (line_of c)) (candidates (words_of c)) ≡ Some c
-on_view d c k ok others lt same =
-    found_at (is_line d (line_of c)) (candidates (words_of c)) k c (others_fail d c (take k (candidates (words_of c))) ok others) lt same (own_line d c ok)
+on_view d c k ok others lt same = in_place d c k ok (others_fail d c (take k (candidates (words_of c))) ok others) lt same
 
 -- ---- each command's own candidate
 candidate : (d : ℕ) (c : Command) → 1 ≤ d → is_writable d c ≡ true → find (is_line d (line_of c)) (candidates (words_of c)) ≡ Some c
 unfolding candidates
-candidate d (Command.get p) some ok =
-    found_at (is_line d (line_of (Command.get p))) (candidates (words_of (Command.get p))) 0 (Command.get p) refl (lit< tt) (ap Command.get (position_back d p some ok)) (own_line d (Command.get p) ok)
+candidate d (Command.get p) some ok = in_place d (Command.get p) 0 ok refl (lit< tt) (ap Command.get (position_back d p some ok))
 candidate d (Command.set p v) some ok =
     let back = position_and_value_back d p v some ok in
-    found_at (is_line d (line_of (Command.set p v))) (candidates (words_of (Command.set p v))) 1 (Command.set p v) refl (lit< tt) (cc) (own_line d (Command.set p v) ok)
+    in_place d (Command.set p v) 1 ok refl (lit< tt) (cc)
 candidate d (Command.add p v) some ok =
     let back = position_and_value_back d p v some ok in
-    found_at (is_line d (line_of (Command.add p v))) (candidates (words_of (Command.add p v))) 2 (Command.add p v) refl (lit< tt) (cc) (own_line d (Command.add p v) ok)
-candidate d (Command.fill v) some ok =
-    found_at (is_line d (line_of (Command.fill v))) (candidates (words_of (Command.fill v))) 3 (Command.fill v) refl (lit< tt) (ap Command.fill (value-signed v ok)) (own_line d (Command.fill v) ok)
-candidate d Command.sum some ok =
-    found_at (is_line d (line_of Command.sum)) (candidates (words_of Command.sum)) 4 Command.sum refl (lit< tt) refl (own_line d Command.sum ok)
+    in_place d (Command.add p v) 2 ok refl (lit< tt) (cc)
+candidate d (Command.fill v) some ok = in_place d (Command.fill v) 3 ok refl (lit< tt) (ap Command.fill (value-signed v ok))
+candidate d Command.sum some ok = in_place d Command.sum 4 ok refl (lit< tt) refl
 candidate d (Command.view p s t) some ok =
     let parts = and_parts (has_axes d p) _ ok in
     let more = and_parts (has_axes d s) (has_axes d t) parts.1 in
     let sizes = axes-parts d s more.0 in
-    let origin = position_back d p some parts.0 in
     let size = sizes_back s (omega arith) sizes.1 in
-    let step = position_back d t some more.1 in
-    found_at (is_line d (line_of (Command.view p s t))) (candidates (words_of (Command.view p s t))) 5 (Command.view p s t) refl (lit< tt) (cc) (own_line d (Command.view p s t) ok)
+    in_place d (Command.view p s t) 5 ok refl (lit< tt) (cc (position_back d p some parts.0, position_back d t some more.1))
 candidate d (Command.slice a i) some ok =
     let parts = and_parts (is_number a) (is_number i) ok in
-    let axis = number_back a parts.0 in
-    let place = number_back i parts.1 in
-    found_at (is_line d (line_of (Command.slice a i))) (candidates (words_of (Command.slice a i))) 6 (Command.slice a i) refl (lit< tt) (cc) (own_line d (Command.slice a i) ok)
-candidate d (Command.vget p) some ok =
-    found_at (is_line d (line_of (Command.vget p))) (candidates (words_of (Command.vget p))) 7 (Command.vget p) refl (lit< tt) (ap Command.vget (position_back d p some ok)) (own_line d (Command.vget p) ok)
+    in_place d (Command.slice a i) 6 ok refl (lit< tt) (cc (number_back a parts.0, number_back i parts.1))
+candidate d (Command.vget p) some ok = in_place d (Command.vget p) 7 ok refl (lit< tt) (ap Command.vget (position_back d p some ok))
 candidate d (Command.vset p v) some ok =
     let back = position_and_value_back d p v some ok in
-    found_at (is_line d (line_of (Command.vset p v))) (candidates (words_of (Command.vset p v))) 8 (Command.vset p v) refl (lit< tt) (cc) (own_line d (Command.vset p v) ok)
-candidate d Command.vsum some ok =
-    found_at (is_line d (line_of Command.vsum)) (candidates (words_of Command.vsum)) 9 Command.vsum refl (lit< tt) refl (own_line d Command.vsum ok)
-candidate d Command.flush some ok =
-    found_at (is_line d (line_of Command.flush)) (candidates (words_of Command.flush)) 10 Command.flush refl (lit< tt) refl (own_line d Command.flush ok)
-candidate d Command.discard some ok =
-    found_at (is_line d (line_of Command.discard)) (candidates (words_of Command.discard)) 11 Command.discard refl (lit< tt) refl (own_line d Command.discard ok)
-candidate d (Command.lines l) some ok =
-    found_at (is_line d (line_of (Command.lines l))) (candidates (words_of (Command.lines l))) 12 (Command.lines l) refl (lit< tt) (ap Command.lines (number_back l ok)) (own_line d (Command.lines l) ok)
+    in_place d (Command.vset p v) 8 ok refl (lit< tt) (cc)
+candidate d Command.vsum some ok = in_place d Command.vsum 9 ok refl (lit< tt) refl
+candidate d Command.flush some ok = in_place d Command.flush 10 ok refl (lit< tt) refl
+candidate d Command.discard some ok = in_place d Command.discard 11 ok refl (lit< tt) refl
+candidate d (Command.lines l) some ok = in_place d (Command.lines l) 12 ok refl (lit< tt) (ap Command.lines (number_back l ok))
 candidate d (Command.resize s) some ok =
     let parts = sizes-parts s ok in
-    found_at (is_line d (line_of (Command.resize s))) (candidates (words_of (Command.resize s))) 13 (Command.resize s) refl (lit< tt) (ap Command.resize (sizes_back s parts.0 parts.2)) (own_line d (Command.resize s) ok)
-candidate d Command.stats some ok =
-    found_at (is_line d (line_of Command.stats)) (candidates (words_of Command.stats)) 14 Command.stats refl (lit< tt) refl (own_line d Command.stats ok)
+    in_place d (Command.resize s) 13 ok refl (lit< tt) (ap Command.resize (sizes_back s parts.0 parts.2))
+candidate d Command.stats some ok = in_place d Command.stats 14 ok refl (lit< tt) refl
 candidate d (Command.split n l) some ok =
     let parts = and_parts (is_number n) (is_number l) ok in
-    let views = number_back n parts.0 in
-    let lines = number_back l parts.1 in
-    found_at (is_line d (line_of (Command.split n l))) (candidates (words_of (Command.split n l))) 15 (Command.split n l) refl (lit< tt) (cc) (own_line d (Command.split n l) ok)
-candidate d Command.join some ok =
-    found_at (is_line d (line_of Command.join)) (candidates (words_of Command.join)) 16 Command.join refl (lit< tt) refl (own_line d Command.join ok)
+    in_place d (Command.split n l) 15 ok refl (lit< tt) (cc (number_back n parts.0, number_back l parts.1))
+candidate d Command.join some ok = in_place d Command.join 16 ok refl (lit< tt) refl
 candidate d (Command.pget i p) some ok =
     let parts = and_parts (is_number i) (has_axes d p) ok in
-    let view = number_back i parts.0 in
-    let position = position_back d p some parts.1 in
-    on_view d (Command.pget i p) 17 ok refl (lit< tt) (cc)
+    on_view d (Command.pget i p) 17 ok refl (lit< tt) (cc (number_back i parts.0, position_back d p some parts.1))
 candidate d (Command.pset i p v) some ok =
     let parts = and_parts (is_number i) (has_axes d p && is_value v) ok in
-    let view = number_back i parts.0 in
     let back = position_and_value_back d p v some parts.1 in
-    on_view d (Command.pset i p v) 18 ok refl (lit< tt) (cc)
+    on_view d (Command.pset i p v) 18 ok refl (lit< tt) (cc (number_back i parts.0))
 candidate d (Command.padd i p v) some ok =
     let parts = and_parts (is_number i) (has_axes d p && is_value v) ok in
-    let view = number_back i parts.0 in
     let back = position_and_value_back d p v some parts.1 in
-    on_view d (Command.padd i p v) 19 ok refl (lit< tt) (cc)
+    on_view d (Command.padd i p v) 19 ok refl (lit< tt) (cc (number_back i parts.0))
 candidate d (Command.pflush i) some ok = on_view d (Command.pflush i) 20 ok refl (lit< tt) (ap Command.pflush (number_back i ok))
 candidate d (Command.pdiscard i) some ok = on_view d (Command.pdiscard i) 21 ok refl (lit< tt) (ap Command.pdiscard (number_back i ok))
 candidate d (Command.pstats i) some ok = on_view d (Command.pstats i) 22 ok refl (lit< tt) (ap Command.pstats (number_back i ok))

@@ -1,16 +1,15 @@
 -- Lines that only read leave the sizes, the codes and the values as they are, and nothing dirty.
-use Rattle.std.proofs.Common.{◌≡◌, refl, sym, subst, ℕ, zero, suc, ℤ, Bool, true, false, eqb, List, [], ◌∷◌, map, length, Option, Some, None}
+use Rattle.std.proofs.Common.{◌≡◌, refl, sym, subst, ℕ, zero, suc, ℤ, Bool, true, false, eqb, List, [], ◌∷◌, length, Option, Some, None, rules}
 use Rattle.std.specs.List.{list_any}
 use Rattle.zf_base.specs.Formats.{Format}
 use Rattle.std.specs.Int.{Width}
-use Rattle.zf_spec.specs.Grid.{upto, blocks}
-use Rattle.zf_spec.specs.Stream.{Mode, file}
+use Rattle.zf_spec.specs.Grid.{upto}
 use Rattle.zf_base.specs.Places.{block_number}
 use Rattle.zf_cached.specs.State.{State}
 use Rattle.zf_cached.specs.Touch.{write_back_line, hit, miss, touch_at}
 use Rattle.zf_cached.specs.Changes.{write_back_lines, emptied, flush, relined}
 use Rattle.zf_cached.specs.Windows.{mapped}
-use Rattle.zf_cached.specs.Placing.{Line, direct}
+use Rattle.zf_cached.specs.Placing.{Line}
 use Rattle.zf_cached.specs.Arrays.{codes_of, saved_file}
 use Rattle.zf_cached.specs.Commands.{Command}
 use Rattle.zf_cached.specs.Replies.{Refusal, Reply}
@@ -141,6 +140,4 @@ module _ (line : Line) {Code : Type 0} (setting : Setting Code) (starved shape :
 pub reading-saves : (w : Width) (budget : ℕ) (starved shape : List ℕ) (s : State (List Bool)) (script : List ℕ) → ReadAlone (array_setting w budget) (length shape) (lines_of script) → ((b : ℕ) → s.dirty b ≡ false)
     → saved_file w budget (run (array_setting w budget) starved shape s script).0.shape (run (array_setting w budget) starved shape s script).0.state ≡ saved_file w budget shape s
 unfolding saved_file codes_of
-reading-saves w budget starved shape s script reads clean =
-    let h = run-reads direct (array_setting w budget) starved shape s script (array_setting-cached w budget) clean reads in
-    λ i. file w (h.0 i) (Mode.fixed_rate budget) (map (h.1.codes i) (upto (blocks (h.0 i))))
+reading-saves w budget starved shape s script reads clean = search (rules, run-reads, array_setting-cached)

@@ -1,5 +1,5 @@
 -- Windows of an array: their positions lie in it.
-use Rattle.std.proofs.Common.{◌≡◌, refl, ap, ◌∙◌, ℕ, zero, suc, ◌+◌, ◌-◌, ◌*◌, ◌<◌, ◌≤◌, true, ◌&&◌, ltb, ltb-true, lt-ltb, leb, leb-true, le-leb, List, [], ◌∷◌, map, length, get_or, set, arith}
+use Rattle.std.proofs.Common.{◌≡◌, refl, ap, ◌∙◌, ℕ, zero, suc, ◌+◌, ◌-◌, ◌*◌, ◌<◌, ◌≤◌, true, ◌&&◌, ltb, ltb-true, lt-ltb, leb, leb-true, le-leb, List, [], ◌∷◌, map, length, get_or, set, arith, rules}
 use Rattle.std.proofs.Math.Nat.{mul-le-mul_right, eq_of_mul-eq-mul_right}
 use Rattle.std.proofs.lemmas.Bool.{and_from, and_parts}
 use Rattle.std.proofs.lemmas.List.{length-map, length-set}
@@ -48,10 +48,8 @@ stepped_once : (os ts ps qs : List ℕ) → none_zero ts ≡ true → length os 
 stepped_once os ts [] [] h a b c e = refl
 stepped_once (o ∷ os) (t ∷ ts) (p ∷ ps) (q ∷ qs) h a b c e =
     let parts = and_parts (leb 1 t) (none_zero ts) h in
-    let some : 1 ≤ t = leb-true 1 t parts.0 in
     let first : o + p * t ≡ o + q * t = cc in
-    let products : p * t ≡ q * t = omega arith in
-    let same : p ≡ q = eq_of_mul-eq-mul_right t some p q products in
+    let same : p ≡ q = eq_of_mul-eq-mul_right t (leb-true 1 t parts.0) p q (omega arith) in
     ap (λ n. n ∷ ps) same ∙ ap (λ ns. q ∷ ns) (stepped_once os ts ps qs parts.1 (omega arith) (omega arith) (omega arith) (rests (o + p * t) (o + q * t) (stepped os ts ps) (stepped os ts qs) e))
 stepped_once os ts x y h a b c e = absurd (omega arith)
 
@@ -84,13 +82,8 @@ none_zero-ones [] = refl
 none_zero-ones (n ∷ ns) = none_zero-ones ns
 
 pub LiesIn-whole : (ns : List ℕ) → AllByRecursion (λ n. 1 ≤ n) ns → LiesIn ns (whole ns)
-LiesIn-whole ns h = record {
-  origins = length-map ns (λ n. 0);
-  sizes = refl;
-  steps = length-map ns (λ n. 1);
-  inside = and_from (none_zero ns) (none_zero (map (λ n. 1) ns) && lies_in ns (whole ns)) (none_zero-all ns h)
-      (and_from (none_zero (map (λ n. 1) ns)) (lies_in ns (whole ns)) (none_zero-ones ns) (ap (is_inside ns) (stepped-whole ns (map (λ n. n - 1) ns) (length-map ns (λ n. n - 1))) ∙ last_inside ns h));
-}
+LiesIn-whole ns h =
+    search (rules, length-map, and_from, none_zero-all, none_zero-ones, stepped-whole, last_inside)
 
 -- ---- slices
 
@@ -98,12 +91,7 @@ slice_inside : (ns os sizes ts : List ℕ) (axis at : ℕ) → is_inside ns (ste
     → is_inside ns (stepped (set os axis (get_or os axis 0 + at * get_or ts axis 0)) ts (map (λ n. n - 1) (set sizes axis 1))) ≡ true
 slice_inside [] (o ∷ os) (m ∷ sizes) (t ∷ ts) axis at h a b l k = refl
 slice_inside (n ∷ ns) (o ∷ os) (m ∷ sizes) (t ∷ ts) zero at h a b l k =
-    let parts = and_parts (ltb (o + (m - 1) * t) n) (is_inside ns (stepped os ts (map (λ n. n - 1) sizes))) h in
-    let first = ltb-true (o + (m - 1) * t) n parts.0 in
-    let short : at ≤ m - 1 = omega arith in
-    let reach : at * t ≤ (m - 1) * t = mul-le-mul_right t short in
-    let fits : (o + at * t) + (1 - 1) * t < n = omega arith in
-    and_from (ltb ((o + at * t) + (1 - 1) * t) n) (is_inside ns (stepped os ts (map (λ n. n - 1) sizes))) (lt-ltb ((o + at * t) + (1 - 1) * t) n fits) parts.1
+    search (rules, and_parts, ltb-true, mul-le-mul_right, and_from, lt-ltb)
 slice_inside (n ∷ ns) (o ∷ os) (m ∷ sizes) (t ∷ ts) (suc axis) at h a b l k =
     let parts = and_parts (ltb (o + (m - 1) * t) n) (is_inside ns (stepped os ts (map (λ n. n - 1) sizes))) h in
     and_from (ltb (o + (m - 1) * t) n) (is_inside ns (stepped (set os axis (get_or os axis 0 + at * get_or ts axis 0)) ts (map (λ n. n - 1) (set sizes axis 1))))
@@ -118,15 +106,4 @@ none_zero-set (n ∷ ns) (suc axis) h = let parts = and_parts (leb 1 n) (none_ze
 -- a slice of a window lies in the array
 pub LiesIn-sliced : (ns : List ℕ) (w : Window) (axis at : ℕ) → LiesIn ns w → has_place w axis at ≡ true → LiesIn ns (sliced w axis at)
 LiesIn-sliced ns w axis at h place =
-    let one = and_parts (none_zero w.size) (none_zero w.step && lies_in ns w) h.inside in
-    let two = and_parts (none_zero w.step) (lies_in ns w) one.1 in
-    let has = and_parts (ltb axis (length w.size)) (ltb at (get_or w.size axis 0)) place in
-    let s = sliced w axis at in
-    record {
-      origins = length-set w.origin axis (get_or w.origin axis 0 + at * get_or w.step axis 0) ∙ h.origins;
-      sizes = length-set w.size axis 1 ∙ h.sizes;
-      steps = h.steps;
-      inside = and_from (none_zero s.size) (none_zero s.step && lies_in ns s) (none_zero-set w.size axis one.0)
-          (and_from (none_zero s.step) (lies_in ns s) two.0
-          (slice_inside ns w.origin w.size w.step axis at two.1 (ltb-true axis (length w.size) has.0) (ltb-true at (get_or w.size axis 0) has.1) (omega (arith, h.origins, h.sizes)) (omega (arith, h.steps, h.sizes))));
-    }
+    search (rules, and_parts, length-set, and_from, none_zero-set, slice_inside, ltb-true)

@@ -12,7 +12,7 @@ mod turning;
 
 pub use coefficient_order::order;
 pub use digits::{digits_of_planes, from_planes};
-pub use first::{first_digits, planes_of_first};
+pub use first::planes_of_first;
 pub use needed::{any_digits, needed_planes, zero_planes};
 pub use negabinary::{from_digits, to_digits};
 pub use planes::{planes_of_digits, to_planes};

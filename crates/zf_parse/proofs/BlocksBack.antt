@@ -1,5 +1,5 @@
 -- The blocks of an array come back from their codes.
-use Rattle.std.proofs.Common.{◌≡◌, refl, sym, ap, subst, ◌∙◌, ℕ, ◌^◌, ◌<◌, ◌≤◌, Bool, true, false, cond, ltb, le-ltb, ℤ, pos, FitsSigned, Some, None, List, ◌++◌, length, take, get_or, All, take_at, length-append, arith}
+use Rattle.std.proofs.Common.{◌≡◌, refl, sym, ap, subst, ◌∙◌, ℕ, ◌^◌, ◌<◌, ◌≤◌, Bool, true, false, cond, ltb, le-ltb, ℤ, pos, FitsSigned, Some, None, List, ◌++◌, length, take, get_or, All, take_at, length-append, arith, rules}
 use Rattle.std.proofs.lemmas.List.Elements.{All-from_get_or}
 use Rattle.std.specs.Int.{Width}
 use mir.Val.{bits}
@@ -66,11 +66,7 @@ pub reads_reversible : (ty : Ty) (ns : List ℕ) (values : List ℤ) (b : ℕ) (
     → let code = rev (width_of ty) (extent_of ns b) (block_of ns values b) in
     read_code (width_of ty) Reversible (extent_of ns b) (code ++ more) ≡ Some (block_of ns values b, length code)
 reads_reversible ty ns values b more shape lt all =
-    let w = width_of ty in
-    let es = extent_of ns b in
-    let block = block_of ns values b in
-    read_rev-rev w es block more (width_at_most_64 ty) (all_extents ns b shape lt) (block_fits w ns values b all)
-    ∙ ap (λ (back : List ℤ). Some (back, length (rev w es block))) (existing_values-block_of ns values b)
+    search (rules, read_rev-rev, width_at_most_64, all_extents, block_fits, existing_values-block_of)
 
 -- at a fixed rate what the rate makes of it
 pub reads_rate : (w : Width) (budget : ℕ) (es : List ℕ) (block : List ℤ) (more : List Bool)

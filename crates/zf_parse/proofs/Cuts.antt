@@ -1,10 +1,9 @@
 -- A stream is cut in the block whose code is the first that is short.
-use Rattle.std.proofs.Common.{◌≡◌, ◌⊎◌, inl, inr, ⊎_elim, refl, sym, ap, subst, ◌∙◌, ℕ, ◌+◌, ◌-◌, ◌<◌, ◌≤◌, Bool, true, false, cond, ltb, ltb-true, Option, Some, None, Result, Ok, Err, List, ◌++◌, map, length, take, length-append, length-drop, arith}
+use Rattle.std.proofs.Common.{◌≡◌, ◌⊎◌, inl, ⊎_elim, refl, sym, ap, subst, ◌∙◌, ℕ, ◌+◌, ◌-◌, ◌<◌, ◌≤◌, Bool, ltb-true, Option, None, Result, Ok, Err, List, ◌++◌, map, length, length-append, length-drop, arith, rules}
 use Rattle.std.specs.List.{flat_map}
 use Rattle.std.specs.Result.{result_map_both}
 use Rattle.std.proofs.lemmas.List.{length-map}
 use Rattle.zf_spec.specs.Grid.{blocks}
-use Rattle.zf_spec.specs.Planes.{has_one}
 use Rattle.zf_spec.specs.Stream.{fill_len, to_bits}
 use Rattle.zf_spec.proofs.Bytes.{length-to_bits}
 use Rattle.zf_header.specs.declared.header.Header.{Header}
@@ -27,28 +26,11 @@ use Rattle.zf_parse.proofs.Whole.{read_whole, codes_of_stand, read_short, read_f
 -- only where a header is good is a block cut
 pub cut_is_good : (bytes : List ℕ) (b : ℕ) → parse bytes ≡ Err (faults.Truncated b) → header_fault bytes ≡ None
 unfolding parse
-cut_is_good bytes b is = by (header_fault bytes) (said_behind (header_of bytes) (length (to_bits bytes)) (code_bits bytes)) is
-  where
-    by : (f : Option HeaderFault) (rest : Result Said StreamFault) → header_or f rest ≡ Err (faults.Truncated b) → f ≡ None
-    by None rest e = refl
-    by (Some f) rest e = absurd (cc)
+cut_is_good bytes b is = search rules
 
 -- the fill is short
 fill_cut : (h : Header) (used b : ℕ) (s : List Bool) → fill_answer h used s ≡ Err (faults.Truncated b) → (blocks h.shape ≡ b) × (length s < fill_len used)
-fill_cut h used b s e = by (ltb (length s) (fill_len used)) refl e
-  where
-    rest : Bool → Bool → Result (Unit {0}) StreamFault
-    rest one more = cond one (Err faults.Pad) (cond more (Err faults.Trailing) (Ok tt))
-
-    other : (one more : Bool) → rest one more ≡ Err (faults.Truncated b) → ⊥
-    other true more is = cc
-    other false true is = cc
-    other false false is = cc
-
-    by : (t : Bool) → ltb (length s) (fill_len used) ≡ t → cond t (Err (faults.Truncated (blocks h.shape))) (rest (has_one (take (fill_len used) s)) (ltb (fill_len used) (length s))) ≡ Err (faults.Truncated b)
-        → (blocks h.shape ≡ b) × (length s < fill_len used)
-    by true is e = let same : blocks h.shape ≡ b = cc in (same, ltb-true (length s) (fill_len used) is)
-    by false is e = absurd (other (has_one (take (fill_len used) s)) (ltb (fill_len used) (length s)) e)
+fill_cut h used b s e = search (rules, ltb-true)
 
 fill_err : (said : Said) (r : Result (Unit {0}) StreamFault) (e : StreamFault) → result_map_both (λ good. said) (λ f. f) r ≡ Err e → r ≡ Err e
 fill_err said (Ok good) e is = absurd (cc)
@@ -63,10 +45,7 @@ pub record CutFill (h : Header) (all b : ℕ) (r : Result Coded ℕ) : Type 0 wh
 
 cut_by : (h : Header) (all b : ℕ) (r : Result Coded ℕ) → by_coded h all r ≡ Err (faults.Truncated b) → (r ≡ Err b) ⊎ CutFill h all b r
 cut_by h all b (Err k) e = let same : k ≡ b = cc in inl (ap (λ (j : ℕ). Err j) same)
-cut_by h all b (Ok found) e =
-    let said : Said = record { header = h; codes = codes_in found; values = values_of_blocks h.shape (blocks_in found).0 } in
-    let fill = fill_cut h (all - length found.1) b found.1 (fill_err said (fill_answer h (all - length found.1) found.1) (faults.Truncated b) e) in
-    inr (record { found = found; read = refl; number = fill.0; short = fill.1 })
+cut_by h all b (Ok found) e = search (rules, fill_cut, fill_err)
 
 -- ---- bytes with a good header
 

@@ -1,5 +1,5 @@
 -- As many bits as the longest codes have are enough for any codes, so that what is restored has the length of the raw values.
-use Rattle.std.proofs.Common.{◌≡◌, ◌≢◌, refl, sym, ap, ◌∙◌, ℕ, zero, suc, ◌+◌, ◌*◌, ◌^◌, ◌<◌, ◌≤◌, min, Bool, false, cond, ltb, le-ltb, ℤ, Option, Some, None, is_none, Result, Ok, List, [], ◌∷◌, ◌++◌, length, take, drop, replicate, suc-mul, mul-le-mul_left, mul_comm, length-drop, length-append, arith}
+use Rattle.std.proofs.Common.{◌≡◌, ◌≢◌, refl, sym, ap, ◌∙◌, ℕ, zero, suc, ◌+◌, ◌*◌, ◌^◌, ◌<◌, ◌≤◌, Bool, false, cond, ltb, le-ltb, ℤ, Option, Some, None, is_none, Result, Ok, List, [], ◌∷◌, ◌++◌, length, take, drop, replicate, mul-le-mul_left, mul_comm, length-drop, length-append, arith, rules}
 use Rattle.std.proofs.lemmas.List.{length-take, length-replicate}
 use Rattle.std.proofs.Math.Nat.{pow-le-pow_right}
 use Rattle.std.specs.Int.{Width, byte_len}
@@ -9,8 +9,7 @@ use Rattle.zf_spec.specs.Grid.{product, blocks, extent_of}
 use Rattle.zf_spec.specs.Planes.{code}
 use Rattle.zf_spec.specs.ReadPlanes.{planes_in}
 use Rattle.zf_spec.specs.Lorenzo.{unlorenzo}
-use Rattle.zf_spec.specs.Lift.{unlift}
-use Rattle.zf_spec.specs.Codes.{coefficients_of, existing_values, count_bits, read_rev, read_rate, read_prec}
+use Rattle.zf_spec.specs.Codes.{coefficients_of, existing_values, count_bits, read_rev, read_prec}
 use Rattle.zf_spec.proofs.Counting.{length-map-upto}
 use Rattle.zf_spec.proofs.Fields.{number-lt}
 use Rattle.zf_spec.proofs.Full.{length-planes_in, planes_in-length}
@@ -40,17 +39,13 @@ record Reads (found : Option (List ℤ × ℕ)) (most : ℕ) : Type 0 where
 
 pub planes_fit : (p size n : ℕ) (s : List Bool) → p ≤ n → length (code (planes_in p size s)) ≤ size * (n + 1)
 planes_fit p size n s few =
-    let same = length-planes_in p size s in
-    let bound = length-code-le size (planes_in p size s) (planes_in-length p size s) in
     let more : size * p ≤ size * n = mul-le-mul_left size few in
-    let count = ap (λ k. size * k) same in
-    omega (arith, bound, more, count)
+    let count = ap (λ k. size * k) (length-planes_in p size s) in
+    omega (arith, (length-code-le size (planes_in p size s) (planes_in-length p size s)), more, count)
 
 -- the number in so many bits at most
 number_small : (k : ℕ) (s : List Bool) → number (take k s) < 2 ^ k
-number_small k s =
-    let count : length (take k s) ≤ k = omega (arith, length-take k s) in
-    omega (arith, number-lt (take k s), pow-le-pow_right {n = 2} (omega arith) count)
+number_small k s = search (rules, length-take, number-lt, pow-le-pow_right)
 
 pub count_fits : (ty : Ty) (s : List Bool) → (number (take (count_bits (width_of ty)) s) + 1 ≤ bits (width_of ty)) × (count_bits (width_of ty) ≤ 6)
 count_fits I32 s = (omega (arith, number_small 5 s), omega arith)
@@ -70,13 +65,7 @@ reads_rev ty es s enough =
 
 reads_prec : (w : Width) (p : ℕ) (es : List ℕ) (s : List Bool) → longest_prec (bits w) (length es) ≤ length s → Reads (read_prec w p es s) (longest_prec (bits w) (length es))
 unfolding read_prec
-reads_prec w p es s enough =
-    let fit = planes_fit (min p (bits w)) (4 ^ length es) (bits w) s (omega arith) in
-    let ps = planes_in (min p (bits w)) (4 ^ length es) s in
-    let len = length (code ps) in
-    let within : ltb (length s) len ≡ false = le-ltb (length s) len (omega (arith, fit)) in
-    let found : List ℤ × ℕ = (existing_values es (unlift w (length es) (coefficients_of w (length es) ps)), len) in
-    record { code = found; is = ap (λ t. cond t None (Some found)) within; fits = fit }
+reads_prec w p es s enough = search (rules, planes_fit, le-ltb)
 
 -- the longest code of a block in a mode
 longest : Ty → Mode → ℕ → ℕ
@@ -87,9 +76,7 @@ longest ty (Precision p) d = longest_prec (bits (width_of ty)) d
 reads_code : (ty : Ty) (mode : Mode) (es : List ℕ) (s : List Bool) → longest ty mode (length es) ≤ length s → Reads (read_code (width_of ty) mode es s) (longest ty mode (length es))
 unfolding longest
 reads_code ty Reversible es s enough = reads_rev ty es s enough
-reads_code ty (Rate b) es s enough =
-    let found : List ℤ × ℕ = (read_rate (width_of ty) es (take b s), b) in
-    record { code = found; is = ap (λ t. cond t None (Some found)) (le-ltb (length s) b enough); fits = omega arith }
+reads_code ty (Rate b) es s enough = grind (arith, le-ltb (length s) b enough)
 reads_code ty (Precision p) es s enough = reads_prec (width_of ty) p es s enough
 
 -- ---- the codes of blocks
@@ -103,11 +90,9 @@ reads_all : (h : Header) (most b n : ℕ) (s : List Bool) → ((k : ℕ) (t : Li
     → n * most ≤ length s → ReadsAll (read_codes h b n s)
 reads_all h most b zero s each enough = record { all = ([], s); is = refl }
 reads_all h most b (suc n) s each enough =
-    let more = suc-mul n most in
     let here = each b s (omega arith) in
     let rest = drop here.code.1 s in
-    let left : n * most ≤ length rest = omega (arith, length-drop here.code.1 s, here.fits) in
-    let behind = reads_all h most (suc b) n rest each left in
+    let behind = reads_all h most (suc b) n rest each (omega (arith, length-drop here.code.1 s, here.fits)) in
     record {
       all = (here.code.0 ∷ behind.all.0, behind.all.1);
       is = read_codes-suc h b n s ∙ ap (λ (c : Option (List ℤ × ℕ)). read_next b s c (read_codes h (suc b) n)) here.is ∙ ap (with_block here.code.0) behind.is;
@@ -115,15 +100,7 @@ reads_all h most b (suc n) s each enough =
 
 longest-is : (h : Header) → longest_code h ≡ longest h.ty h.mode (length h.shape)
 unfolding longest
-longest-is h = by h.mode refl
-  where
-    of : Mode → ℕ
-    of m = longest_code (record { ty = h.ty; shape = h.shape; mode = m })
-
-    by : (m : Mode) → h.mode ≡ m → longest_code (record { ty = h.ty; shape = h.shape; mode = m }) ≡ longest h.ty m (length h.shape)
-    by Reversible e = refl
-    by (Rate b) e = refl
-    by (Precision p) e = refl
+longest-is h = search rules
 
 -- the bits of the longest code are enough for one
 pub enough_for_one : (h : Header) (es : List ℕ) (s : List Bool) → length es ≡ length h.shape → longest_code h ≤ length s → read_code (width_of h.ty) h.mode es s ≢ None

@@ -27,9 +27,7 @@ answer_by h n s short one more = cond short (Err (Truncated (blocks h.shape))) (
 
 answer_is : (h : Header) (used n : ℕ) (s : List Bool) → n ≡ (64 - used % 64) % 64 → fill_answer h used s ≡ answer_by h n s (nat_lt (length s) n) (has_one (take n s)) (nat_lt n (length s))
 unfolding answer_by
-answer_is h used n s is =
-    let F = (64 - used % 64) % 64 in
-    ap (λ m. cond (nat_lt (length s) m) (Err (Truncated (blocks h.shape))) (cond (has_one (take m s)) (Err Pad) (cond (nat_lt m (length s)) (Err Trailing) (Ok tt)))) (sym is)
+answer_is h used n s is = cc
 
 pub fill_short : (h : Header) (used n : ℕ) (s : List Bool) → n ≡ (64 - used % 64) % 64 → length s < n → Err (Truncated (blocks h.shape)) ≡ fill_answer h used s
 unfolding answer_by
@@ -38,28 +36,19 @@ fill_short h used n s is short =
 
 pub fill_one : (h : Header) (used n : ℕ) (s : List Bool) → n ≡ (64 - used % 64) % 64 → n ≤ length s → number (take n s) ≢ 0 → Err Pad ≡ fill_answer h used s
 unfolding answer_by
-fill_one h used n s is within one =
-    sym (answer_is h used n s is ∙ ap (λ t. answer_by h n s t (has_one (take n s)) (nat_lt n (length s))) (le-ltb _ _ within)
-    ∙ ap (λ t. answer_by h n s false t (nat_lt n (length s))) (some_one (take n s) one))
+fill_one h used n s is within one = grind (arith, answer_is h used n s is, some_one (take n s) one)
 
 pub fill_more : (h : Header) (used n : ℕ) (s : List Bool) → n ≡ (64 - used % 64) % 64 → n < length s → number (take n s) ≡ 0 → Err Trailing ≡ fill_answer h used s
 unfolding answer_by
-fill_more h used n s is more none =
-    sym (answer_is h used n s is ∙ ap (λ t. answer_by h n s t (has_one (take n s)) (nat_lt n (length s))) (le-ltb _ _ (omega arith))
-    ∙ ap (λ t. answer_by h n s false t (nat_lt n (length s))) (no_one (take n s) none) ∙ ap (λ t. answer_by h n s false false t) (lt-ltb _ _ more))
+fill_more h used n s is more none = grind (arith, answer_is h used n s is, no_one (take n s) none)
 
 pub fill_good : (h : Header) (used n : ℕ) (s : List Bool) → n ≡ (64 - used % 64) % 64 → n ≡ length s → number (take n s) ≡ 0 → Ok tt ≡ fill_answer h used s
 unfolding answer_by
-fill_good h used n s is all none =
-    sym (answer_is h used n s is ∙ ap (λ t. answer_by h n s t (has_one (take n s)) (nat_lt n (length s))) (le-ltb _ _ (omega arith))
-    ∙ ap (λ t. answer_by h n s false t (nat_lt n (length s))) (no_one (take n s) none) ∙ ap (λ t. answer_by h n s false false t) (le-ltb _ _ (omega arith)))
+fill_good h used n s is all none = grind (arith, answer_is h used n s is, no_one (take n s) none)
 
 -- only the place in the last word counts
 pub fill_place : (h : Header) (a b : ℕ) (s : List Bool) → a % 64 ≡ b % 64 → fill_answer h a s ≡ fill_answer h b s
-fill_place h a b s same =
-    let n = (64 - a % 64) % 64 in
-    let is : n ≡ (64 - b % 64) % 64 = ap (λ k. (64 - k) % 64) same in
-    answer_is h a n s refl ∙ sym (answer_is h b n s is)
+fill_place h a b s same = cc
 
 -- 64 bits tell what all tell
 pub fill_told : (h : Header) (used : ℕ) (s more : List Bool) → 64 ≤ length s → fill_answer h used (s ++ more) ≡ fill_answer h used s

@@ -1,21 +1,16 @@
 -- What reading gives is of the type.
-use Rattle.std.proofs.Common.{◌≡◌, ◌⊎◌, inl, inr, sym, subst, ℕ, zero, suc, ◌*◌, ◌/◌, ◌%◌, ◌^◌, ◌-◌, ◌+◌, ◌<◌, ◌≤◌, min, Bool, true, false, cond, ltb, ℤ, pos, FitsSigned, Some, List, [], map, length, take, drop, get_or, All, arith}
+use Rattle.std.proofs.Common.{◌≡◌, ℕ, zero, suc, ◌*◌, ◌/◌, ◌%◌, ◌^◌, ◌-◌, ◌+◌, ◌<◌, Bool, true, false, cond, ℤ, pos, FitsSigned, Some, List, [], map, length, get_or, All, arith, rules}
 use Rattle.std.proofs.lemmas.Bool.{cases_lt}
 use Rattle.std.proofs.lemmas.List.{get_or_past}
 use Rattle.std.proofs.lemmas.List.Elements.{All-nil, All-get_or, All-map}
-use Rattle.std.specs.List.{position_or_len}
-use Rattle.std.specs.Prelude.{◌==◌}
 use Rattle.std.specs.Int.{Width}
 use mir.Val.{bits}
-use Rattle.zf_spec.specs.Numbers.{wrap, value_of, number}
 use Rattle.zf_spec.specs.Grid.{upto, product, coordinates, indices, is_inside}
-use Rattle.zf_spec.specs.Ranks.{order}
-use Rattle.zf_spec.specs.Lorenzo.{plain_choose, weight, weighted_sum, unlorenzo}
+use Rattle.zf_spec.specs.Lorenzo.{unlorenzo}
 use Rattle.zf_spec.specs.Lift.{unlift_line, line_value, along, along_axes_back, unlift}
-use Rattle.zf_spec.specs.Planes.{digits_in_planes, code}
 use Rattle.zf_spec.specs.Kept.{kept_planes}
 use Rattle.zf_spec.specs.ReadPlanes.{planes_in}
-use Rattle.zf_spec.specs.Codes.{count_bits, coefficients_of, existing_values, read_rev, read_rate, read_prec}
+use Rattle.zf_spec.specs.Codes.{coefficients_of, existing_values, read_rev, read_rate, read_prec}
 use Rattle.zf_spec.proofs.Wrapping.{wrap_fits, zero_fits}
 use Rattle.zf_spec.proofs.Negabinary.{value_of_fits}
 use Rattle.zf_spec.proofs.Padding.{get_or_all}
@@ -48,16 +43,11 @@ module _ (w : Width) where
       by p false = zero_fits w
 
   coefficients_fit : (d : ℕ) (planes : List (List Bool)) → Fit (coefficients_of w d planes)
-  coefficients_fit d planes =
-      let ds = digits_in_planes (bits w) (4 ^ d) planes in
-      placed_fit (λ p. position_or_len (λ q. q == p) (order d)) (4 ^ d) (map (value_of w) ds)
-      (All-map (λ v. FitsSigned w v) (value_of w) ds (λ k e inside. value_of_fits w (get_or ds k e)))
+  coefficients_fit d planes = search (rules, placed_fit, All-map, value_of_fits)
 
   unlorenzo_fits : (d : ℕ) (block : List ℤ) → Fit (unlorenzo w d block)
   unfolding unlorenzo
-  unlorenzo_fits d block =
-      All-map (λ v. FitsSigned w v) (λ m. wrap w (weighted_sum (weight plain_choose d m) 0 block)) (upto (4 ^ d))
-      (λ k e inside. wrap_fits w (weighted_sum (weight plain_choose d (get_or (upto (4 ^ d)) k e)) 0 block))
+  unlorenzo_fits d block = search (rules, All-map, wrap_fits)
 
   -- a line of the inverse lift
   line_fits : (a b c d : ℤ) (i : ℕ) → i < 4 → FitsSigned w (get_or (unlift_line w a b c d) i (pos 0))
@@ -89,21 +79,11 @@ module _ (w : Width) where
 
   rev_fits : (es : List ℕ) (s : List Bool) (block : List ℤ) (k : ℕ) → read_rev w es s ≡ Some (block, k) → Fit block
   unfolding read_rev
-  rev_fits es s block k e =
-      let d = length es in
-      let ps = planes_in (number (take (count_bits w) s) + 1) (4 ^ d) (drop (count_bits w) s) in
-      let len = count_bits w + length (code ps) in
-      let values = existing_values es (unlorenzo w d (coefficients_of w d ps)) in
-      let is = found_some (ltb (length s) len) values block len k e in
-      subst (λ vs. Fit vs) is.same (existing_fit es (unlorenzo w d (coefficients_of w d ps)) (unlorenzo_fits d (coefficients_of w d ps)))
+  rev_fits es s block k e = search (rules, found_some, existing_fit, unlorenzo_fits)
 
   prec_fits : (p : ℕ) (es : List ℕ) (s : List Bool) (block : List ℤ) (k : ℕ) → read_prec w p es s ≡ Some (block, k) → Fit block
   unfolding read_prec
-  prec_fits p es s block k e =
-      let d = length es in
-      let ps = planes_in (min p (bits w)) (4 ^ d) s in
-      let is = found_some (ltb (length s) (length (code ps))) (existing_values es (unlift w d (coefficients_of w d ps))) block (length (code ps)) k e in
-      subst (λ vs. Fit vs) is.same (lifted_fits es ps)
+  prec_fits p es s block k e = search (rules, found_some, lifted_fits)
 
   read_rate_fits : (es : List ℕ) (s : List Bool) → Fit (read_rate w es s)
   unfolding read_rate
@@ -112,19 +92,13 @@ module _ (w : Width) where
   pub code_fits : (mode : Mode) (es : List ℕ) (s : List Bool) (block : List ℤ) (k : ℕ) → read_code w mode es s ≡ Some (block, k) → All (λ v. FitsSigned w v) block
   code_fits Reversible es s block k e = rev_fits es s block k e
   code_fits (Precision p) es s block k e = prec_fits p es s block k e
-  code_fits (Rate b) es s block k e =
-      let is = found_some (ltb (length s) b) (read_rate w es (take b s)) block b k e in
-      subst (λ vs. Fit vs) is.same (read_rate_fits es (take b s))
+  code_fits (Rate b) es s block k e = search (rules, found_some, read_rate_fits)
 
   -- ---- the values of an array
 
   -- a block among those of the type, and an empty one where there is none
   block_fits : (bs : List (List ℤ)) (b : ℕ) → All Fit bs → Fit (get_or bs b [])
-  block_fits bs b fit = by (cases_lt b (length bs))
-    where
-      by : (b < length bs) ⊎ (length bs ≤ b) → Fit (get_or bs b [])
-      by (inl lt) = All-get_or Fit bs b [] lt fit
-      by (inr le) = subst (λ vs. Fit vs) (sym (get_or_past bs b [] le)) (All-nil (λ v. FitsSigned w v))
+  block_fits bs b fit = search (rules, cases_lt, All-get_or, get_or_past, All-nil)
 
   pub joined_fit : (ns : List ℕ) (bs : List (List ℤ)) → All (λ vs. All (λ v. FitsSigned w v) vs) bs → All (λ v. FitsSigned w v) (values_of_blocks ns bs)
   joined_fit ns bs fit =

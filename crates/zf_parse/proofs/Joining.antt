@@ -1,5 +1,5 @@
 -- The blocks of a stream, read one after another.
-use Rattle.std.proofs.Common.{◌≡◌, ℕ, zero, suc, ◌+◌, ◌-◌, ◌<◌, Bool, ℤ, List, [], ◌∷◌, ◌++◌, drop, Option, Some, None, Result, Ok, Err, refl, sym, ap, ◌∙◌, arith}
+use Rattle.std.proofs.Common.{◌≡◌, ℕ, zero, suc, ◌+◌, ◌-◌, ◌<◌, Bool, ℤ, List, [], ◌∷◌, ◌++◌, drop, Option, Some, None, Result, Ok, Err, refl, sym, ap, ◌∙◌, arith, rules}
 use Rattle.std.proofs.lemmas.List.{drop-drop}
 use Rattle.zf_spec.specs.Grid.{blocks, extent_of}
 use Rattle.zf_base.specs.Widths.{width_of}
@@ -25,9 +25,7 @@ with_blocks-both [] cs s = refl
 with_blocks-both (b ∷ bs) cs s = ap (with_block b) (with_blocks-both bs cs s)
 
 pub with_blocks-found : (bs : List (List ℤ)) (r : Result (List (List ℤ) × List Bool) ℕ) (found : List (List ℤ) × List Bool) → with_blocks bs r ≡ Ok found → (rest : List (List ℤ)) × (bs ++ rest ≡ found.0)
-with_blocks-found bs (Ok rest) found e =
-    let is : (bs ++ rest.0, rest.1) ≡ found = cc (with_blocks-both bs rest.0 rest.1, e) in
-    (rest.0, ap (λ (f : List (List ℤ) × List Bool). f.0) is)
+with_blocks-found bs (Ok rest) found e = grind (arith, with_blocks-both bs rest.0 rest.1)
 with_blocks-found bs (Err k) found e = absurd cc (with_blocks-cut bs k, e)
 
 -- ---- the codes in front, and those behind them
@@ -35,9 +33,7 @@ with_blocks-found bs (Err k) found e = absurd cc (with_blocks-cut bs k, e)
 with_block_then : (block : List ℤ) (r q : Result (List (List ℤ) × List Bool) ℕ) (found : List (List ℤ) × List Bool) (behind : List Bool → Result (List (List ℤ) × List Bool) ℕ)
     → ((rest : List (List ℤ) × List Bool) → r ≡ Ok rest → q ≡ with_blocks rest.0 (behind rest.1)) → with_block block r ≡ Ok found → with_block block q ≡ with_blocks found.0 (behind found.1)
 with_block_then block (Err k) q found behind same e = absurd cc
-with_block_then block (Ok rest) q found behind same e =
-    let is : (block ∷ rest.0, rest.1) ≡ found = cc in
-    ap (with_block block) (same rest refl) ∙ ap (λ (f : List (List ℤ) × List Bool). with_blocks f.0 (behind f.1)) is
+with_block_then block (Ok rest) q found behind same e = search rules
 
 read_next_then : (b : ℕ) (s : List Bool) (c : Option (List ℤ × ℕ)) (r q : List Bool → Result (List (List ℤ) × List Bool) ℕ) (found : List (List ℤ) × List Bool) (behind : List Bool → Result (List (List ℤ) × List Bool) ℕ)
     → ((t : List Bool) (rest : List (List ℤ) × List Bool) → r t ≡ Ok rest → q t ≡ with_blocks rest.0 (behind rest.1))
@@ -49,11 +45,7 @@ read_next_then b s (Some code) r q found behind same e =
 
 pub read_codes-then : (h : Header) (b m n : ℕ) (s : List Bool) (found : List (List ℤ) × List Bool) → read_codes h b m s ≡ Ok found
     → read_codes h b (m + n) s ≡ with_blocks found.0 (read_codes h (b + m) n found.1)
-read_codes-then h b zero n s found e =
-    let is : ([], s) ≡ found = cc in
-    let count : 0 + n ≡ n = omega arith in
-    let place : b ≡ b + 0 = omega arith in
-    ap (λ k. read_codes h b k s) count ∙ ap (λ j. read_codes h j n s) place ∙ ap (λ (f : List (List ℤ) × List Bool). with_blocks f.0 (read_codes h (b + 0) n f.1)) is
+read_codes-then h b zero n s found e = search rules
 read_codes-then h b (suc m) n s found e =
     let count : suc m + n ≡ suc (m + n) = omega arith in
     let place : suc b + m ≡ b + suc m = omega arith in
@@ -64,9 +56,7 @@ read_codes-then h b (suc m) n s found e =
 -- a code that ends too early does so with more blocks behind
 with_block_cut : (block : List ℤ) (r q : Result (List (List ℤ) × List Bool) ℕ) (k : ℕ) → (r ≡ Err k → q ≡ Err k) → with_block block r ≡ Err k → with_block block q ≡ Err k
 with_block_cut block (Ok rest) q k same e = absurd cc
-with_block_cut block (Err j) q k same e =
-    let is : j ≡ k = cc in
-    ap (with_block block) (same (ap Err is))
+with_block_cut block (Err j) q k same e = search rules
 
 read_next_cut : (b : ℕ) (s : List Bool) (c : Option (List ℤ × ℕ)) (r q : List Bool → Result (List (List ℤ) × List Bool) ℕ) (k : ℕ) → ((t : List Bool) → r t ≡ Err k → q t ≡ Err k)
     → read_next b s c r ≡ Err k → read_next b s c q ≡ Err k
@@ -84,12 +74,7 @@ read_codes-cut_more h b (suc m) n s k e =
 pub read_codes-next : (h : Header) (b k : ℕ) (s behind : List Bool) (blocks : List (List ℤ)) (block : List ℤ) (left : List Bool) → read_codes h 0 b s ≡ Ok (blocks, behind)
     → read_code (width_of h.ty) h.mode (extent_of h.shape b) behind ≡ Some (block, k) → left ≡ drop k behind → read_codes h 0 (b + 1) s ≡ Ok (blocks ++ block ∷ [], left)
 read_codes-next h b k s behind blocks block left read code is =
-    let place : 0 + b ≡ b = omega arith in
-    read_codes-then h 0 b 1 s (blocks, behind) read
-    ∙ ap (λ j. with_blocks blocks (read_codes h j 1 behind)) place
-    ∙ ap (with_blocks blocks) (read_codes-suc h b 0 behind)
-    ∙ ap (λ found. with_blocks blocks (read_next b behind found (read_codes h (suc b) 0))) code
-    ∙ with_blocks-both blocks (block ∷ []) (drop k behind) ∙ ap (λ (t : List Bool). Ok (blocks ++ block ∷ [], t)) (sym is)
+    grind (arith, read_codes-then h 0 b 1 s (blocks, behind) read, read_codes-suc h b 0 behind, with_blocks-both blocks (block ∷ []) (drop k behind))
 
 -- or none
 pub read_codes-cut : (h : Header) (b n : ℕ) (s behind : List Bool) (blocks : List (List ℤ)) → b < n → read_codes h 0 b s ≡ Ok (blocks, behind)
@@ -105,6 +90,4 @@ read_codes-cut h b n s behind blocks lt read none =
 
 -- what was read is gone from the front
 pub rest_behind : (old new : Reader) (bits : List Bool) → Reads old new bits → rest new ≡ drop (new.at - old.at) (rest old)
-rest_behind old new bits r =
-    let place : old.at + (new.at - old.at) ≡ new.at = omega (arith, r.place) in
-    ap (drop new.at) r.all ∙ ap (λ k. drop k old.all) (sym place) ∙ sym (drop-drop (new.at - old.at) old.at old.all)
+rest_behind old new bits r = grind (arith, drop-drop (new.at - old.at) old.at old.all)

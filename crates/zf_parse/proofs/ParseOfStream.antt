@@ -1,24 +1,20 @@
 -- A stream parses to what its codes say.
-use Rattle.std.proofs.Common.{◌≡◌, refl, sym, ap, ◌∙◌, ℕ, zero, suc, ◌+◌, ◌-◌, ◌%◌, ◌<◌, ◌≤◌, Bool, false, cond, ltb, le-ltb, ℤ, Option, Some, Result, Ok, Err, List, ◌++◌, map, length, take, drop, replicate, append_assoc, length-append, arith}
+use Rattle.std.proofs.Common.{◌≡◌, refl, ap, ◌∙◌, ℕ, zero, suc, ◌+◌, ◌%◌, ◌<◌, ◌≤◌, Bool, false, le-ltb, ℤ, Some, Result, Ok, List, ◌++◌, map, length, take, drop, replicate, append_assoc, length-append, arith, rules}
 use Rattle.std.specs.List.{flat_map}
 use Rattle.std.specs.Result.{result_map_both}
 use Rattle.std.proofs.lemmas.Simd.{map-map}
 use Rattle.std.proofs.lemmas.List.{length-replicate}
 use Rattle.std.proofs.Math.Seq.{take-append_seam, drop-append_seam, take-length}
 use Rattle.zf_spec.specs.Grid.{count_from, upto, blocks, extent_of}
-use Rattle.zf_spec.specs.Planes.{has_one}
 use Rattle.zf_spec.specs.Stream.{fill_len, with_fill, to_bytes, to_bits}
 use Rattle.zf_spec.proofs.Reach.{has_one-zeros}
 use Rattle.zf_spec.proofs.Bytes.{to_bits-to_bytes, length-with_fill}
 use Rattle.zf_base.specs.Widths.{width_of}
 use Rattle.zf_header.specs.declared.header.Header.{Header}
-use Rattle.zf_header.specs.declared.header.HeaderFault.{HeaderFault}
 use Rattle.zf_header.specs.HeaderBits.{IsHeader, BeginsWith, header_bits}
 use Rattle.zf_header.proofs.Spelled.{spelled_is_read, spelled_is_good}
-use Rattle.zf_parse.specs.declared.fault.StreamFault.{StreamFault}
-use Rattle.zf_parse.specs.declared.fault.StreamFault.TheVariants as faults
-use Rattle.zf_parse.specs.Parsing.{read_code, coded_blocks, read_codes, values_of_blocks, fill_answer, header_of, Said, said_behind, parse}
-use Rattle.zf_parse.proofs.Steps.{Coded, blocks_in, with_coded, next_coded, header_or, by_coded, values_in, values_said}
+use Rattle.zf_parse.specs.Parsing.{read_code, coded_blocks, read_codes, values_of_blocks, fill_answer, header_of, Said, parse}
+use Rattle.zf_parse.proofs.Steps.{Coded, blocks_in, values_in, values_said}
 
 -- ---- the codes of blocks, one after another
 
@@ -35,20 +31,13 @@ pub coded_blocks-codes : (h : Header) (code : ℕ → List Bool) (back : ℕ →
     → coded_blocks h b n (end_to_end code (count_from b n) ++ more) ≡ Ok (map (λ k. (code k, back k)) (count_from b n), more)
 coded_blocks-codes h code back b zero more reads = refl
 coded_blocks-codes h code back b (suc n) more reads =
-    let rest = end_to_end code (count_from (suc b) n) in
-    let s = (code b ++ rest) ++ more in
-    let together : s ≡ code b ++ (rest ++ more) = append_assoc (code b) rest more in
-    let w = width_of h.ty in
-    let es = extent_of h.shape b in
-    let behind = coded_blocks h (suc b) n in
-    let here : read_code w h.mode es s ≡ Some (back b, length (code b)) =
-    ap (read_code w h.mode es) together ∙ reads b (omega arith) (omega arith) (rest ++ more) in
-    let this : take (length (code b)) s ≡ code b = ap (take (length (code b))) together ∙ take-append_seam (code b) (rest ++ more) in
-    let left : drop (length (code b)) s ≡ rest ++ more = ap (drop (length (code b))) together ∙ drop-append_seam (code b) (rest ++ more) in
-    ap (λ (c : Option (List ℤ × ℕ)). next_coded b s c behind) here
-    ∙ ap (λ (c : List Bool). with_coded c (back b) (behind (drop (length (code b)) s))) this
-    ∙ ap (λ (t : List Bool). with_coded (code b) (back b) (behind t)) left
-    ∙ ap (with_coded (code b) (back b)) (coded_blocks-codes h code back (suc b) n more (λ k low high. reads k (omega arith) (omega arith)))
+    grind (
+      arith,
+      append_assoc (code b) (end_to_end code (count_from (suc b) n)) more,
+      take-append_seam (code b) ((end_to_end code (count_from (suc b) n)) ++ more),
+      drop-append_seam (code b) ((end_to_end code (count_from (suc b) n)) ++ more),
+      coded_blocks-codes h code back (suc b) n more (λ k low high. reads k (omega arith) (omega arith)),
+    )
 
 -- the blocks alone
 pub read_codes-codes : (h : Header) (code : ℕ → List Bool) (back : ℕ → List ℤ) (b n : ℕ) (more : List Bool)
@@ -62,18 +51,13 @@ read_codes-codes h code back b n more reads =
 
 fill_good : (h : Header) (used n : ℕ) → n ≡ fill_len used → fill_answer h used (replicate n false) ≡ Ok tt
 fill_good h used n is =
-    let s : List Bool = replicate n false in
-    let long : length s ≡ n = length-replicate n false in
-    let Answer : ℕ → Result (Unit {0}) StreamFault = λ fill.
-    cond (ltb (length s) fill) (Err (faults.Truncated (blocks h.shape))) (cond (has_one (take fill s)) (Err faults.Pad) (cond (ltb fill (length s)) (Err faults.Trailing) (Ok tt))) in
-    let enough : ltb (length s) n ≡ false = le-ltb (length s) n (omega (arith, long)) in
-    let no_more : ltb n (length s) ≡ false = le-ltb n (length s) (omega (arith, long)) in
-    let whole : take n s ≡ s = ap (λ k. take k s) (sym long) ∙ take-length s in
-    let clear : has_one (take n s) ≡ false = ap has_one whole ∙ has_one-zeros n in
-    ap Answer (sym is)
-    ∙ ap (λ t. cond t (Err (faults.Truncated (blocks h.shape))) (cond (has_one (take n s)) (Err faults.Pad) (cond (ltb n (length s)) (Err faults.Trailing) (Ok tt)))) enough
-    ∙ ap (λ t. cond t (Err faults.Pad) (cond (ltb n (length s)) (Err faults.Trailing) (Ok tt))) clear
-    ∙ ap (λ t. cond t (Err faults.Trailing) (Ok tt)) no_more
+    cc (
+      length-replicate n false,
+      le-ltb (length (replicate n false)) n (omega (arith, (length-replicate n false))),
+      le-ltb n (length (replicate n false)) (omega (arith, (length-replicate n false))),
+      take-length (replicate n false),
+      has_one-zeros n,
+    )
 
 -- ---- the whole stream
 
@@ -98,18 +82,7 @@ module _ (h : Header) (bytes : List ℕ) (codes : List Bool) (n : ℕ) (is_heade
       → parse bytes ≡ Ok (record { header = h; codes = map (λ c. c.0) found; values = values_of_blocks h.shape (map (λ c. c.1) found) })
   unfolding parse
   parse_bits found fill reads =
-      let prefix = header_bits h in
-      let zeros : List Bool = replicate n false in
-      let all = length (to_bits bytes) in
-      let said : Said = record { header = h; codes = map (λ c. c.0) found; values = values_of_blocks h.shape (map (λ c. c.1) found) } in
-      let Answer : Header → Result Said StreamFault = λ g. said_behind g all (drop (length (header_bits g)) (to_bits bytes)) in
-      let used : all - length zeros ≡ length (prefix ++ codes) = omega (arith, ap length bits, length-append (prefix ++ codes) zeros) in
-      let fill_is_good : fill_answer h (all - length zeros) zeros ≡ Ok tt = ap (λ k. fill_answer h k zeros) used ∙ fill_good h (length (prefix ++ codes)) n fill in
-      ap (λ (f : Option HeaderFault). header_or f (Answer (header_of bytes))) (sym (spelled_is_good bytes h is_header begins))
-      ∙ ap Answer header_is
-      ∙ ap (λ (s : List Bool). said_behind h all s) behind_header
-      ∙ ap (by_coded h all) reads
-      ∙ ap (λ (r : Result (Unit {0}) StreamFault). result_map_both (λ g. said) (λ e. e) r) fill_is_good
+      search (rules, length-append, fill_good, spelled_is_good, begins, header_is, behind_header)
 
 -- the file of a header and codes
 module _ (h : Header) (code : ℕ → List Bool) (is_header : IsHeader h) where
@@ -120,10 +93,7 @@ module _ (h : Header) (code : ℕ → List Bool) (is_header : IsHeader h) where
       to_bits-to_bytes (with_fill bs) whole
 
   pub header_of-file : header_of (to_bytes (with_fill (header_bits h ++ end_to_end code (upto (blocks h.shape))))) ≡ h
-  header_of-file =
-      let codes = end_to_end code (upto (blocks h.shape)) in
-      let n = fill_len (length (header_bits h ++ codes)) in
-      header_is h (to_bytes (with_fill (header_bits h ++ codes))) codes n is_header file_bits
+  header_of-file = search (rules, header_is, file_bits)
 
   pub parse-file : (back : ℕ → List ℤ) → ((b : ℕ) → b < blocks h.shape → ReadsBack h code back b)
       → let bytes = to_bytes (with_fill (header_bits h ++ end_to_end code (upto (blocks h.shape)))) in

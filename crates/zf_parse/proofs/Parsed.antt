@@ -1,5 +1,5 @@
 -- What the bits of bytes say, for the one who has their header.
-use Rattle.std.proofs.Common.{◌≡◌, ℕ, ◌≤◌, Bool, ℤ, List, ◌++◌, length, take, drop, Option, Some, None, Result, Ok, Err, refl, sym, ap, ◌∙◌, subst, length-append, take-take, arith}
+use Rattle.std.proofs.Common.{◌≡◌, ℕ, ◌≤◌, Bool, ℤ, List, ◌++◌, length, take, drop, Option, Some, None, Result, Ok, Err, sym, ap, ◌∙◌, subst, length-append, take-take, arith}
 use Rattle.std.proofs.lemmas.List.{take-append-le}
 use Rattle.std.proofs.lemmas.Grind.{flat_map-append}
 use Rattle.zf_spec.specs.Grid.{blocks}
@@ -16,7 +16,7 @@ use Rattle.zf_header.proofs.Found.{read_is_spelled, read_is_header}
 use Rattle.zf_header.proofs.Spelled.{spelled_is_read, spelled_is_good}
 use Rattle.zf_parse.specs.declared.fault.StreamFault.{StreamFault}
 use Rattle.zf_parse.specs.declared.fault.StreamFault.TheVariants as faults
-use Rattle.zf_parse.specs.Parsing.{Said, header_of, code_bits, read_codes, said_behind, parse, restore_answer}
+use Rattle.zf_parse.specs.Parsing.{header_of, code_bits, read_codes, said_behind, parse, restore_answer}
 use Rattle.zf_parse.proofs.Steps.{values_said, values_said-is, header_or, codes_answer, without_values, restore_answer-values}
 use Rattle.zf_parse.specs.ReadStreams.{BeginsWithHeader}
 
@@ -27,22 +27,12 @@ answer_of fault h bytes s = header_or fault (codes_answer h (length (to_bits byt
 pub parse_is : (bytes : List ℕ) (h : Header) (len : ℕ) → BeginsWithHeader bytes h len
     → values_said bytes ≡ codes_answer h (length (to_bits bytes)) (read_codes h 0 (blocks h.shape) (drop len (to_bits bytes)))
 unfolding answer_of
-parse_is bytes h len begun =
-    let s = to_bits bytes in
-    let behind : code_bits bytes ≡ drop len s = ap (λ g. drop (length (header_bits g)) s) (sym begun.header) ∙ ap (λ n. drop n s) (sym begun.bits_is) in
-    values_said-is bytes ∙ ap (λ fault. answer_of fault (header_of bytes) bytes (code_bits bytes)) begun.good
-    ∙ ap (λ g. answer_of None g bytes (code_bits bytes)) (sym begun.header) ∙ ap (answer_of None h bytes) behind
+parse_is bytes h len begun = cc (values_said-is bytes)
 
 -- and what is said
 pub parse_behind : (bytes : List ℕ) (h : Header) (len : ℕ) → BeginsWithHeader bytes h len → parse bytes ≡ said_behind h (length (to_bits bytes)) (drop len (to_bits bytes))
 unfolding parse
-parse_behind bytes h len begun =
-    let s = to_bits bytes in
-    let all = length s in
-    let Of : Option HeaderFault → Header → List Bool → Result Said StreamFault = λ fault g t. header_or fault (said_behind g all t) in
-    let behind : code_bits bytes ≡ drop len s = ap (λ g. drop (length (header_bits g)) s) (sym begun.header) ∙ ap (λ n. drop n s) (sym begun.bits_is) in
-    ap (λ fault. Of fault (header_of bytes) (code_bits bytes)) begun.good
-    ∙ ap (λ g. Of None g (code_bits bytes)) (sym begun.header) ∙ ap (Of None h) behind
+parse_behind bytes h len begun = cc
 
 -- bytes behind a header change nothing of it
 pub begun_more : (prefix more : List ℕ) (h : Header) (len : ℕ) → BeginsWithHeader prefix h len → BeginsWithHeader (prefix ++ more) h len
@@ -75,8 +65,4 @@ parse_fault n all prefix f within is fault =
 
 -- where an input is a good stream, its header is one
 pub good_header : (bytes : List ℕ) → restore_answer bytes ≡ Ok tt → header_fault bytes ≡ None
-good_header bytes good = by (header_fault bytes) _ (sym (restore_answer-values bytes ∙ ap without_values (values_said-is bytes)) ∙ good)
-  where
-    by : (fault : Option HeaderFault) (rest : Result (List ℤ) StreamFault) → without_values (header_or fault rest) ≡ Ok tt → fault ≡ None
-    by None rest is = refl
-    by (Some f) rest is = absurd (cc)
+good_header bytes good = grind (arith, restore_answer-values bytes, values_said-is bytes, good)

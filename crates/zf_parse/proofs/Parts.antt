@@ -1,16 +1,15 @@
 -- The parts of what a good stream says, and that its values are of its type.
-use Rattle.std.proofs.Common.{◌≡◌, refl, sym, ap, subst, ◌∙◌, ℕ, suc, ◌-◌, Bool, false, cond, is_none, ℤ, FitsSigned, Option, None, Result, Ok, Err, List, [], ◌∷◌, ◌++◌, map, length, replicate, All}
+use Rattle.std.proofs.Common.{◌≡◌, refl, sym, ap, subst, ◌∙◌, ℕ, suc, ◌-◌, Bool, false, cond, is_none, ℤ, FitsSigned, Option, None, Result, Ok, Err, List, [], ◌∷◌, ◌++◌, map, length, replicate, All, rules}
 use Rattle.std.specs.Result.{result_map_both}
 use Rattle.std.proofs.lemmas.List.Elements.{All-nil, All-cons}
 use Rattle.zf_spec.specs.Grid.{product, blocks, extent_of}
-use Rattle.zf_spec.specs.Stream.{to_bits}
 use Rattle.zf_base.specs.Widths.{width_of}
 use Rattle.zf_header.specs.declared.header.Header.{Header}
 use Rattle.zf_header.specs.declared.header.HeaderFault.{HeaderFault}
 use Rattle.zf_header.specs.HeaderFaults.{header_fault}
 use Rattle.zf_parse.specs.declared.fault.StreamFault.{StreamFault}
 use Rattle.zf_parse.specs.Raw.{raw_bytes}
-use Rattle.zf_parse.specs.Parsing.{coded_blocks, read_codes, values_of_blocks, fill_answer, header_of, code_bits, Said, said_behind, parse, longest_codes, restored_text}
+use Rattle.zf_parse.specs.Parsing.{coded_blocks, read_codes, values_of_blocks, fill_answer, header_of, code_bits, Said, parse, longest_codes, restored_text}
 use Rattle.zf_parse.proofs.Steps.{Coded, codes_in, blocks_in, by_coded, values_in, values_said, read_coded, blocks_text}
 use Rattle.zf_parse.proofs.TextOfParse.{header_good, text_of_parse}
 use Rattle.zf_parse.proofs.Enough.{enough_for_all, length-values_of_blocks}
@@ -37,19 +36,12 @@ coded_ok h all (Ok found) it e =
 
 pub parts_of : (bytes : List ℕ) (said : Said) → parse bytes ≡ Ok said → Parts bytes said
 unfolding parse
-parts_of bytes said e =
-    let h = header_of bytes in
-    let all = length (to_bits bytes) in
-    let behind = header_good (header_fault bytes) (said_behind h all (code_bits bytes)) said e in
-    let read = coded_ok h all (coded_blocks h 0 (blocks h.shape) (code_bits bytes)) said behind.1 in
-    record { good = behind.0; found = read.0; read = read.1; is = read.2 }
+parts_of bytes said e = search (rules, header_good, coded_ok)
 
 -- what is restored of a good stream is the raw bytes of its values
 pub text_of_said : (bytes : List ℕ) (said : Said) → parse bytes ≡ Ok said → restored_text bytes ≡ raw_bytes said.header said.values
 unfolding values_said
-text_of_said bytes said e =
-    let header : header_of bytes ≡ said.header = ap (λ (t : Said). t.header) (parts_of bytes said e).is in
-    text_of_parse bytes said.values (ap values_in e) ∙ ap (λ h. raw_bytes h said.values) header
+text_of_said bytes said e = cc ((parts_of bytes said e).is, text_of_parse bytes said.values (ap values_in e))
 
 -- ---- the values are of the type
 

@@ -1,15 +1,13 @@
 -- A code that is cut behind its last bit reads the same, and so it does with any bits behind it.
-use Rattle.std.proofs.Common.{◌≡◌, refl, sym, ap, subst, ◌∙◌, ℕ, ◌+◌, ◌^◌, ◌≤◌, min, Bool, true, false, cond, ltb, ℤ, Option, Some, None, List, [], ◌++◌, length, take, drop, length-drop, take-take, arith}
+use Rattle.std.proofs.Common.{◌≡◌, sym, ap, subst, ◌∙◌, ℕ, ◌+◌, ◌^◌, ◌≤◌, Bool, true, false, cond, ltb, ℤ, Option, Some, None, List, [], ◌++◌, length, take, drop, length-drop, take-take, arith, rules}
 use Rattle.std.specs.Int.{Width}
-use mir.Val.{bits}
 use Rattle.std.proofs.lemmas.Bool.{le-ltb, ltb-false}
 use Rattle.std.proofs.lemmas.List.{append-nil, length-take-le, drop-take}
 use Rattle.zf_spec.specs.Numbers.{number}
 use Rattle.zf_spec.specs.Planes.{code}
 use Rattle.zf_spec.specs.ReadPlanes.{Begins, first_bits, planes_in}
 use Rattle.zf_spec.specs.Lorenzo.{unlorenzo}
-use Rattle.zf_spec.specs.Lift.{unlift}
-use Rattle.zf_spec.specs.Codes.{count_bits, coefficients_of, existing_values, read_rev, read_rate, read_prec}
+use Rattle.zf_spec.specs.Codes.{count_bits, coefficients_of, existing_values, read_rev, read_prec}
 use Rattle.zf_spec.proofs.Beginnings.{begins_is_first, begins_itself, first_bits-append}
 use Rattle.zf_spec.proofs.Full.{length-planes_in, planes_in-length, full_begins, full_only}
 use Rattle.zf_header.specs.declared.header.Mode.{Mode}
@@ -25,9 +23,7 @@ pub record Found {A : Type 0} (short : Bool) (a : A) (n : ℕ) (b : A) (k : ℕ)
 
 pub found_some : {A : Type 0} (short : Bool) (a b : A) (n k : ℕ) → cond {A = Option (A × ℕ)} short None (Some (a, n)) ≡ Some (b, k) → Found short a n b k
 found_some true a b n k e = absurd cc
-found_some {A} false a b n k e =
-    let same : (a, n) ≡ (b, k) = cc in
-    record { enough = refl; same = ap (λ (c : A × ℕ). c.0) same; count = ap (λ (c : A × ℕ). c.1) same }
+found_some {A} false a b n k e = search rules
 
 -- bits that begin others, as far as those go, are their prefix
 begins_take : (a s : List Bool) → length a ≤ length s → Begins a s → a ≡ take (length a) s
@@ -48,10 +44,7 @@ planes_prefix p size s within =
 found_again : {A : Type 0} (of : List (List Bool) → A) (prefix : ℕ) (s t : List Bool) (ps qs : List (List Bool)) (b : A) (k : ℕ) → length t ≡ k → qs ≡ ps → prefix + length (code ps) ≡ k → of ps ≡ b
     → cond {A = Option (A × ℕ)} (ltb (length t) (prefix + length (code qs))) None (Some (of qs, prefix + length (code qs))) ≡ Some (b, k)
 found_again {A} of prefix s t ps qs b k long same count is =
-    let Answer : List (List Bool) → Option (A × ℕ) = λ rs. cond {A = Option (A × ℕ)} (ltb (length t) (prefix + length (code rs))) None (Some (of rs, prefix + length (code rs))) in
-    let enough : ltb (length t) (prefix + length (code ps)) ≡ false = le-ltb (length t) (prefix + length (code ps)) (omega (arith, long, count)) in
-    ap Answer same ∙ ap (λ x. cond {A = Option (A × ℕ)} x None (Some (of ps, prefix + length (code ps)))) enough
-    ∙ ap (λ (a : A). Some (a, prefix + length (code ps))) is ∙ ap (λ n. Some (b, n)) count
+    cc (le-ltb (length t) (prefix + length (code ps)) (omega (arith, long, count)))
 
 read_rev-prefix : (w : Width) (es : List ℕ) (s : List Bool) (block : List ℤ) (k : ℕ) → read_rev w es s ≡ Some (block, k) → read_rev w es (take k s) ≡ Some (block, k)
 unfolding read_rev
@@ -77,29 +70,10 @@ read_rev-prefix w es s block k e =
 read_prec-prefix : (w : Width) (p : ℕ) (es : List ℕ) (s : List Bool) (block : List ℤ) (k : ℕ) → read_prec w p es s ≡ Some (block, k) → read_prec w p es (take k s) ≡ Some (block, k)
 unfolding read_prec
 read_prec-prefix w p es s block k e =
-    let size = 4 ^ length es in
-    let q = min p (bits w) in
-    let ps = planes_in q size s in
-    let of = λ (qs : List (List Bool)). existing_values es (unlift w (length es) (coefficients_of w (length es) qs)) in
-    let is = found_some (ltb (length s) (length (code ps))) (of ps) block (length (code ps)) k e in
-    let enough : length (code ps) ≤ length s = ltb-false (length s) (length (code ps)) is.enough in
-    let t = take k s in
-    let long : length t ≡ k = length-take-le k s (omega (arith, enough, is.count)) in
-    let same : planes_in q size t ≡ ps = ap (λ m. planes_in q size (take m s)) (sym is.count) ∙ planes_prefix q size s enough in
-    let none : (n : ℕ) → 0 + n ≡ n = λ n. omega arith in
-    let Answer : ℕ → Option (List ℤ × ℕ) = λ n. cond {A = Option (List ℤ × ℕ)} (ltb (length t) n) None (Some (of (planes_in q size t), n)) in
-    ap Answer (sym (none (length (code (planes_in q size t))))) ∙ found_again of 0 s t ps (planes_in q size t) block k long same (none (length (code ps)) ∙ is.count) is.same
+    search (rules, found_some, ltb-false, length-take-le, planes_prefix, found_again)
 
 read_rate-prefix : (w : Width) (b : ℕ) (es : List ℕ) (s : List Bool) (block : List ℤ) (k : ℕ) → read_code w (Rate b) es s ≡ Some (block, k) → read_code w (Rate b) es (take k s) ≡ Some (block, k)
-read_rate-prefix w b es s block k e =
-    let is = found_some (ltb (length s) b) (read_rate w es (take b s)) block b k e in
-    let enough : b ≤ length s = ltb-false (length s) b is.enough in
-    let t = take k s in
-    let long : ltb (length t) b ≡ false = le-ltb (length t) b (omega (arith, enough, is.count, length-take-le k s (omega (arith, enough, is.count)))) in
-    let same : take b t ≡ take b s = take-take b k s (omega (arith, is.count)) in
-    ap (λ x. cond {A = Option (List ℤ × ℕ)} x None (Some (read_rate w es (take b t), b))) long
-    ∙ ap (λ (u : List Bool). Some (read_rate w es u, b)) same
-    ∙ ap (λ (v : List ℤ). Some (v, b)) is.same ∙ ap (λ n. Some (block, n)) is.count
+read_rate-prefix w b es s block k e = search (rules, found_some, ltb-false, le-ltb, length-take-le, take-take)
 
 pub read_code-prefix : (w : Width) (mode : Mode) (es : List ℕ) (s : List Bool) (block : List ℤ) (k : ℕ) → read_code w mode es s ≡ Some (block, k) → read_code w mode es (take k s) ≡ Some (block, k)
 read_code-prefix w Reversible es s block k e = read_rev-prefix w es s block k e

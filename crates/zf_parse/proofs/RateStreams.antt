@@ -1,7 +1,7 @@
 -- What a stream of a fixed rate says: each code has as many bits, so it is cut by places alone.
-use Rattle.std.proofs.Common.{◌≡◌, ◌≢◌, refl, sym, ap, ◌∙◌, ℕ, zero, suc, ◌+◌, ◌-◌, ◌*◌, ◌/◌, ◌<◌, ◌≤◌, Bool, true, false, cond, ltb, ℤ, Option, Some, None, Result, Ok, Err, List, [], ◌++◌, map, length, take, drop, length-append, length-drop, arith, suc-mul}
+use Rattle.std.proofs.Common.{◌≡◌, ◌≢◌, refl, sym, ap, ◌∙◌, ℕ, zero, suc, ◌+◌, ◌-◌, ◌*◌, ◌/◌, ◌<◌, ◌≤◌, Bool, true, false, cond, ltb, ℤ, Option, Some, None, Result, Ok, Err, List, [], ◌++◌, map, length, take, drop, length-append, length-drop, arith, suc-mul, rules}
 use Rattle.std.specs.Int.{Width}
-use Rattle.std.proofs.lemmas.Bool.{le-ltb, ltb-true, ltb-false}
+use Rattle.std.proofs.lemmas.Bool.{ltb-true, ltb-false}
 use Rattle.std.proofs.lemmas.List.{take-append-drop, length-take-le, take_at}
 use Rattle.std.proofs.Math.Nat.{div-eq-sub-div, div-eq_of_lt, mul-le-mul_right}
 use Rattle.std.proofs.Math.Seq.{take-add}
@@ -15,7 +15,7 @@ use Rattle.zf_header.specs.declared.header.Mode.TheVariants.{Rate}
 use Rattle.zf_parse.specs.declared.fault.StreamFault.{StreamFault}
 use Rattle.zf_parse.specs.declared.fault.StreamFault.TheVariants as faults
 use Rattle.zf_parse.specs.Parsing.{read_code, read_codes, values_of_blocks, fill_answer, parse}
-use Rattle.zf_parse.proofs.Steps.{with_block, read_next, read_codes-suc, values_or_fault, codes_answer, values_said, values_err}
+use Rattle.zf_parse.proofs.Steps.{read_codes-suc, values_or_fault, codes_answer, values_said, values_err}
 use Rattle.zf_parse.specs.ReadStreams.{BeginsWithHeader}
 use Rattle.zf_parse.proofs.Codes.{joined-more}
 use Rattle.zf_parse.proofs.Fill.{fill_short, fill_one, fill_more}
@@ -44,12 +44,7 @@ length-cut budget n b s long below = length-take-le budget (drop (b * budget) s)
 pub read_code-rate : (h : Header) (budget : ℕ) (es : List ℕ) (code more : List Bool) → h.mode ≡ Rate budget → length code ≡ budget
     → read_code (width_of h.ty) h.mode es (code ++ more) ≡ Some (read_rate (width_of h.ty) es code, length code)
 read_code-rate h budget es code more is long =
-    let w = width_of h.ty in
-    let enough : ltb (length (code ++ more)) budget ≡ false = le-ltb _ _ (omega (arith, length-append code more)) in
-    ap (λ m. read_code w m es (code ++ more)) is
-    ∙ ap (λ t. cond t None (Some (read_rate w es (take budget (code ++ more)), budget))) enough
-    ∙ ap (λ (c : List Bool). Some (read_rate w es c, budget)) (take_at code more budget long)
-    ∙ ap (λ n. Some (read_rate w es code, n)) (sym long)
+    grind (arith, length-append code more, take_at code more budget long)
 
 -- all codes are there
 pub read_codes-rate : (h : Header) (budget : ℕ) (s : List Bool) → h.mode ≡ Rate budget → let n = blocks h.shape in n * budget ≤ length s
@@ -85,18 +80,8 @@ read_codes-cut h budget b (suc n) s is some short = by (ltb (length s) budget) r
     read t e = ap (λ m. read_code w m es s) is ∙ ap code e
 
     by : (t : Bool) → ltb (length s) budget ≡ t → (length (drop budget s) < n * budget → read_codes h (suc b) n (drop budget s) ≡ Err (suc b + length (drop budget s) / budget)) → read_codes h b (suc n) s ≡ Err (b + length s / budget)
-    by true e next =
-        let here : b ≡ b + length s / budget = omega (arith, div-eq_of_lt (ltb-true (length s) budget e)) in
-        read_codes-suc h b n s ∙ ap (λ (c : Option (List ℤ × ℕ)). read_next b s c behind) (read true e) ∙ ap (λ (k : ℕ). Err k) here
-    by false e next =
-        let long : budget ≤ length s = ltb-false (length s) budget e in
-        let left : length (drop budget s) ≡ length s - budget = length-drop budget s in
-        let fewer : length (drop budget s) < n * budget = omega (arith, suc-mul n budget) in
-        let count : suc b + length (drop budget s) / budget ≡ b + length s / budget =
-        ap (λ k. suc b + k / budget) left ∙ omega (arith, div-eq-sub-div some long) in
-        read_codes-suc h b n s ∙ ap (λ (c : Option (List ℤ × ℕ)). read_next b s c behind) (read false e)
-        ∙ ap (with_block (read_rate w es (take budget s))) (next fewer)
-        ∙ ap (λ (k : ℕ). Err k) count
+    by true e next = search (rules, div-eq_of_lt, ltb-true, read_codes-suc)
+    by false e next = search (rules, ltb-false, length-drop, suc-mul, div-eq-sub-div, read_codes-suc)
 
 -- ---- why a stream is none
 
@@ -135,18 +120,12 @@ module _ (bytes : List ℕ) (h : Header) (len budget : ℕ) (begun : BeginsWithH
 
   module _ (within : len ≤ length (to_bits bytes)) (long : blocks h.shape * budget ≤ length (drop len (to_bits bytes))) where
     pub parse_fill_short : length (behind_codes h len budget bytes) < fill_len (len + blocks h.shape * budget) → parse bytes ≡ Err (faults.Truncated (blocks h.shape))
-    parse_fill_short short =
-        parse_fill (faults.Truncated (blocks h.shape)) long
-        (fill_short h _ (fill_len (len + blocks h.shape * budget)) (behind_codes h len budget bytes) (ap fill_len (sym (used_is within long))) short)
+    parse_fill_short short = search (rules, parse_fill, fill_short, used_is)
 
     pub parse_pad : fill_len (len + blocks h.shape * budget) ≤ length (behind_codes h len budget bytes)
         → number (take (fill_len (len + blocks h.shape * budget)) (behind_codes h len budget bytes)) ≢ 0 → parse bytes ≡ Err faults.Pad
-    parse_pad enough one =
-        parse_fill faults.Pad long
-        (fill_one h _ (fill_len (len + blocks h.shape * budget)) (behind_codes h len budget bytes) (ap fill_len (sym (used_is within long))) enough one)
+    parse_pad enough one = search (rules, parse_fill, fill_one, used_is)
 
     pub parse_trailing : fill_len (len + blocks h.shape * budget) < length (behind_codes h len budget bytes)
         → number (take (fill_len (len + blocks h.shape * budget)) (behind_codes h len budget bytes)) ≡ 0 → parse bytes ≡ Err faults.Trailing
-    parse_trailing more none =
-        parse_fill faults.Trailing long
-        (fill_more h _ (fill_len (len + blocks h.shape * budget)) (behind_codes h len budget bytes) (ap fill_len (sym (used_is within long))) more none)
+    parse_trailing more none = search (rules, parse_fill, fill_more, used_is)

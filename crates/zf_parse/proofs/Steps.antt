@@ -1,5 +1,5 @@
 -- What a stream says, step by step: words for proofs, and the definitions in them.
-use Rattle.std.proofs.Common.{◌≡◌, refl, ap, ◌∙◌, ℕ, suc, ◌-◌, Bool, ℤ, Option, Some, None, Result, Ok, Err, List, [], ◌∷◌, map, length, take, drop}
+use Rattle.std.proofs.Common.{◌≡◌, refl, ap, ◌∙◌, ℕ, suc, ◌-◌, Bool, ℤ, Option, Some, None, Result, Ok, Err, List, [], ◌∷◌, map, length, take, drop, rules}
 use Rattle.std.specs.Result.{result_map_both}
 use Rattle.zf_spec.specs.Grid.{blocks, extent_of}
 use Rattle.zf_spec.specs.Stream.{to_bits}
@@ -116,9 +116,7 @@ by_coded h all r = elim r [ Err b ↦ Err (faults.Truncated b) | Ok found ↦ sa
 values_of_coded : (h : Header) (all : ℕ) (r : Result Coded ℕ) → values_in (by_coded h all r) ≡ codes_answer h all (alone r)
 unfolding alone
 values_of_coded h all (Err b) = refl
-values_of_coded h all (Ok found) =
-    let said : Said = record { header = h; codes = codes_in found; values = values_of_blocks h.shape (blocks_in found).0 } in
-    values_with said (fill_answer h (all - length found.1) found.1)
+values_of_coded h all (Ok found) = search (rules, values_with)
 
 -- the values that bits behind a header say are those of their blocks
 pub values_behind : (h : Header) (all : ℕ) (s : List Bool) → values_in (said_behind h all s) ≡ codes_answer h all (read_codes h 0 (blocks h.shape) s)
@@ -139,11 +137,7 @@ values_said-is bytes =
 
 pub restore_answer-values : (bytes : List ℕ) → restore_answer bytes ≡ without_values (values_said bytes)
 unfolding values_said
-restore_answer-values bytes = by (parse bytes)
-  where
-    by : (answer : Result Said StreamFault) → without_said answer ≡ without_values (values_in answer)
-    by (Ok said) = refl
-    by (Err e) = refl
+restore_answer-values bytes = search rules
 
 -- what was said has those values
 pub values_err : (answer : Result Said StreamFault) (e : StreamFault) → values_in answer ≡ Err e → answer ≡ Err e

@@ -1,5 +1,5 @@
 -- What the stream of an array's values parses to.
-use Rattle.std.proofs.Common.{◌≡◌, refl, sym, ap, subst, ◌∙◌, ℕ, ◌*◌, ◌<◌, Bool, ℤ, FitsSigned, Ok, Some, List, ◌++◌, map, length, All, mul_comm}
+use Rattle.std.proofs.Common.{◌≡◌, refl, sym, ap, subst, ◌∙◌, ℕ, ◌*◌, ◌<◌, Bool, ℤ, FitsSigned, Ok, Some, List, ◌++◌, map, length, All, mul_comm, rules}
 use Rattle.std.specs.Int.{byte_len}
 use Rattle.zf_spec.specs.Grid.{product, blocks, upto, extent_of, block_of}
 use Rattle.zf_spec.specs.Codes.{round, round_prec}
@@ -13,7 +13,7 @@ use Rattle.zf_header.specs.declared.header.Mode.TheVariants.{Reversible, Rate, P
 use Rattle.zf_header.specs.HeaderBits.{coding, IsHeader, header_bits}
 use Rattle.zf_parse.specs.Raw.{raw_len, raw_bytes, stream_of, stream_text}
 use Rattle.zf_parse.specs.Parsing.{read_code, values_of_blocks, header_of, said_of, parse, restored_text, restore_answer}
-use Rattle.zf_parse.proofs.Steps.{values_said, without_values, restore_answer-values}
+use Rattle.zf_parse.proofs.Steps.{values_said, restore_answer-values}
 use Rattle.zf_parse.proofs.TextOfParse.{text_of_parse}
 use Rattle.zf_parse.proofs.Joined.{values_of_blocks-blocks}
 use Rattle.zf_parse.proofs.ParseOfStream.{end_to_end, ReadsBack, header_of-file, parse-file}
@@ -66,26 +66,12 @@ module _ (h : Header) (values : List ℤ) (is_header : IsHeader h) where
   -- at a fixed rate what the rate makes of each block
   pub said-rate : (budget : ℕ) → h.mode ≡ Rate budget
       → (values_said (stream_of h values) ≡ Ok (rounded h budget values)) × (parse (stream_of h values) ≡ Ok (said_of h values (rounded h budget values)))
-  said-rate budget mode =
-      said-stream_of (λ b. round (width_of h.ty) budget (extent_of h.shape b) (block_of h.shape values b))
-      (λ b lt more.
-      let w = width_of h.ty in
-      let es = extent_of h.shape b in
-      let block = block_of h.shape values b in
-      let Read : Mode → Type 0 = λ m. read_code w m es (block_code w (coding m) es block ++ more) ≡ Some (round w budget es block, length (block_code w (coding m) es block)) in
-      subst Read (sym mode) (reads_rate w budget es block more))
+  said-rate budget mode = search (rules, said-stream_of, reads_rate)
 
   -- at a fixed precision what the precision makes of each block
   pub said-prec : (p : ℕ) → h.mode ≡ Precision p
       → (values_said (stream_of h values) ≡ Ok (rounded_prec h p values)) × (parse (stream_of h values) ≡ Ok (said_of h values (rounded_prec h p values)))
-  said-prec p mode =
-      said-stream_of (λ b. round_prec (width_of h.ty) p (extent_of h.shape b) (block_of h.shape values b))
-      (λ b lt more.
-      let w = width_of h.ty in
-      let es = extent_of h.shape b in
-      let block = block_of h.shape values b in
-      let Read : Mode → Type 0 = λ m. read_code w m es (block_code w (coding m) es block ++ more) ≡ Some (round_prec w p es block, length (block_code w (coding m) es block)) in
-      subst Read (sym mode) (reads_prec w p es block more))
+  said-prec p mode = search (rules, said-stream_of, reads_prec)
 
 -- ---- raw values
 
@@ -100,10 +86,7 @@ header_of-stream_text h bytes is_header =
 module _ (h : Header) (bytes : List ℕ) (is_header : IsHeader h) where
   said-reversible_text : h.mode ≡ Reversible → values_said (stream_text h bytes) ≡ Ok (values_from (width_of h.ty) (product h.shape) bytes)
   said-reversible_text mode =
-      let w = width_of h.ty in
-      let n = product h.shape in
-      ap values_said (stream_text-values h bytes)
-      ∙ (said-reversible h (values_from w n bytes) is_header mode (length-values_from w n bytes) (values_from_fit w n bytes)).0
+      search (rules, stream_text-values, said-reversible, length-values_from, values_from_fit)
 
   said-rate_text : (budget : ℕ) → h.mode ≡ Rate budget → values_said (stream_text h bytes) ≡ Ok (rounded h budget (values_from (width_of h.ty) (product h.shape) bytes))
   said-rate_text budget mode =
@@ -115,12 +98,8 @@ module _ (h : Header) (bytes : List ℕ) (is_header : IsHeader h) where
 
   -- each stream is good
   pub answer-stream_text : restore_answer (stream_text h bytes) ≡ Ok tt
-  answer-stream_text = restore_answer-values (stream_text h bytes) ∙ by h.mode refl
-    where
-      by : (m : Mode) → h.mode ≡ m → without_values (values_said (stream_text h bytes)) ≡ Ok tt
-      by Reversible mode = ap without_values (said-reversible_text mode)
-      by (Rate b) mode = ap without_values (said-rate_text b mode)
-      by (Precision p) mode = ap without_values (said-prec_text p mode)
+  answer-stream_text =
+      search (rules, restore_answer-values, said-reversible_text, said-rate_text, said-prec_text)
 
   -- what is restored of it is the raw bytes of the values that it parses to
   text-parsed : (values : List ℤ) → values_said (stream_text h bytes) ≡ Ok values → restored_text (stream_text h bytes) ≡ raw_bytes h values

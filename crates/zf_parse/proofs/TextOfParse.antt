@@ -1,17 +1,16 @@
 -- Bits that go on with more bits say the same, where their codes are whole.
-use Rattle.std.proofs.Common.{◌≡◌, refl, sym, ap, ◌∙◌, ℕ, zero, suc, ◌+◌, ◌-◌, ◌^◌, ◌≤◌, min, Bool, true, false, cond, ltb, le-ltb, ℤ, Option, Some, None, Result, Ok, Err, List, [], ◌∷◌, ◌++◌, length, take, drop, replicate, length-drop, length-append, arith}
+use Rattle.std.proofs.Common.{◌≡◌, refl, sym, ap, ◌∙◌, ℕ, zero, suc, ◌+◌, ◌-◌, ◌^◌, ◌≤◌, Bool, true, false, cond, ltb, le-ltb, ℤ, Option, Some, None, Result, Ok, Err, List, [], ◌∷◌, ◌++◌, length, take, drop, replicate, length-drop, length-append, arith, rules}
 use Rattle.std.proofs.lemmas.Bool.{ltb-false}
 use Rattle.std.proofs.lemmas.List.{take-append-le, drop-append-le}
 use Rattle.std.specs.Prelude.{is_none}
 use Rattle.std.specs.Int.{Width}
-use mir.Val.{bits}
 use Rattle.zf_spec.specs.Numbers.{number}
 use Rattle.zf_spec.specs.Grid.{blocks, extent_of}
 use Rattle.zf_spec.specs.Lorenzo.{unlorenzo}
 use Rattle.zf_spec.specs.Lift.{unlift}
 use Rattle.zf_spec.specs.Planes.{code}
 use Rattle.zf_spec.specs.ReadPlanes.{Begins, planes_in}
-use Rattle.zf_spec.specs.Codes.{count_bits, coefficients_of, existing_values, read_rev, read_rate, read_prec}
+use Rattle.zf_spec.specs.Codes.{count_bits, coefficients_of, existing_values, read_rev, read_prec}
 use Rattle.zf_spec.specs.Stream.{to_bits}
 use Rattle.zf_spec.proofs.Full.{length-planes_in, planes_in-length, full_begins, full_only}
 use Rattle.zf_base.specs.Widths.{width_of}
@@ -82,35 +81,14 @@ read_prec_more : (w : Width) (p : ℕ) (es : List ℕ) (s more : List Bool) (fou
     → (read_prec w p es (s ++ more) ≡ Some found) × (found.1 ≤ length s)
 unfolding read_prec prec_of
 read_prec_more w p es s more found e =
-    let size = 4 ^ length es in
-    let ps = planes_in (min p (bits w)) size s in
-    let len = length (code ps) in
-    let parts = cond_some (ltb (length s) len) (prec_of w es ps) found e in
-    let within : len ≤ length s = ltb-false (length s) len parts.0 in
-    let same : planes_in (min p (bits w)) size (s ++ more) ≡ ps = full_more (min p (bits w)) size s more within in
-    let longer : ltb (length (s ++ more)) len ≡ false = le-ltb (length (s ++ more)) len (omega (arith, within, length-append s more)) in
-    let count : len ≡ found.1 = ap (λ (c : List ℤ × ℕ). c.1) parts.1 in (
-      ap (λ (qs : List (List Bool)). cond (ltb (length (s ++ more)) (length (code qs))) None (Some (prec_of w es qs))) same
-          ∙ ap (λ t. cond t None (Some (prec_of w es ps))) longer
-          ∙ ap Some parts.1,
-      omega (arith, within, count),
-    )
+    search (rules, cond_some, prec_of, ltb-false, full_more, le-ltb, length-append)
 
 pub read_code_more : (w : Width) (mode : Mode) (es : List ℕ) (s more : List Bool) (found : List ℤ × ℕ) → read_code w mode es s ≡ Some found
     → (read_code w mode es (s ++ more) ≡ Some found) × (found.1 ≤ length s)
 read_code_more w Reversible es s more found e = read_rev_more w es s more found e
 read_code_more w (Precision p) es s more found e = read_prec_more w p es s more found e
 read_code_more w (Rate b) es s more found e =
-    let answer : List Bool → List ℤ × ℕ = λ t. (read_rate w es t, b) in
-    let parts = cond_some (ltb (length s) b) (answer (take b s)) found e in
-    let within : b ≤ length s = ltb-false (length s) b parts.0 in
-    let longer : ltb (length (s ++ more)) b ≡ false = le-ltb (length (s ++ more)) b (omega (arith, within, length-append s more)) in
-    let bits : b ≡ found.1 = ap (λ (c : List ℤ × ℕ). c.1) parts.1 in (
-      ap (λ (t : List Bool). cond (ltb (length (s ++ more)) b) None (Some (answer t))) (take-append-le b s more within)
-          ∙ ap (λ t. cond t None (Some (answer (take b s)))) longer
-          ∙ ap Some parts.1,
-      omega (arith, within, bits),
-    )
+    search (rules, cond_some, ltb-false, le-ltb, length-append, take-append-le)
 
 -- ---- the codes of all blocks
 
@@ -122,9 +100,7 @@ and_more more found = (found.0, found.1 ++ more)
 with_block_more : (more : List Bool) (block : List ℤ) (r q : Result (List (List ℤ) × List Bool) ℕ) (found : List (List ℤ) × List Bool)
     → ((rest : List (List ℤ) × List Bool) → r ≡ Ok rest → q ≡ Ok (and_more more rest)) → with_block block r ≡ Ok found → with_block block q ≡ Ok (and_more more found)
 with_block_more more block (Err b) q found same e = absurd cc
-with_block_more more block (Ok rest) q found same e =
-    let is : (block ∷ rest.0, rest.1) ≡ found = cc in
-    ap (with_block block) (same rest refl) ∙ ap (λ (f : List (List ℤ) × List Bool). Ok (and_more more f)) is
+with_block_more more block (Ok rest) q found same e = search rules
 
 read_next_more : (b : ℕ) (s more : List Bool) (c d : Option (List ℤ × ℕ)) (behind : List Bool → Result (List (List ℤ) × List Bool) ℕ) (found : List (List ℤ) × List Bool)
     → ((code : List ℤ × ℕ) → c ≡ Some code → (d ≡ Some code) × (code.1 ≤ length s))
@@ -140,9 +116,7 @@ read_next_more b s more (Some code) d behind found same later e =
 
 pub read_codes_more : (h : Header) (b n : ℕ) (s more : List Bool) (found : List (List ℤ) × List Bool) → read_codes h b n s ≡ Ok found
     → read_codes h b n (s ++ more) ≡ Ok (found.0, found.1 ++ more)
-read_codes_more h b zero s more found e =
-    let is : ([], s) ≡ found = cc in
-    ap (λ (f : List (List ℤ) × List Bool). Ok (and_more more f)) is
+read_codes_more h b zero s more found e = cc
 read_codes_more h b (suc n) s more found e =
     let w = width_of h.ty in
     let es = extent_of h.shape b in

@@ -1,5 +1,5 @@
 -- The codes of a stream that are read, each whole, and the first that is short.
-use Rattle.std.proofs.Common.{◌≡◌, ◌⊎◌, inl, inr, refl, sym, ap, subst, ◌∙◌, ℕ, zero, suc, ◌+◌, ◌<◌, ◌≤◌, Bool, false, ℤ, Option, Some, None, Result, Ok, Err, List, [], ◌∷◌, ◌++◌, map, length, take, drop, replicate, append_assoc, length-append, arith}
+use Rattle.std.proofs.Common.{◌≡◌, ◌⊎◌, inl, inr, refl, sym, ap, subst, ◌∙◌, ℕ, zero, suc, ◌+◌, ◌<◌, ◌≤◌, Bool, false, ℤ, Option, Some, None, Result, Ok, Err, List, [], ◌∷◌, ◌++◌, map, length, take, drop, replicate, append_assoc, length-append, arith, rules}
 use Rattle.std.specs.List.{flat_map}
 use Rattle.std.proofs.lemmas.Bool.{cases_lt}
 use Rattle.std.proofs.lemmas.List.{append-nil, take-append-drop, take-append-le, take-take, take_at, length-take-le, length-replicate}
@@ -28,9 +28,7 @@ pub record Whole (h : Header) (b n : ℕ) (s : List Bool) (found : Coded) : Type
   pub bits : s ≡ flat_map (λ c. c) (codes_in found) ++ found.1
 
 pub read_whole : (h : Header) (b n : ℕ) (s : List Bool) (found : Coded) → coded_blocks h b n s ≡ Ok found → Whole h b n s found
-read_whole h b zero s found e =
-    let same : ([], s) ≡ found = cc in
-    subst (λ (f : Coded). Whole h b zero s f) same (record { stand = tt; count = refl; bits = refl })
+read_whole h b zero s found e = search rules
 read_whole h b (suc n) s found e = by (read_code (width_of h.ty) h.mode (extent_of h.shape b) s) refl (λ t rest is. read_whole h (suc b) n t rest is)
   where
     next : Option (List ℤ × ℕ) → Result Coded ℕ
@@ -41,9 +39,8 @@ read_whole h b (suc n) s found e = by (read_code (width_of h.ty) h.mode (extent_
     behind code is (Err k) e2 e3 later = absurd (cc)
     behind code is (Ok rest) e2 e3 later =
         let c = take code.1 s in
-        let t = drop code.1 s in
         let here = read_code_whole (width_of h.ty) h.mode (extent_of h.shape b) s code.0 code.1 is in
-        let inner = later t rest e2 in
+        let inner = later (drop code.1 s) rest e2 in
         let same : ((c, code.0) ∷ rest.0, rest.1) ≡ found = cc in
         let parts : s ≡ (c ++ flat_map (λ x. x) (codes_in rest)) ++ rest.1 =
         sym (take-append-drop code.1 s) ∙ ap (λ (u : List Bool). c ++ u) inner.bits ∙ sym (append_assoc c (flat_map (λ x. x) (codes_in rest)) rest.1) in
@@ -79,10 +76,9 @@ read_short h b (suc n) s k e = by (read_code (width_of h.ty) h.mode (extent_of h
         → coded_blocks h (suc b) n (drop code.1 s) ≡ r → with_coded (take code.1 s) code.0 r ≡ Err k → ((t : List Bool) → coded_blocks h (suc b) n t ≡ Err k → Short h (suc b) n t k) → Short h b (suc n) s k
     behind code is (Ok rest) e2 e3 later = absurd (cc)
     behind code is (Err j) e2 e3 later =
-        let same : j ≡ k = cc in
         let c = take code.1 s in
         let here = read_code_whole (width_of h.ty) h.mode (extent_of h.shape b) s code.0 code.1 is in
-        let inner = later (drop code.1 s) (e2 ∙ ap (λ (i : ℕ). Err i) same) in
+        let inner = later (drop code.1 s) (e2 ∙ ap (λ (i : ℕ). Err i) cc) in
         record {
           codes = c ∷ inner.codes;
           count = omega (arith, inner.count);
@@ -94,18 +90,7 @@ read_short h b (suc n) s k e = by (read_code (width_of h.ty) h.mode (extent_of h
         }
 
     by : (o : Option (List ℤ × ℕ)) → read_code (width_of h.ty) h.mode (extent_of h.shape b) s ≡ o → ((t : List Bool) → coded_blocks h (suc b) n t ≡ Err k → Short h (suc b) n t k) → Short h b (suc n) s k
-    by None is later =
-        let at : Err b ≡ Err k = sym (ap next is) ∙ e in
-        let same : b ≡ k = cc in
-        record {
-          codes = [];
-          count = omega (arith, same);
-          fewer = omega arith;
-          whole = tt;
-          left = s;
-          bits = refl;
-          none = ap (λ j. read_code (width_of h.ty) h.mode (extent_of h.shape j) s) (sym same) ∙ is;
-        }
+    by None is later = search rules
     by (Some code) is later = behind code is (coded_blocks h (suc b) n (drop code.1 s)) refl (sym (ap next is) ∙ e) later
 
 -- ---- and back
@@ -159,12 +144,7 @@ module _ (h : Header) (b : ℕ) (left : List Bool) where
       by : (length left < length code) ⊎ (length code ≤ length left) → length left < length code
       by (inl lt) = lt
       by (inr le) =
-          let k = length code in
-          let first : take k left ≡ code = sym (take-append-le k left more le) ∙ ap (take k) e ∙ take_at code rest k refl in
-          let parts : left ≡ code ++ drop k left = sym (take-append-drop k left) ∙ ap (λ (c : List Bool). c ++ drop k left) first in
-          let found : read_code (width_of h.ty) h.mode (extent_of h.shape b) left ≡ Some (is.0, length code) = ap (read_code (width_of h.ty) h.mode (extent_of h.shape b)) parts ∙ is.1 (drop k left) in
-          let bad : ◌≡◌ {A = Option (List ℤ × ℕ)} None (Some (is.0, length code)) = sym none ∙ found in
-          absurd (cc)
+          grind (arith, take-append-le (length code) left more le, take_at code rest (length code) refl, take-append-drop (length code) left)
 
   -- what is left begins a code, which zeros behind it end
   pub begun_of_none : read_code (width_of h.ty) h.mode (extent_of h.shape b) left ≡ None → (more : List Bool) × IsCode h b (left ++ more)
@@ -177,9 +157,7 @@ module _ (h : Header) (b : ℕ) (left : List Bool) where
       s = left ++ zeros
 
       by : (o : Option (List ℤ × ℕ)) → read_code (width_of h.ty) h.mode (extent_of h.shape b) s ≡ o → (more : List Bool) × IsCode h b (left ++ more)
-      by None e =
-          absurd (enough_for_one h (extent_of h.shape b) (left ++ replicate (longest_code h) false) (length-extent_of h.shape b)
-          (omega (arith, length-append left (replicate (longest_code h) false), length-replicate (longest_code h) false)) e)
+      by None e = search (rules, enough_for_one, length-extent_of, length-append, length-replicate)
       by (Some code) e =
           let k = code.1 in
           let n = length left in

@@ -16,12 +16,11 @@ fn open<T: Lane, const D: usize>(
     file: &[u8],
     lines: u32,
 ) -> Result<ConstArray<T, D>, Fail> {
-    let (h, _) = zf_header::read(file).ok().ok_or("a header")?;
+    let (h, _) = zf_header::read(file)?;
     assert!(rt; h.ty == T::TY);
     assert!(rt; usize::from(h.shape.dims()) == D);
     assert!(rt; 0 < lines && lines <= 65536);
-    let array = ConstArray::from_file(alloc, &h, file.to_vec(alloc)?, lines);
-    Ok(array.ok().ok_or("an array")?)
+    Ok(ConstArray::from_file(alloc, &h, file.to_vec(alloc)?, lines)?)
 }
 
 // A file, the number of lines, a script, what it writes, and how it ends.
@@ -37,6 +36,8 @@ fn all_look<T: Lane, const D: usize>(
         let mut array = open::<T, D>(rt, alloc, file, *lines)?;
         let mut out = MemSink::new(alloc, Vec::new(alloc), 1 << 20);
         assert!(rt; look(&mut array, script, &mut out) == *end && out.bytes() == *text);
+        // Said as a call: the end of a scope would be proved with each part that is given back.
+        drop(array);
     }
     Ok(())
 }
@@ -72,7 +73,7 @@ const SHEET: [u8; 40] = [
 ];
 
 // Streams of int32 in one dimension.
-const LINES: [Row; 6] = [
+static LINES: [Row; 6] = [
     (
         &ONE,
         2,
@@ -112,7 +113,7 @@ const LINES: [Row; 6] = [
 ];
 
 // A stream of int64 in two dimensions.
-const SHEETS: [Row; 1] = [(
+static SHEETS: [Row; 1] = [(
     &SHEET,
     1,
     b"sum\nview 1,0 2x2 2,1\nvget 1,1\nvsum\nslice 1 1\nvget 1,0\nvget 0,1\nget 5,0\n\
@@ -132,6 +133,7 @@ fn a_look_ends_at_a_write_fault(rt: HostRuntime) -> Result<(), Fail> {
     let mut out = MemSink::new(rt.alloc(), [1].to_vec(rt.alloc())?, 1 << 20);
     let mut array = open::<i32, 1>(&rt, rt.alloc(), &ONE, 2)?;
     let end = look(&mut array, b"get 7\nget 0\nget 4\n", &mut out);
+    drop(array);
     assert!(rt; end == RunEnd::Write && out.bytes() == b"1\n".as_slice());
     Ok(())
 }

@@ -37,9 +37,7 @@ fn zeros<T: Lane, const D: usize>(
     rate: (u32, u32),
 ) -> Result<Array<T, D>, Fail> {
     assert!(rt; 1 <= dims && dims <= 4);
-    let shape = Shape::new(dims, sizes[0], sizes[1], sizes[2], sizes[3])
-        .ok()
-        .ok_or("a shape")?;
+    let shape = Shape::new(dims, sizes[0], sizes[1], sizes[2], sizes[3])?;
     assert!(rt; usize::from(shape.dims()) == D);
     let (bits, lines) = rate;
     assert!(rt; 1 <= bits && bits <= 32768 && 0 < lines && lines <= 65536);
@@ -69,6 +67,8 @@ fn all_run<T: Lane, const D: usize>(
         let mut array = zeros::<T, D>(rt, alloc, dims, *sizes, *rate)?;
         assert!(rt; runs(alloc, &mut array, script, text, *end));
         assert!(rt; file.is_empty() || array.save_bytes() == *file);
+        // Said as a call: the end of a scope would be proved with each part that is given back.
+        drop(array);
     }
     Ok(())
 }
@@ -92,7 +92,7 @@ const SHORT: [u8; 24] = [
 ];
 
 // Arrays of int32 in one dimension.
-const LINES: [Row; 18] = [
+static LINES: [Row; 18] = [
     (
         EIGHT,
         (64, 1),
@@ -224,7 +224,7 @@ const LINES: [Row; 18] = [
 ];
 
 // Arrays of int32 in one dimension, and what is done in a split.
-const SPLITS: [Row; 7] = [
+static SPLITS: [Row; 7] = [
     (
         EIGHT,
         (64, 2),
@@ -312,7 +312,7 @@ const SPLITS: [Row; 7] = [
 ];
 
 // Arrays of int32 in two dimensions.
-const SHEETS: [Row; 3] = [
+static SHEETS: [Row; 3] = [
     (
         [4, 4, 1, 1],
         (128, 1),
@@ -342,7 +342,7 @@ const SHEETS: [Row; 3] = [
 ];
 
 // Arrays of int32 in four dimensions.
-const FOUR: [Row; 1] = [(
+static FOUR: [Row; 1] = [(
     [5, 3, 2, 6],
     (1500, 3),
     b"vset 3,0,3,2 1138864728\nvset 2,0,1,0 1317061808\nvset 2,2,1,7 25571273\nadd 2,4,3,2 35959074\n\
@@ -358,7 +358,7 @@ const FOUR: [Row; 1] = [(
 )];
 
 // Arrays of int64 in one dimension.
-const WIDE: [Row; 1] = [(
+static WIDE: [Row; 1] = [(
     [5, 1, 1, 1],
     (100, 2),
     b"add 0 26\nslice 0 1\nset 3 95\nget 2\nvset 0 9223372036854775808\nget 5\nview 1 1 2\ndiscard\n\
@@ -375,7 +375,7 @@ const WIDE: [Row; 1] = [(
 )];
 
 // Arrays of int64 in three dimensions.
-const ROOMS: [Row; 1] = [(
+static ROOMS: [Row; 1] = [(
     [3, 5, 6, 1],
     (700, 2),
     b"vset 0,4,4 -97\nflush\nvset 0,3,4 63\nadd 0,4,0 1680490732736907042\nvsum\nget 1,3,3\n\
@@ -413,6 +413,7 @@ fn a_long_line(rt: HostRuntime) -> Result<(), Fail> {
             RunEnd::Lines(1)
         )
     );
+    drop(array);
     Ok(())
 }
 
@@ -428,13 +429,11 @@ fn is_rate(h: &Header) -> bool
 
 // The array of a file, with one line.
 fn opened(rt: &impl Abort, alloc: Global, file: &[u8]) -> Result<Array<i32, 1>, Fail> {
-    let bytes = file.to_vec(alloc)?;
-    let (h, _) = zf_header::read(&bytes).ok().ok_or("a header")?;
+    let (h, _) = zf_header::read(file)?;
     assert!(rt; is_rate(&h));
     assert!(rt; h.ty == Ty::I32);
     assert!(rt; h.shape.dims() == 1);
-    let array = Array::from_file(alloc, &h, bytes, 1);
-    Ok(array.ok().ok_or("an array")?)
+    Ok(Array::from_file(alloc, &h, file.to_vec(alloc)?, 1)?)
 }
 
 #[test]
@@ -454,6 +453,7 @@ fn a_file_with_bits_that_no_value_needs_stays(rt: HostRuntime) -> Result<(), Fai
         )
     );
     assert!(rt; array.save_bytes() == file.as_slice());
+    drop(array);
     Ok(())
 }
 
@@ -477,7 +477,7 @@ fn fails(
 
 // The call that fails, the most bytes of a call, what is written, and the write-backs: no later line was
 // run, and nothing is flushed.
-const FAILING: [(u64, usize, &[u8], u64); 3] = [
+static FAILING: [(u64, usize, &[u8], u64); 3] = [
     (1, 100, b"1\n", 1),
     (0, 100, b"", 0),
     (3, 1, b"1\n0", 1),
@@ -492,13 +492,14 @@ fn a_sink_fails(rt: HostRuntime) -> Result<(), Fail> {
         assert!(rt; fails(rt.alloc(), &mut array, script, &mut out, text));
         let stats = array.stats();
         assert!(rt; stats.writes == *writes && stats.misses <= 2);
+        drop(array);
     }
     Ok(())
 }
 
 // The call that fails, what is written, and whether something was written back before. The views are
 // dropped as they are.
-const FAILING_SPLITS: [(u64, &[u8], bool); 3] = [
+static FAILING_SPLITS: [(u64, &[u8], bool); 3] = [
     (0, b"", false),
     (1, b"1\n", false),
     (2, b"1\n7\n", true),
@@ -524,6 +525,7 @@ fn a_sink_fails_in_a_split(rt: HostRuntime) -> Result<(), Fail> {
                 RunEnd::Done
             )
         );
+        drop(array);
     }
     Ok(())
 }

@@ -12,7 +12,7 @@ use zf_twoway::TwoWay;
 
 // A script over zeros of int32 16 at 64 bits a block and an empty cache of two lines, what it writes, and
 // how it ends. Blocks 0 and 1 have the first line and the second one alone, block 2 has both.
-const ROWS: [(&[u8], &[u8], RunEnd); 4] = [
+static ROWS: [(&[u8], &[u8], RunEnd); 4] = [
     (
         b"set 0 1\nget 8\nget 0\nstats\n",
         b"0\n1\nhits 1 misses 2 writes 0\n",
@@ -43,7 +43,7 @@ fn ends_so(
     text: &[u8],
     end: RunEnd,
 ) -> Result<(), Fail> {
-    let shape = Shape::new(1, 16, 1, 1, 1).ok().ok_or("a shape")?;
+    let shape = Shape::new(1, 16, 1, 1, 1)?;
     assert!(rt; usize::from(shape.dims()) == 1);
     // Behind the cache: what is made last is dropped in one place, and each costs a proof.
     let mut cache = TwoWay::<i32, 1>::new(alloc, raised(2))?;
@@ -51,13 +51,16 @@ fn ends_so(
     let mut out = MemSink::new(alloc, Vec::new(alloc), 1 << 20);
     assert!(rt; run_two(&mut store, &mut cache, script, &mut out) == end);
     assert!(rt; out.bytes() == text);
+    // Said as calls: the end of a scope would be proved with each part that is given back.
+    drop(store);
+    drop(cache);
     Ok(())
 }
 
 #[test]
 fn scripts_on_three_blocks(rt: HostRuntime) -> Result<(), Fail> {
-    for (script, text, end) in ROWS {
-        ends_so(&rt, rt.alloc(), script, text, end)?;
+    for (script, text, end) in ROWS.iter() {
+        ends_so(&rt, rt.alloc(), script, text, *end)?;
     }
     Ok(())
 }

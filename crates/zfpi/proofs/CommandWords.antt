@@ -1,5 +1,5 @@
 -- Words that are a command are one command's.
-use Rattle.std.proofs.Common.{◌≡◌, ℕ, ◌+◌, ◌*◌, ◌<◌, ◌≤◌, ◌^◌, List, [], ◌∷◌, ◌++◌, map, length, get_or, take, drop, Option, Some, None, codes, decimal, refl, ap, sym, subst, ◌∙◌, arith, append_assoc}
+use Rattle.std.proofs.Common.{◌≡◌, ℕ, ◌+◌, ◌*◌, ◌<◌, ◌≤◌, ◌^◌, List, [], ◌∷◌, ◌++◌, map, length, get_or, take, drop, Option, Some, None, codes, eqb, decimal, refl, ap, sym, subst, ◌∙◌, arith, append_assoc}
 use Rattle.std.specs.Str.{bytes_eq}
 use Rattle.std.proofs.lemmas.Bool.{true≢false}
 use Rattle.std.proofs.lemmas.Fmt.{decimal_injective}
@@ -201,7 +201,7 @@ one_command words (RestoreNarrow m) (RestoreNarrow n) a b =
 one_command words Restore (RestoreNarrow n) a b = absurd (omega (arith, ap length (sym a ∙ b)))
 one_command words (RestoreNarrow m) Restore a b = absurd (omega (arith, ap length (sym a ∙ b)))
 one_command words Info Info a b = refl
-one_command words c d a b = absurd (omega (arith, same_mark c d words a b))
+one_command words c d a b = absurd (true≢false (ap (eqb (mark (first_word c))) (same_mark c d words a b)))
 
 -- ---- prefixes of commands
 pub BeginsCommand-prefix : (words rest : List (List ℕ)) → BeginsCommand (words ++ rest) → BeginsCommand words
@@ -343,12 +343,12 @@ few_compress : (rest words : List (List ℕ)) (c : Command) → words ≡ codes 
 unfolding first_word mark fewest
 few_compress rest words (Compress h) is few spelled = omega (arith, enough_words (Compress h) words spelled, ap length is)
 few_compress rest words (CompressNarrow n h) is few spelled = omega (arith, enough_words (CompressNarrow n h) words spelled, ap length is)
-few_compress rest words c is few spelled = omega (arith, mark_of c words (codes "compress") rest is spelled)
+few_compress rest words c is few spelled = true≢false (ap (eqb (mark (first_word c))) (mark_of c words (codes "compress") rest is spelled))
 
 few_new : (rest words : List (List ℕ)) (c : Command) → words ≡ codes "new" ∷ rest → length rest ≤ 3 → IsSpelled c words → ⊥
 unfolding first_word mark fewest
 few_new rest words (New n t s k) is few spelled = omega (arith, enough_words (New n t s k) words spelled, ap length is)
-few_new rest words c is few spelled = omega (arith, mark_of c words (codes "new") rest is spelled)
+few_new rest words c is few spelled = true≢false (ap (eqb (mark (first_word c))) (mark_of c words (codes "new") rest is spelled))
 
 few_script : (script : Script) (words : List (List ℕ)) (c : Command) → words ≡ script_word script ∷ [] → IsSpelled c words → ⊥
 unfolding first_word mark fewest
@@ -412,12 +412,12 @@ IsLinesWord-number l n word is small text = decimal_injective l n (omega (arith,
 few_bound : (rest words : List (List ℕ)) (c : Command) → words ≡ codes "bound" ∷ rest → length rest ≤ 1 → IsSpelled c words → ⊥
 unfolding first_word mark fewest
 few_bound rest words (Bound n k) is few spelled = omega (arith, enough_words (Bound n k) words spelled, ap length is)
-few_bound rest words c is few spelled = omega (arith, mark_of c words (codes "bound") rest is spelled)
+few_bound rest words c is few spelled = true≢false (ap (eqb (mark (first_word c))) (mark_of c words (codes "bound") rest is spelled))
 
 few_sample : (rest words : List (List ℕ)) (c : Command) → words ≡ codes "sample" ∷ rest → length rest ≤ 2 → IsSpelled c words → ⊥
 unfolding first_word mark fewest
 few_sample rest words (Sample h n) is few spelled = omega (arith, enough_words (Sample h n) words spelled, ap length is)
-few_sample rest words c is few spelled = omega (arith, mark_of c words (codes "sample") rest is spelled)
+few_sample rest words c is few spelled = true≢false (ap (eqb (mark (first_word c))) (mark_of c words (codes "sample") rest is spelled))
 
 -- a whole command leads to its stage alone
 whole_at_end : (words : List (List ℕ)) (stage : Stage) (c : Command) → LeadsTo words stage → IsSpelled c words → (d : Command) × (stage ≡ stages.Whole d)

@@ -12,7 +12,7 @@ use zf_narrow::NarrowFault;
 use zf_stream::StreamFault;
 
 /// How the program ends. Each status but `Done` has a line for the error output.
-#[derive(Clone, Copy, Debug, PartialEq, Eq)]
+#[derive(Clone, Copy, PartialEq, Eq)]
 pub enum Status {
     /// The whole work was done.
     Done,

@@ -65,7 +65,10 @@ fn file_of_store<T: Lane, const D: usize>(
     ensures { IfOk result (λ file. file.items ≡ file_of (zeros T.TY shape bits)) }
 {
     let store = Store::<T, D>::zeros(alloc, shape, bits)?;
-    file_from(alloc, &store)
+    let file = file_from(alloc, &store);
+    // Said as a call: the end of a scope would be proved with each part that is given back.
+    drop(store);
+    file
 }
 
 // The bytes of the file of a store.

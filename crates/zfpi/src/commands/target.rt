@@ -110,9 +110,7 @@ impl<T: Lane, const D: usize> Target<T, D> {
     {
         match self {
             Target::Direct(array) => save(name, array.save_bytes(), status, out, shelf),
-            Target::TwoWay(pair) => {
-                twoway::save_store(name, &pair.store, &mut pair.file, status, out, shelf)
-            }
+            Target::TwoWay(pair) => twoway::save_store(name, pair, status, out, shelf),
             Target::Look(_) => send(status, out),
         }
     }

@@ -60,6 +60,8 @@ pub fn open<T: Lane, const D: usize>(
     let store = Store::from_file(alloc, header, &file)?;
     let blocks = header.shape.blocks();
     let Ok(cache) = TwoWay::for_blocks(alloc, raised(lines), blocks) else {
+        // Said as a call: the end of a scope would be proved with each part that is given back.
+        drop(store);
         return Err(StoreFault::Memory);
     };
     Ok(Opened { store, cache, file })
@@ -69,20 +71,19 @@ pub fn open<T: Lane, const D: usize>(
 /// bytes that are as many.
 pub fn save_store<T: Lane, const D: usize, O: Sink, F: Shelf>(
     name: &Name,
-    store: &Store<T, D>,
-    file: &mut Vec<u8>,
+    pair: &mut Opened<T, D>,
     status: Status,
     out: &mut O,
     shelf: &mut F,
 ) -> Status
-    requires room { vec_len file.old ≡ rate_bytes_of store.now.header }
+    requires room { vec_len pair.old.file ≡ rate_bytes_of pair.old.store.header }
     requires done { IsDone status }
-    ensures closes { Closes O.Sink F.Shelf (Some (name.now, file_of store.now))
+    ensures closes { Closes O.Sink F.Shelf (Some (name.now, file_of pair.old.store))
         status result out.old out.new shelf.old shelf.new }
-    ensures whole { IsStore T.width D store.now }
+    ensures whole { IsStore T.width D pair.old.store }
 {
     // Known by this call: what holds of a store.
-    let _header = store.header();
-    store.write_file(file);
-    save(name, file, status, out, shelf)
+    let _header = pair.store.header();
+    pair.store.write_file(&mut pair.file);
+    save(name, &pair.file, status, out, shelf)
 }

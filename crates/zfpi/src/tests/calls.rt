@@ -30,12 +30,17 @@ pub const WHOLE: Devices = Devices {
 
 pub const BYTES: Devices = Devices { piece: 1, ..WHOLE };
 
-pub const UNREADABLE: Devices = Devices { read: 0, ..WHOLE };
+const UNREADABLE: Devices = Devices { read: 0, ..WHOLE };
 
 /// Both kinds of devices that never fail, for calls that do the same on each.
 ///
 /// Tables are statics: a constant's rows can become steps of the test that names it, and be proved as such.
 pub static BOTH: [Devices; 2] = [WHOLE, BYTES];
+
+/// Devices on which no byte can be read, for one call and for two.
+pub static NO_INPUT: [Devices; 1] = [UNREADABLE];
+
+pub static NO_INPUT_TWICE: [Devices; 2] = [UNREADABLE, UNREADABLE];
 
 /// A call of the program on a shelf that holds `file` as `a`, and how it ends: the status, what is written,
 /// the error line, and the file `a` then.
@@ -109,15 +114,30 @@ pub fn call(
     devices: &Devices,
 ) -> Result<Ended, AllocError> {
     let all = words_of(alloc, words)?;
-    let piece = devices.piece.max(1);
+    let ended = called(alloc, &all, input, file, devices);
+    drop(all);
+    ended
+}
+
+// The same with the words one by one. What may find no memory is made before the devices are.
+fn called(
+    alloc: Global,
+    words: &[String],
+    input: &[u8],
+    file: &[u8],
+    devices: &Devices,
+) -> Result<Ended, AllocError> {
     let bytes = Vec::from_slice(alloc, input)?;
-    let mut src = MemSource::new(bytes, [devices.read].to_vec(alloc)?, piece);
-    let mut out = MemSink::new(alloc, [devices.write].to_vec(alloc)?, piece);
-    let mut err = MemSink::new(alloc, [devices.error].to_vec(alloc)?, piece);
-    let mut shelf = MemShelf::new(alloc, [devices.shelf].to_vec(alloc)?);
-    let _ = shelf.save("a", file);
-    let _ = shelf.save("kept", KEPT);
-    let status = zfpi(alloc, &all, &mut src, &mut out, &mut err, &mut shelf);
+    let read = [devices.read].to_vec(alloc)?;
+    let write = [devices.write].to_vec(alloc)?;
+    let error = [devices.error].to_vec(alloc)?;
+    let fail = [devices.shelf].to_vec(alloc)?;
+    let piece = devices.piece.max(1);
+    let mut src = MemSource::new(bytes, read, piece);
+    let mut out = MemSink::new(alloc, write, piece);
+    let mut err = MemSink::new(alloc, error, piece);
+    let mut shelf = shelf_with(alloc, fail, file);
+    let status = zfpi(alloc, words, &mut src, &mut out, &mut err, &mut shelf);
     Ok(Ended {
         status,
         src,
@@ -125,6 +145,14 @@ pub fn call(
         err,
         shelf,
     })
+}
+
+// A shelf that holds this file as `a`, and the other one.
+fn shelf_with(alloc: Global, fail: Vec<u64>, file: &[u8]) -> MemShelf {
+    let mut shelf = MemShelf::new(alloc, fail);
+    let _ = shelf.save("a", file);
+    let _ = shelf.save("kept", KEPT);
+    shelf
 }
 
 /// These bytes, and zeros behind them up to this length.
@@ -137,5 +165,22 @@ pub fn padded(alloc: Global, prefix: &[u8], len: usize) -> Result<Vec<u8>, Alloc
 /// Whether a call ends as its row says, on these devices.
 pub fn ends_so(alloc: Global, row: &Row, devices: &Devices) -> Result<bool, AllocError> {
     let ended = call(alloc, row.words, row.input, row.file, devices)?;
-    Ok(ended.is_as_said(row) && ended.out.bytes() == row.out)
+    let so = ended.is_as_said(row) && ended.out.bytes() == row.out;
+    // Said as a call: the end of a scope would be proved with each part that is given back.
+    drop(ended);
+    Ok(so)
+}
+
+/// Whether all calls end as their rows say, on each of these devices.
+///
+/// A test hands its table on: what a function says of a table is proved with each byte of it, wherever the
+/// function goes on.
+pub fn all_end_so(alloc: Global, rows: &[Row], on: &[Devices]) -> Result<bool, AllocError> {
+    let mut all = true;
+    for row in rows {
+        for devices in on {
+            all &= ends_so(alloc, row, devices)?;
+        }
+    }
+    Ok(all)
 }

@@ -3,6 +3,7 @@
 use super::calls::{BYTES, Devices, Row, WHOLE, call};
 use super::known::{ONE, OTHER, SIXTEEN, SMALL, TWO, ZERO, ZEROS};
 use crate::status::Status;
+use std::alloc::{AllocError, Global};
 use std::test::Fail;
 use zf_header::HeaderFault;
 
@@ -75,12 +76,20 @@ static FAULTS: [(Devices, Row); 23] = rows! {
         Status::Truncated(1), b"\x01\0\0\0", b"zfpi: stream ends in block 1\n";
 };
 
+// Whether all calls end as their rows say, after one fault of a device.
+fn all_fail_so(alloc: Global, rows: &[(Devices, Row)]) -> Result<bool, AllocError> {
+    let mut all = true;
+    for (devices, row) in rows {
+        let ended = call(alloc, row.words, row.input, row.file, devices)?;
+        all &= ended.is_as_said(row) && ended.out.bytes() == row.out && ended.faults() == 1;
+        drop(ended);
+    }
+    Ok(all)
+}
+
 #[test]
 fn a_device_that_fails_is_told(rt: HostRuntime) -> Result<(), Fail> {
-    for (devices, row) in FAULTS.iter() {
-        let ended = call(rt.alloc(), row.words, row.input, row.file, devices)?;
-        assert!(rt; ended.is_as_said(row) && ended.out.bytes() == row.out && ended.faults() == 1);
-    }
+    assert!(rt; all_fail_so(rt.alloc(), &FAULTS)?);
     Ok(())
 }
 
@@ -138,11 +147,19 @@ static REFUSALS: [(Devices, Row); 25] = rows! {
         b"zfpi: type is not int32\n";
 };
 
+// Whether all calls end as their rows say, and write a prefix of what these say.
+fn all_are_refused(alloc: Global, rows: &[(Devices, Row)]) -> Result<bool, AllocError> {
+    let mut all = true;
+    for (devices, row) in rows {
+        let ended = call(alloc, row.words, row.input, row.file, devices)?;
+        all &= ended.is_as_said(row) && row.out.starts_with(ended.out.bytes());
+        drop(ended);
+    }
+    Ok(all)
+}
+
 #[test]
 fn a_refusal_has_its_line(rt: HostRuntime) -> Result<(), Fail> {
-    for (devices, row) in REFUSALS.iter() {
-        let ended = call(rt.alloc(), row.words, row.input, row.file, devices)?;
-        assert!(rt; ended.is_as_said(row) && row.out.starts_with(ended.out.bytes()));
-    }
+    assert!(rt; all_are_refused(rt.alloc(), &REFUSALS)?);
     Ok(())
 }

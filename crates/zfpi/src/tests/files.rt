@@ -1,6 +1,6 @@
 //! Calls that read nothing, since the file is no array or the command has no input. The file is left alone.
 
-use super::calls::{Row, UNREADABLE, ends_so};
+use super::calls::{NO_INPUT, NO_INPUT_TWICE, Row, all_end_so};
 use super::known::{FILLED, SMALL, TWO, ZERO, ZEROS};
 use crate::status::Status;
 use std::test::Fail;
@@ -75,9 +75,7 @@ static FILES: [Row; 26] = rows! {
 
 #[test]
 fn files_that_are_no_array_are_left_alone(rt: HostRuntime) -> Result<(), Fail> {
-    for row in FILES.iter() {
-        assert!(rt; ends_so(rt.alloc(), row, &UNREADABLE)?);
-    }
+    assert!(rt; all_end_so(rt.alloc(), &FILES, &NO_INPUT)?);
     Ok(())
 }
 
@@ -114,10 +112,6 @@ static SUMS: [Row; 17] = rows! {
 
 #[test]
 fn bounds_and_samples_are_written_alike_at_each_run(rt: HostRuntime) -> Result<(), Fail> {
-    for row in SUMS.iter() {
-        for _ in 0..2 {
-            assert!(rt; ends_so(rt.alloc(), row, &UNREADABLE)?);
-        }
-    }
+    assert!(rt; all_end_so(rt.alloc(), &SUMS, &NO_INPUT_TWICE)?);
     Ok(())
 }

@@ -36,19 +36,34 @@ fn values(alloc: Global, zeros: bool) -> Result<Vec<u8>, AllocError> {
 
 // A program that always said that there is no memory would meet the clauses.
 fn goes_there_and_back(alloc: Global, row: &Large) -> Result<bool, AllocError> {
-    let (words, zeros, prefix, len, exact) = *row;
-    let raw = values(alloc, zeros)?;
+    let raw = values(alloc, row.1)?;
+    let goes = is_made_and_comes_back(alloc, row, &raw);
+    drop(raw);
+    goes
+}
+
+// The same with the raw values.
+fn is_made_and_comes_back(alloc: Global, row: &Large, raw: &[u8]) -> Result<bool, AllocError> {
+    let (words, _, prefix, len, exact) = *row;
     let stream = padded(alloc, prefix, len)?;
-    let made = call(alloc, words, &raw, OTHER, &WHOLE)?;
-    let back = call(alloc, "restore", made.out.bytes(), OTHER, &WHOLE)?;
-    Ok(
-        made.status == Status::Done
-            && made.out.bytes().len() == len
-            && (prefix.is_empty() || made.out.bytes() == stream.as_slice())
-            && back.status == Status::Done
-            && back.out.bytes().len() == raw.len()
-            && (!exact || back.out.bytes() == raw.as_slice()),
-    )
+    let made = call(alloc, words, raw, OTHER, &WHOLE)?;
+    let is_made = made.status == Status::Done
+        && made.out.bytes().len() == len
+        && (prefix.is_empty() || made.out.bytes() == stream.as_slice());
+    let back = comes_back(alloc, made.out.bytes(), raw, exact);
+    drop(made);
+    drop(stream);
+    Ok(is_made && back?)
+}
+
+// Whether a stream is restored as so many bytes, or as exactly these.
+fn comes_back(alloc: Global, stream: &[u8], raw: &[u8], exact: bool) -> Result<bool, AllocError> {
+    let back = call(alloc, "restore", stream, OTHER, &WHOLE)?;
+    let comes = back.status == Status::Done
+        && back.out.bytes().len() == raw.len()
+        && (!exact || back.out.bytes() == raw);
+    drop(back);
+    Ok(comes)
 }
 
 #[test]
@@ -62,15 +77,25 @@ fn large_values_go_there_and_back(rt: HostRuntime) -> Result<(), Fail> {
 const REPLIES: &[u8] =
     b"196608\nhits 0 misses 8192 writes 4096\n-5\nhits 2 misses 8192 writes 4096\n";
 
+// Whether a script is run on such a file.
+fn is_run(alloc: Global, file: &[u8]) -> Result<bool, AllocError> {
+    let script = b"fill 3\nsum\nstats\nset 255,255 -5\nget 255,255\nstats\n";
+    let ended = call(alloc, "run a", script, file, &WHOLE)?;
+    let so = ended.status == Status::Done && ended.out.bytes() == REPLIES;
+    drop(ended);
+    Ok(so)
+}
+
 #[test]
 fn a_large_array_is_made_and_run(rt: HostRuntime) -> Result<(), Fail> {
     let made = call(rt.alloc(), "new a int32 256x256 512", b"", b"", &WHOLE)?;
-    let file = made.shelf.file("a").ok_or("a file")?;
-    let script = b"fill 3\nsum\nstats\nset 255,255 -5\nget 255,255\nstats\n";
-    let ended = call(rt.alloc(), "run a", script, file, &WHOLE)?;
-    assert!(rt;
-        made.status == Status::Done && ended.status == Status::Done && ended.out.bytes() == REPLIES
-    );
+    let is_made = made.status == Status::Done;
+    let ran = match made.shelf.file("a") {
+        Some(file) => is_run(rt.alloc(), file),
+        None => Ok(false),
+    };
+    drop(made);
+    assert!(rt; is_made && ran?);
     Ok(())
 }
 
@@ -86,6 +111,7 @@ fn a_script_that_is_too_long_is_told(rt: HostRuntime) -> Result<(), Fail> {
                 && ended.err.bytes() == b"zfpi: script too long\n".as_slice()
                 && ended.holds(file)
         );
+        drop(ended);
     }
     Ok(())
 }

@@ -1,7 +1,8 @@
 //! `compress`, `restore` and `info`, and the files of `new`: the worked rows of their documentation.
 
-use super::calls::{BOTH, WHOLE, call, padded};
+use super::calls::{BOTH, Devices, WHOLE, call, padded};
 use super::known::{ONE, OTHER, ZERO};
+use std::alloc::{AllocError, Global};
 use std::test::Fail;
 
 type Stream = (&'static str, &'static [u8], &'static [u8], usize);
@@ -75,19 +76,31 @@ static STREAMS: [Stream; 39] = streams! {
     "restore uint16", b"zfp\x05\0\0\0\0\0\0\0\x88`\0\0\0" => b"\0\0", 0;
 };
 
-#[test]
-fn values_and_streams_become_each_other(rt: HostRuntime) -> Result<(), Fail> {
-    for (words, input, out, left) in STREAMS.iter() {
+// Whether all calls write what their rows say, on both kinds of devices.
+fn all_write_so(alloc: Global, rows: &[Stream]) -> Result<bool, AllocError> {
+    let mut all = true;
+    for row in rows {
         for devices in BOTH.iter() {
-            let ended = call(rt.alloc(), words, input, OTHER, devices)?;
-            assert!(rt;
-                ended.is_quiet()
-                    && ended.holds(OTHER)
-                    && ended.out.bytes() == *out
-                    && ended.src.left().len() == *left
-            );
+            all &= writes_so(alloc, row, devices)?;
         }
     }
+    Ok(all)
+}
+
+fn writes_so(alloc: Global, row: &Stream, devices: &Devices) -> Result<bool, AllocError> {
+    let (words, input, out, left) = *row;
+    let ended = call(alloc, words, input, OTHER, devices)?;
+    let so = ended.is_quiet()
+        && ended.holds(OTHER)
+        && ended.out.bytes() == out
+        && ended.src.left().len() == left;
+    drop(ended);
+    Ok(so)
+}
+
+#[test]
+fn values_and_streams_become_each_other(rt: HostRuntime) -> Result<(), Fail> {
+    assert!(rt; all_write_so(rt.alloc(), &STREAMS)?);
     Ok(())
 }
 
@@ -98,7 +111,9 @@ macro_rules! files {
     };
 }
 
-static FILES: [(&str, &str, &[u8], usize); 10] = files! {
+type File = (&'static str, &'static str, &'static [u8], usize);
+
+static FILES: [File; 10] = files! {
     "new a int32 8 64", "a", b"zfp\x05p\0\0\0\0\0\xf0\x03" => 32;
     "new a int32 8 65", "a", b"zfp\x05p\0\0\0\0\0\0\x04" => 32;
     "new kept int32 8 1", "kept", b"zfp\x05p" => 16;
@@ -111,12 +126,21 @@ static FILES: [(&str, &str, &[u8], usize); 10] = files! {
     "new c int64 9x1x9 100", "c", b"zfpE\x89\0\0\0\x80\0\x30\x06" => 128;
 };
 
+// Whether all calls save the files that their rows say.
+fn all_save_so(alloc: Global, rows: &[File]) -> Result<bool, AllocError> {
+    let mut all = true;
+    for (words, name, prefix, len) in rows {
+        let file = padded(alloc, prefix, *len)?;
+        let ended = call(alloc, words, b"", b"before", &WHOLE)?;
+        all &= ended.is_quiet() && ended.shelf.file(name) == Some(file.as_slice());
+        drop(ended);
+        drop(file);
+    }
+    Ok(all)
+}
+
 #[test]
 fn new_saves_zeros(rt: HostRuntime) -> Result<(), Fail> {
-    for (words, name, prefix, len) in FILES.iter() {
-        let ended = call(rt.alloc(), words, b"", b"before", &WHOLE)?;
-        let file = padded(rt.alloc(), prefix, *len)?;
-        assert!(rt; ended.is_quiet() && ended.shelf.file(name) == Some(file.as_slice()));
-    }
+    assert!(rt; all_save_so(rt.alloc(), &FILES)?);
     Ok(())
 }

@@ -3,6 +3,7 @@
 use super::calls::{Devices, Ended, WHOLE, call};
 use super::known::ZEROS;
 use crate::status::Status;
+use std::alloc::{AllocError, Global};
 use std::test::Fail;
 
 // The words, and how many of them begin a command.
@@ -115,16 +116,23 @@ impl Ended {
     }
 }
 
+// Whether all of them are told from commands at their numbers.
+fn all_are_told(alloc: Global, rows: &[(&str, u64)]) -> Result<bool, AllocError> {
+    let mut all = true;
+    for (words, number) in rows {
+        let line = format!(in alloc; "zfpi: usage: word {number}\n")?;
+        let ended = call(alloc, words, SCRIPT, ZEROS, &FAILING)?;
+        all &= ended.status == Status::Usage(*number)
+            && ended.err.bytes() == line.as_bytes()
+            && ended.is_untouched();
+        drop(ended);
+        drop(line);
+    }
+    Ok(all)
+}
+
 #[test]
 fn other_words_are_no_command(rt: HostRuntime) -> Result<(), Fail> {
-    for (words, number) in WORDS.iter() {
-        let ended = call(rt.alloc(), words, SCRIPT, ZEROS, &FAILING)?;
-        let line = format!(in rt.alloc(); "zfpi: usage: word {number}\n")?;
-        assert!(rt;
-            ended.status == Status::Usage(*number)
-                && ended.err.bytes() == line.as_bytes()
-                && ended.is_untouched()
-        );
-    }
+    assert!(rt; all_are_told(rt.alloc(), &WORDS)?);
     Ok(())
 }

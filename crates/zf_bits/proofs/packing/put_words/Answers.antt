@@ -1,4 +1,4 @@
-use Rattle.std.proofs.Common.{◌≡◌, ℕ, ◌+◌, ◌-◌, ◌*◌, ◌/◌, ◌≤◌, List, ◌∷◌, ◌++◌, [], length, take, drop, set, ap, sym, subst, ◌∙◌, arith}
+use Rattle.std.proofs.Common.{◌≡◌, ℕ, ◌+◌, ◌*◌, ◌/◌, ◌≤◌, List, ◌∷◌, ◌++◌, [], length, take, drop, set, ap, sym, subst, ◌∙◌, arith, rules}
 use Rattle.std.proofs.lemmas.List.{take_more_set, take_all, take_rest, length-set, length-drop}
 use Rattle.zf_bits.specs.Packing.{word_of, words_from}
 use Rattle.zf_bits.proofs.Packed.{words_from-more, word_of-eight}
@@ -11,14 +11,7 @@ one_more words bytes i word within so_far is =
     take_more_set words i word (omega arith) ∙ ap (λ (ws : List ℕ). ws ++ word ∷ []) so_far ∙ ap (λ v. words_from i bytes ++ v ∷ []) is ∙ sym (words_from-more i bytes)
 
 pub loop-i-preserved : goal.loop-i-preserved
-loop-i-preserved c =
-    let bytes = c.args.bytes.now in
-    let i = c.loop-i.i in
-    let count : 8 * i + 8 - 8 * i ≡ 8 = omega arith in
-    let word : c.word.result ≡ word_of (drop (8 * i) bytes) =
-    c.word.ensures ∙ ap (λ k. word_of (take k (drop (8 * i) bytes))) count
-    ∙ word_of-eight (drop (8 * i) bytes) (omega (arith, length-drop (8 * i) bytes, c.loop-i-test.true)) in
-    one_more c.loop-i.words bytes i c.word.result (omega (arith, c.loop-i-test.true, c.loop-i.auto.words, c.requires.enough)) c.loop-i.invariant word
+loop-i-preserved c = search (rules, word_of-eight, length-drop, one_more)
 
 pub returns-then-whole-words : goal.returns-then-whole-words
 returns-then-whole-words c =

@@ -1,13 +1,13 @@
-use Rattle.std.proofs.Common.{map, refl, sym, ap, ◌∙◌}
+use Rattle.std.proofs.Common.{map, refl, ap, ◌∙◌}
 use Rattle.zf_spec.specs.HeldPlanes.{planes_held}
 use Rattle.zf_block.proofs.Decoded.{passes_block, lacks_block}
 use Rattle.zf_block.proofs.codec.read_block.Goals as goal
 
-pub returns-in_err-count : goal.returns-in_err-count
-returns-in_err-count g c =
+pub returns-in_err-read : goal.returns-in_err-read
+returns-in_err-read g c =
     let code = c.args.code.now in
     rw c.from_residual.ensures
-    (lacks_block (g.C.BlockCode.len_at code) (g.C.BlockCode.planes_at code) c.args.reader.now c.read.new.reader c.args.d g.row.N c.requires.size c.in_err-count.ensures.0, tt)
+    (lacks_block (g.C.BlockCode.len_at code) (g.C.BlockCode.planes_at code) c.args.reader.now c.read.new.reader c.args.d g.row.N c.requires.size c.in_err-read.ensures.0, tt)
 
 pub returns : goal.returns
 returns g c =
@@ -15,20 +15,8 @@ returns g c =
     let code = c.args.code.now in
     let back = g.C.BlockCode.back d in
     let words = map g.P.Plane.words c.read.new.planes in
-    let read = c.in_ok-count.ensures.1 in (
+    let read = c.in_ok-read.ensures.1 in (
       tt,
       passes_block (g.C.BlockCode.len_at code) (g.C.BlockCode.planes_at code) c.args.reader.now c.read.new.reader d g.row.N c.requires.size
           g.T.Lane.width back _ read.0 (planes_held g.row.N words) read.1 (c.inverse.ensures ∙ ap back (c.from_planes.ensures ∙ rw c.requires.size refl)),
-    )
-
-pub returns-in-Some : goal.returns-in-Some
-returns-in-Some g c =
-    let d = c.args.d in
-    let code = c.args.code.now in
-    let back = g.C.BlockCode.back d in
-    let words = map g.P.Plane.words c.read.new.planes in
-    let read = c.in_ok-count.ensures.1 in (
-      tt,
-      passes_block (g.C.BlockCode.len_at code) (g.C.BlockCode.planes_at code) c.args.reader.now c.read.new.reader d g.row.N c.requires.size
-          g.T.Lane.width back _ read.0 (planes_held g.row.N words) read.1 (c.inverse_of_first.ensures ∙ ap back (sym c.in-Some.ensures ∙ rw c.requires.size refl)),
     )

@@ -1,21 +1,7 @@
 use Rattle.std.proofs.Common.{refl}
-use Rattle.std.specs.Int.{int_wrap}
-use Rattle.std.specs.Fmt.{digits}
-use Rattle.zf_spec.specs.Planes.{digits_in_planes}
-use Rattle.zf_spec.specs.Padding.{pad}
-use Rattle.zf_spec.specs.Lift.{along}
-use Rattle.zf_spec.specs.Lorenzo.{lorenzo, unlorenzo}
-use Rattle.zf_spec.specs.Codes.{existing_values, rate, read_rate, rev_of_planes, rev, read_rev}
-use Rattle.zf_spec.specs.Stream.{header, file}
-use Rattle.zf_base.specs.Formats.{existing_of, meant, encoded, with_at}
-use Rattle.zf_cached.specs.Touch.{write_back, write_back_dirty, write_back_line, hit, miss, touch_at, soiled, with_values}
-use Rattle.zf_cached.specs.Changes.{write_back_lines, emptied, flush, discard, raised, relined, opened, zeros, resized}
-use Rattle.zf_cached.specs.Arrays.{plain_coding, rate_coding, mode_coding, array_format, open_array, codes_of, saved_file, file_bytes}
-use Rattle.zf_cached.specs.Grammar.{candidates, read_line}
-use Rattle.zf_cached.specs.Steps.{touched, changed, changed_at, filled_below, summed, flushed_views, joined, refusal, done, step}
-use Rattle.zf_cached.specs.Runs.{read_step, line_step, run_lines, run_script, ended, run, look, array_setting, plain_setting, look_setting, run_text, run_saved, look_text}
+use Rattle.zf_cached.proofs.Computing.{script_runs}
 use Rattle.zf_cached.proofs.tables.whole_array.Goals as goal
 
 pub returns : goal.returns
-unfolding int_wrap digits pad along digits_in_planes lorenzo unlorenzo existing_values rate read_rate rev_of_planes rev read_rev header file existing_of meant encoded with_at write_back write_back_dirty write_back_line hit miss touch_at soiled with_values write_back_lines emptied flush discard raised relined opened zeros resized plain_coding rate_coding mode_coding array_format open_array codes_of saved_file file_bytes candidates read_line touched changed changed_at filled_below summed flushed_views joined refusal done step read_step line_step run_lines run_script ended run look array_setting plain_setting look_setting run_text run_saved look_text
+unfolding script_runs
 returns c = record { discarded = refl; unused_bits = refl; resized = refl; one_bit = refl; three_bits = refl }

@@ -1,4 +1,5 @@
-use Rattle.std.proofs.Common.{Bool, List, subst, ◌∙◌}
+use Rattle.std.proofs.lemmas.Grind.{common_steps}
+use Rattle.std.proofs.Common.{Bool, List, subst, ◌∙◌, arith}
 use Rattle.std.specs.Prelude.{OnOk, OnErr}
 use Rattle.std.proofs.lemmas.Result.{err_from_is_err_and}
 use Rattle.zf_pad.specs.Slabs.{rows_of}
@@ -50,3 +51,6 @@ returns-clause-ends g c =
     let All : List Bool → Type 0 = λ bs. OnOk r (Flows out1 out2 bs c.write_whole_words-2.new.codes.bits) in
     let Part : List Bool → Type 0 = λ bs. OnErr r (Spills out1 out2 bs) in
     at_end h r c.write_whole_words-2.new.codes.bits done c.in_ok-read_end.ensures.ok.1 written.sink.fault (subst All c.pad_to_word.ensures.bits.bits written.ok) written.few (subst Part c.pad_to_word.ensures.bits.bits written.err)
+
+pub pad_to_word-requires : goal.pad_to_word-requires
+pad_to_word-requires g c = grind (arith, common_steps)

@@ -1,4 +1,5 @@
-use Rattle.std.proofs.Common.{rules, ◌≡◌, ℕ, List, map, length, ap, ◌∙◌}
+use Rattle.std.proofs.lemmas.Grind.{common_steps}
+use Rattle.std.proofs.Common.{rules, ◌≡◌, ℕ, List, map, length, ap, ◌∙◌, arith}
 use Rattle.std.proofs.lemmas.List.{with_items_is, places}
 use Rattle.zf_base.specs.Positions.{used_axes}
 use Rattle.zf_spec.specs.Grid.{extent_of, block_of}
@@ -24,3 +25,6 @@ returns-clause-code g c =
     (ap (λ (xs : List g.row.T.Denot). block_code w (coding h.mode) (used_axes (length h.shape) c.gather_block-e.result.size) (map g.T.Lane.value xs)) same
     ∙ ap (λ (s : List ℕ). block_code w (coding h.mode) s gathered) c.gather_block-e.ensures.size
     ∙ code_same w (coding h.mode) es gathered block (padded_same h.shape c.args.b gathered block c.dims-dims.ensures.shape c.requires.in_array c.gather_block-e.ensures.block))
+
+pub returns-clause-keeps : goal.returns-clause-keeps
+returns-clause-keeps g c = grind (arith, common_steps)

@@ -1,18 +1,13 @@
-use Rattle.std.proofs.Common.{◌≡◌, ◌+◌, ◌≤◌, length, take, arith, sym, ap, ◌∙◌}
+use Rattle.std.proofs.Common.{◌≡◌, ◌≤◌, length, take, arith, sym, ap, ◌∙◌, rules}
 use Rattle.std.proofs.lemmas.List.{length-take-le}
-use Rattle.zf_spec.specs.Numbers.{field, number}
+use Rattle.zf_spec.specs.Numbers.{field}
 use Rattle.zf_spec.proofs.Fields.{field-number}
 use Rattle.zf_bits.specs.Reader.{rest}
 use Rattle.zf_bits.proofs.Reading.{reader_of, take-rest, length-rest, Reads-take, Reads-same}
 use Rattle.zf_bits.proofs.reader.BitReader.read.Goals as goal
 
 pub returns-clause-value : goal.returns-clause-value
-returns-clause-value c =
-    let r = c.self.inside in
-    let left : c.args.n ≤ length (rest c.args.self.now) = omega (arith, c.left.ensures.count, c.from.ensures) in
-    let fits = rw (← c.self.view_is) at left in
-    let within : r.at + c.args.n ≤ r.bits = omega (arith, fits, length-rest r.words.now r.bits r.at c.self.invariant.0, c.self.invariant.1) in
-    rw (← c.self.view_is) (c.get_bits-value.ensures ∙ ap number (sym (take-rest r.words.now r.bits r.at c.args.n within)))
+returns-clause-value c = search (rules, length-rest, take-rest)
 
 pub returns-clause-reads : goal.returns-clause-reads
 returns-clause-reads c =

@@ -1,8 +1,6 @@
-use Rattle.zf_bits.proofs.Reading.{reader_of, Reads-take}
+use Rattle.std.proofs.Common.{rules}
+use Rattle.zf_bits.proofs.Reading.{Reads-take}
 use Rattle.zf_bits.proofs.reader.BitReader.skip.Goals as goal
 
 pub returns : goal.returns
-returns c =
-    let r = c.self.inside in
-    let left = rw (← c.self.view_is) at c.requires in
-    rw (← c.self.view_is) (Reads-take (reader_of r.words.now r.bits r.at) c.args.n left)
+returns c = search (rules, Reads-take)

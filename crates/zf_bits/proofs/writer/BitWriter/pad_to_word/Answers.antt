@@ -1,13 +1,11 @@
-use Rattle.std.proofs.Common.{◌-◌, ◌%◌, length, arith}
+use Rattle.std.proofs.Common.{arith, rules}
 use Rattle.zf_spec.proofs.Fields.{field-zero}
 use Rattle.zf_bits.proofs.Appending.{Appends-same, length-Appends}
 use Rattle.zf_bits.proofs.writer.BitWriter.pad_to_word.Goals as goal
 use Rattle.zf_spec.proofs.Bytes.{fill_whole, fill_short}
 
 pub returns-clause-bits : goal.returns-clause-bits
-returns-clause-bits c =
-    let zeros = field-zero ((64 - length c.args.self.now.bits % 64) % 64) in
-    Appends-same c.write_reserved.ensures.bits (grind arith)
+returns-clause-bits c = search (rules, field-zero, Appends-same)
 
 pub returns-clause-whole : goal.returns-clause-whole
 returns-clause-whole c =

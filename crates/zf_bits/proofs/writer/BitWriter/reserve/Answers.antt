@@ -1,4 +1,4 @@
-use Rattle.std.proofs.Common.{◌≡◌, ◌+◌, ap, ◌∙◌, arith}
+use Rattle.std.proofs.Common.{◌≡◌, ◌+◌, ap, arith, rules}
 use Rattle.zf_bits.specs.Writer.{Writer, room}
 use Rattle.zf_bits.proofs.Written.{IsWritten-resized, bits-resized}
 use Rattle.zf_bits.proofs.writer.BitWriter.reserve.Goals as goal
@@ -11,9 +11,4 @@ invariant_of-self-2 c =
     IsWritten-resized words c.resize.new.self.items len (c.div_ceil-count.result + 1) c.self.inside.words.len c.self.invariant c.in_ok-resize.ensures.items (omega arith) (omega (arith, c.room.ensures, c.div_ceil-count.ensures)) (omega arith)
 
 pub returns-clause-bits : goal.returns-clause-bits
-returns-clause-bits c =
-    let words = c.self.inside.words.items in
-    let len = c.self.inside.len in
-    let spare : room words len ≡ c.args.self.now.room = ap (λ (w : Writer). w.room) c.self.view_is in
-    bits-resized words c.resize.new.self.items len (c.div_ceil-count.result + 1) c.self.inside.words.len c.self.invariant c.in_ok-resize.ensures.items (omega arith) (omega (arith, c.room.ensures, c.div_ceil-count.ensures))
-    ∙ ap (λ (w : Writer). w.bits) c.self.view_is
+returns-clause-bits c = search (rules, bits-resized)

@@ -1,3 +1,4 @@
+use Rattle.std.proofs.lemmas.Grind.{common_steps}
 use Rattle.std.proofs.Common.{◌≡◌, ℕ, ◌+◌, ◌*◌, ◌/◌, ◌<◌, ◌≤◌, List, Bool, ◌++◌, length, take, drop, sym, ap, subst, ◌∙◌, length-append, arith, rules}
 use Rattle.std.proofs.lemmas.Bool.{ltb-false}
 use Rattle.std.proofs.lemmas.List.{with_items_is, places, length-take-le, take-append-le}
@@ -60,3 +61,6 @@ returns-clause-more g c = λ going.
     let some : 0 < length bytes = omega (arith, full, long, c.min-most.ensures, c.requires.room, c.requires.piece, c.len.ensures, room, place) in
     let Longer : List Bool → Type 0 = λ s. length (left_of old) < length s in
     subst Longer (sym (returns-clause-ok g c).bits) (longer (left_of old) bytes some)
+
+pub invariant_of-self : goal.invariant_of-self
+invariant_of-self g c = grind (arith, common_steps)

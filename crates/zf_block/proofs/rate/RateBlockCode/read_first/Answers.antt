@@ -1,0 +1,23 @@
+use Rattle.std.proofs.Common.{ℕ, ◌-◌, ◌∷◌, take, replicate, subst, arith}
+use Rattle.zf_spec.specs.Planes.{planes_of}
+use Rattle.zf_spec.specs.Kept.{kept_planes}
+use Rattle.zf_spec.specs.ReadPlanes.{planes_in}
+use Rattle.zf_coef.specs.HeldDigits.{digits_in}
+use Rattle.zf_bits.specs.Reader.{rest, Reads}
+use Rattle.zf_block.specs.Block.{AreAbove}
+use Rattle.zf_block.proofs.FirstAlone.{rate_first}
+use Rattle.zf_block.proofs.rate.RateBlockCode.read_first.Goals as goal
+
+pub returns-clause-reads : goal.returns-clause-reads
+returns-clause-reads g c =
+    let Passed : ℕ → Type 0 = λ n. Reads c.args.reader.now c.skip.new.self (take n (rest c.args.reader.now)) in
+    record { whole = omega arith; passed = subst Passed c.from-bits.ensures c.skip.ensures }
+
+pub returns-clause-planes : goal.returns-clause-planes
+returns-clause-planes g c =
+    let s = rest c.args.reader.now in
+    let budget = c.args.self.now.bits in
+    let size = c.args.size in
+    let first = c.in_ok-first.first in
+    let Above : ℕ → Type 0 = λ w. AreAbove size (kept_planes budget (planes_in w size (take budget s))) (planes_of w (digits_in w (first.digits ∷ replicate (size - 1) 0))) in
+    subst Above c.WIDTH.ensures (rate_first size c.WIDTH.result first.digits first.len budget s c.requires.size (omega arith) (omega arith) c.in_ok-first.ensures)
