@@ -3,30 +3,36 @@
 
     python3 bench/shorter.py BUILT NAME [FILE..]
 
-BUILT is the top of a clone in which `rt ci` has proved the crates below (bench/over.py). FILE is a part of a path: only such files of
-crates/NAME/proofs are looked at.
+BUILT is the top of a clone in which the crates below are proved: by `rt ci`, or each by `over.py BUILT library` (bench/over.py). FILE is a part of a
+path: only such files of crates/NAME/proofs are looked at.
 
-A clause whose proof takes three lines or more may be one call of a tactic that is told what the proof names. Which, is not known before. So
-copies of the lemma are put beside it, each under a name of its own and with one call as the body of one clause; one check of the crate
-refuses some, and all others hold. Of the calls that hold at a clause the one that says most and is shortest is written. Then the crate is checked
-once more: a lemma that is refused then gets its old text back. It ends with how many lines are gone. Where the crate is proved at
-the end is for `rt ci` to say; imports that nothing uses any more are taken out by `over.py check NAME --fix-imports`.
+A proof, or a part of one, may be one call of a tactic that is told what it names. Where, is not known before. So copies of each lemma are put
+behind it, each under a name of its own and with one part of its text replaced; one check of the crate refuses some, and all others hold.
+Parts are a whole clause, what follows a let, a let's term, a field, a term in brackets over several lines; a let that nothing names is left out.
+`search (rules, NAMES)` holds most often: of 1,284 copies in two crates 71 of 215 where it stood for a clause, 36 of 174 for what follows a let;
+`grind (arith, NAMES)` holds mostly where search does too; `cc`, `simp` and `omega` seldom stand for more than they did.
+
+Of the copies that hold, those that save most lines and do not overlap are written, and the crate is checked again: a lemma that is refused
+then gets fewer of them, and at last its old text. Imports that nothing uses any more go. It ends with how many lines are gone.
 """
 
 import pathlib
 import re
 import subprocess
 import sys
+from dataclasses import dataclass, field
 from typing import NamedTuple
 
 TOP = pathlib.Path(__file__).resolve().parent.parent
 WIDTH = 110
-LEAST_LINES = 3
-MOST_NAMED = 10
+LEAST_LINES = 2
+MOST_NAMED = 8
+MOST_ROUNDS = 8
 OPENING, CLOSING = "([{", ")]}"
 TOKEN = re.compile(r"--[^\n]*|[(){}\[\],;]|[^\s(){}\[\],;]+")
-SIGNATURE = re.compile(r"^(?:pub )?(\S+) : ")
+SIGNATURE = re.compile(r"^( *)(?:pub )?(?!let |--|λ)([^\s:(){}]+) : ")
 IMPORT = re.compile(r"^(?:pub )?use ([^{ ]+?)\.\{(.*)\}$")
+LAMBDA = re.compile(r"\s*λ [^.]*\. ")
 # What ends a term that is applied to arguments.
 BETWEEN = set("∙ ≡ + - * / % ^ < ≤ ++ ∷ && || → × ⊎ in = , ; | ↦ : ≢ at as where".split())
 # Names of the library's that are no facts, or that a tactic knows.
@@ -52,46 +58,100 @@ def indent(line):
     return len(line) - len(line.lstrip(" "))
 
 
-class Lemma(NamedTuple):
-    """A declaration at the outermost level: its lines, and those of each of its clauses."""
+def one_line(text):
+    return " ".join(text.split())
 
+
+def names_a(word, text):
+    """Whether a text names this word."""
+    return re.search(rf"(?<![^\s(\[{{,]){re.escape(word)}(?=[\s.),;\]}}]|$)", text)
+
+
+@dataclass
+class Lemma:
+    """A declaration: its lines, those of each of its clauses, and what may shorten it."""
+
+    path: pathlib.Path
     name: str
     start: int
     end: int
     clauses: list
+    text: str
+    shorter: list = field(default_factory=list)
 
 
-def paragraph_end(lines, start):
-    """Where what begins at a line without indentation ends: before the next such line, or before an empty one with no more behind it."""
+@dataclass
+class Shorter:
+    """A lemma's text with the part from `start` to `end` replaced, which saves lines."""
+
+    lemma: Lemma
+    start: int
+    end: int
+    text: str
+    drops: bool
+    name: str = ""
+
+    def saved(self):
+        return self.lemma.text.count("\n") - self.text.count("\n")
+
+    def in_place(self, text):
+        """What it makes of a text that differs from the lemma's behind it alone."""
+        behind = len(self.lemma.text) - self.end
+        made = self.text[: len(self.text) - behind] if behind else self.text
+        return made + text[self.end :]
+
+
+def paragraph_end(lines, start, depth):
+    """Where what begins at a line that is indented so ends, without the empty lines behind it."""
     end = start + 1
     while end < len(lines):
         behind = end
         while behind < len(lines) and not lines[behind].strip():
             behind += 1
-        if behind == len(lines) or indent(lines[behind]) == 0 and lines[behind][0] not in CLOSING:
+        if behind == len(lines) or indent(lines[behind]) < depth:
+            return end
+        if indent(lines[behind]) == depth and lines[behind].lstrip()[0] not in CLOSING:
             return end
         end = behind + 1
     return end
 
 
-def lemmas_of(lines):
+def lemmas_of(path, lines):
     """The declarations of a file that have a signature and clauses, but for those that compute."""
     found, at = [], 0
     while at < len(lines):
         signature = SIGNATURE.match(lines[at])
-        if not signature or indent(lines[at]):
+        if not signature:
             at += 1
             continue
-        name, start = signature[1], at
-        at, clauses = paragraph_end(lines, at), []
-        while at < len(lines) and (lines[at].startswith("unfolding ") or lines[at].startswith(f"{name} ")):
-            end = paragraph_end(lines, at)
-            if lines[at].startswith(f"{name} "):
+        blank, name, start = signature[1], signature[2], at
+        at, clauses = paragraph_end(lines, at, len(blank)), []
+        while at < len(lines) and lines[at].startswith((f"{blank}unfolding ", f"{blank}{name} ")):
+            end = paragraph_end(lines, at, len(blank))
+            if lines[at].startswith(f"{blank}{name} "):
                 clauses.append((at, end))
             at = end
         if clauses:
-            found.append(Lemma(name, start, at, clauses))
+            found.append(Lemma(path, name, start, at, clauses, "\n".join(lines[start:at])))
+        else:
+            at = start + 1
     return found
+
+
+def facts_of(lines, lemmas):
+    """Names that a tactic may be told: lemmas that are imported or stand in the file."""
+    facts = {it.name for it in lemmas}
+    for line in lines:
+        imported = IMPORT.match(line)
+        if not imported or ".proofs." not in line:
+            continue
+        is_common = imported[1] == "Rattle.std.proofs.Common"
+        for word in re.findall(r"[^\s,{}]+(?: as [^\s,{}]+)?", imported[2]):
+            name = word.split(" as ")[-1]
+            is_fact = "-" in name if is_common else not re.match(r"[A-Z]|◌|.*\.$", name)
+            if is_fact and name not in NO_FACTS:
+                facts.add(name)
+    return facts
 
 
 def body_start(text):
@@ -102,41 +162,6 @@ def body_start(text):
         if it.text == "=" and depth == 0:
             return it.end
     return None
-
-
-def facts_in_scope(lines):
-    """Names that a tactic may be told: lemmas that are imported or stand in the file."""
-    facts = {it.name for it in lemmas_of(lines)}
-    for line in lines:
-        imported = IMPORT.match(line)
-        if not imported or ".proofs." not in imported[1]:
-            continue
-        is_common = imported[1] == "Rattle.std.proofs.Common"
-        for word in imported[2].split(","):
-            name = word.strip().split(" as ")[-1]
-            is_fact = "-" in name if is_common else not re.match(r"[A-Z]|◌", name)
-            if is_fact and name not in NO_FACTS:
-                facts.add(name)
-    return facts
-
-
-class Let(NamedTuple):
-    name: str
-    term: str
-
-
-def lets_of(text, start):
-    """The lets that a body begins with, by name and term."""
-    found, all_of = [], tokens(text, start)
-    at = 0
-    while at < len(all_of) and all_of[at].text == "let":
-        equals = next_at(all_of, at + 1, "=")
-        ends = next_at(all_of, equals + 1, "in") if equals else None
-        if not ends:
-            break
-        found.append(Let(all_of[at + 1].text, one_line(text[all_of[equals].end : all_of[ends].start])))
-        at = ends + 1
-    return found
 
 
 def next_at(all_of, at, word):
@@ -151,28 +176,40 @@ def next_at(all_of, at, word):
     return None
 
 
-def one_line(text):
-    return " ".join(text.split())
+class Let(NamedTuple):
+    name: str
+    start: int
+    term: tuple
+    end: int
+    is_typed: bool
 
 
-def bound_in(text, start):
-    """Names that a λ binds anywhere: a fact about one of them can't be told."""
-    names = set()
-    for it in re.finditer(r"λ ((?:\([^)]*\) ?|[^.\s]+ ?)+)\.", text[start:]):
-        names |= {word.text for word in tokens(it[1])}
-    return names
+def lets_of(text, start, end):
+    """The lets that a term begins with, and where what stands behind them begins."""
+    found, all_of, at = [], tokens(text, start, end), 0
+    while at < len(all_of) and all_of[at].text == "let":
+        equals = next_at(all_of, at + 1, "=")
+        ends = next_at(all_of, equals + 1, "in") if equals else None
+        if not ends:
+            break
+        term = all_of[equals].end, all_of[ends].start
+        found.append(Let(all_of[at + 1].text, all_of[at].start, term, all_of[ends].end, all_of[at + 2].text == ":"))
+        at = ends + 1
+    return found, all_of[at].start if at < len(all_of) else end
 
 
-def applied(text, start, facts):
-    """Facts as they are applied in a body, with lets written out, and their names."""
-    lets, bound = lets_of(text, start), bound_in(text, start)
-    all_of, names, terms = tokens(text, start), [], []
+def applied(text, start, end, facts):
+    """The names of the facts in a part, and the facts as they are applied there, but for those about what a λ or a let of the part binds."""
+    bound = {it.name for it in lets_of(text, start, end)[0]}
+    for it in re.finditer(r"λ ((?:\([^)]*\) ?|[^.\s]+ ?)+)\.", text[start:end]):
+        bound |= {word.text for word in tokens(it[1])}
+    all_of, names, terms = tokens(text, start, end), [], []
     for number, it in enumerate(all_of):
         if it.text not in facts:
             continue
         names += [it.text] if it.text not in names else []
-        term = written_out(one_line(text[it.start : argument_end(all_of, number)]), lets)
-        if term and term not in terms and not {word.text.split(".")[0] for word in tokens(term)} & (bound | {"?", "_"}):
+        term = one_line(text[it.start : argument_end(all_of, number)])
+        if term not in terms and not {word.text.split(".")[0] for word in tokens(term)} & (bound | {"?", "_"}):
             terms.append(term)
     return names[:MOST_NAMED], terms[:MOST_NAMED]
 
@@ -188,145 +225,214 @@ def argument_end(all_of, number):
     return end
 
 
-def written_out(term, lets):
-    """A term in which each let's name is replaced by its term, or None where that gets long."""
-    for let in reversed(lets):
-        inner = let.term if " " not in let.term else f"({let.term})"
-        term = re.sub(rf"(?<![^\s(]){re.escape(let.name)}(?=[\s.)]|$)", lambda _: inner, term)
-        if len(term) > WIDTH:
-            return None
-    return term
+class Shortener:
+    """Finds the parts of a lemma for which a call may stand."""
+
+    def __init__(self, lemma, facts):
+        self.lemma, self.text, self.facts = lemma, lemma.text, facts - {lemma.name}
+        self.widest = max(WIDTH, *map(len, lemma.text.split("\n")))
+        self.seen = set()
+
+    def run(self, offsets):
+        for start, end in offsets:
+            start += body_start(self.text[start:end]) or end
+            self.part(start, end, least=LEAST_LINES, may_count=True)
+            if self.text[start:end].strip().count("\n") >= 2:
+                self.behind_lets(start, end)
+                self.in_brackets(start, end)
+
+    def part(self, start, end, least, may_count=False):
+        """Tries calls in place of a part."""
+        while start < end and self.text[start] in " \n":
+            start += 1
+        while end > start and self.text[end - 1] in " \n":
+            end -= 1
+        part = self.text[start:end]
+        if (start, end) in self.seen or part.count("\n") + 1 < least:
+            return
+        self.seen.add((start, end))
+        names, terms = applied(self.text, start, end, self.facts)
+        self.add(start, end, f"search (rules, {', '.join(names)})" if names else "search rules")
+        if may_count and re.search("omega|≤", part) and not re.search("record|λ", part):
+            self.add(start, end, f"omega (arith, {', '.join(terms)})" if terms else "omega arith")
+
+    def add(self, start, end, call):
+        made = self.with_call(start, end, call)
+        if made and made.count("\n") < self.text.count("\n"):
+            self.lemma.shorter.append(Shorter(self.lemma, start, end, made, drops=False))
+
+    def with_call(self, start, end, call):
+        """The text with this call in place of a part, or None where it is too wide."""
+        head, behind = self.text[:start].rstrip(" \n"), self.text[end:]
+        last, tail = head.rsplit("\n", 1)[-1], behind.split("\n", 1)[0]
+        gap = "" if head[-1] in OPENING else " "
+        if len(last) + 1 + len(call) + len(tail) <= self.widest:
+            return f"{head}{gap}{call}{behind}"
+        line = self.text.rfind("\n", 0, start) + 1
+        depth = start - line if not self.text[line:start].strip() else indent(last) + 4
+        return f"{head}\n{' ' * depth}{call}{behind}" if depth + len(call) + len(tail) <= self.widest else None
+
+    def behind_lets(self, start, end):
+        """Parts from a let on, the terms of lets, and lets that nothing names."""
+        lets, last = lets_of(self.text, start, end)
+        if not lets:
+            return
+        for number in sorted({1, len(lets) // 2, len(lets)}):
+            self.part(lets[number].start if number < len(lets) else last, end, least=2 if number < len(lets) else 3)
+        for it in lets:
+            if it.is_typed:
+                self.part(*it.term, least=2)
+            if not names_a(it.name, self.text[it.end : end]):
+                behind = it.end + len(self.text[it.end : end]) - len(self.text[it.end : end].lstrip(" \n"))
+                made = self.text[: it.start] + self.text[behind:]
+                self.lemma.shorter.append(Shorter(self.lemma, it.start, behind, made, drops=True))
+
+    def in_brackets(self, start, end):
+        opened = []
+        for it in tokens(self.text, start, end):
+            if it.text in OPENING:
+                opened.append(it)
+            elif it.text in CLOSING and opened:
+                first = opened.pop()
+                if first.text == "(" and self.text[first.end : it.start].count("\n") >= 2:
+                    inner = LAMBDA.match(self.text, first.end, it.start)
+                    at = inner.end() if inner else first.end
+                    self.part(at, it.start, least=3)
+                    self.behind_lets(at, it.start)
+                if first.text == "{" and self.text[: first.start].rstrip().endswith("record"):
+                    self.fields(first.end, it.start)
+
+    def fields(self, start, end):
+        depth, begins = 0, [start]
+        ends = []
+        for it in tokens(self.text, start, end):
+            depth += (it.text in OPENING) - (it.text in CLOSING)
+            if depth == 0 and it.text == ";":
+                ends.append(it.start)
+                begins.append(it.end)
+        for first, last in zip(begins, [*ends, end]):
+            words = tokens(self.text, first, last)
+            if len(words) > 2 and words[1].text in ("=", ":"):
+                self.part(words[1].end, last, least=2)
+                inner = LAMBDA.match(self.text, words[1].end, last)
+                at = inner.end() if inner else words[1].end
+                self.part(at, last, least=2)
+                self.behind_lets(at, last)
 
 
-def calls_for(text, start, facts):
-    """The calls that may prove a clause, the best first."""
-    names, terms = applied(text, start, facts)
-    calls = ["cc"]
-    if terms:
-        listed = ", ".join(terms)
-        calls += [f"cc ({listed})", f"grind (arith, {listed})"]
-    calls += [f"search (rules, {', '.join(names)})"] if names else ["search rules"]
-    return calls
+def shorter_in(lemma, facts):
+    """Fills in what may shorten a lemma."""
+    lines = lemma.text.split("\n")
+    places = [0]
+    for line in lines:
+        places.append(places[-1] + len(line) + 1)
+    Shortener(lemma, facts).run([(places[a - lemma.start], places[b - lemma.start] - 1) for a, b in lemma.clauses])
 
 
-class Trial(NamedTuple):
-    """A lemma under another name, one clause of which is a call."""
-
-    path: pathlib.Path
-    lemma: Lemma
-    clause: int
-    call: str
-    name: str
-
-
-def with_call(lines, clause, call):
-    """The lines of a clause whose body is this call, or None where that is hardly shorter."""
-    text = "\n".join(lines[clause[0] : clause[1]])
-    head = text[: body_start(text)]
-    last = head.rsplit("\n", 1)[-1]
-    made = f"{head} {call}" if len(last) + 1 + len(call) <= WIDTH else f"{head}\n    {call}"
-    widest = max(WIDTH, *map(len, lines[clause[0] : clause[1]]))
-    made = made.split("\n")
-    return made if len(made) <= clause[1] - clause[0] - 2 and max(map(len, made)) <= widest else None
-
-
-def trials_of(path, lines, facts, count):
-    """All trials of a file, numbered from `count` on."""
-    found = []
-    for lemma in lemmas_of(lines):
-        for number, clause in enumerate(lemma.clauses):
-            text = "\n".join(lines[clause[0] : clause[1]])
-            start = body_start(text)
-            if start is None or text[start:].strip().count("\n") + 1 < LEAST_LINES:
-                continue
-            for call in calls_for(text, start, facts - {lemma.name}):
-                if with_call(lines, clause, call):
-                    found.append(Trial(path, lemma, number, call, f"trial{count + len(found)}"))
-    return found
-
-
-def copy_of(lines, trial):
-    """The text of a trial."""
-    lemma, made = trial.lemma, []
-    at = lemma.start
-    for number, clause in enumerate(lemma.clauses):
-        made += lines[at : clause[0]]
-        made += with_call(lines, clause, trial.call) if number == trial.clause else lines[clause[0] : clause[1]]
-        at = clause[1]
-    text = re.sub(r"^pub ", "", "\n".join(made + lines[at : lemma.end]))
-    return re.sub(rf"(?<![^\s(]){re.escape(lemma.name)}(?=[\s).,]|$)", trial.name, text)
+def copy_of(it):
+    """The text of a copy, under its own name."""
+    text = re.sub(r"^( *)pub ", r"\1", it.text)
+    return re.sub(rf"(?<![^\s(\[{{,]){re.escape(it.lemma.name)}(?=[\s).,;\]}}]|$)", it.name, text)
 
 
 def with_imports(lines):
     """The lines of a file, with imports for the sets of lemmas that its calls name."""
     behind = "\n".join(it for it in lines if not it.startswith("use "))
     at = next((number for number, it in enumerate(lines) if it.startswith("use ")), 0)
-    imported = {word.strip() for it in lines if IMPORT.match(it) for word in IMPORT.match(it)[2].split(",")}
+    imported = {word for it in lines if IMPORT.match(it) for word in re.findall(r"[^\s,{}]+", IMPORT.match(it)[2])}
     more = [IMPORTS[name] for name in IMPORTS if name not in imported and re.search(rf"[ (]{name}[,) \n]", behind)]
     return lines[:at] + more + lines[at:]
 
 
-def check(built, crate):
-    """What a check of the crate said."""
-    words = [sys.executable, str(TOP / "bench/over.py"), built, "check", crate]
-    ended = subprocess.run(words, cwd=TOP, capture_output=True, text=True, check=False)
-    return ended.stdout + ended.stderr
+class Crate:
+    def __init__(self, built, name, parts):
+        self.built, self.name, self.files, self.lemmas = built, name, {}, {}
+        for path in sorted((TOP / "crates" / name / "proofs").rglob("*.antt")):
+            if path.name in ("Invariants.antt", "Lib.antt", "Proof.antt") or parts and not any(it in str(path) for it in parts):
+                continue
+            self.files[path] = lines = path.read_text().split("\n")
+            self.lemmas[path] = found = lemmas_of(path, lines)
+            for lemma in found:
+                shorter_in(lemma, facts_of(lines, found))
+        self.copies = [it for found in self.lemmas.values() for lemma in found for it in lemma.shorter]
+        for number, it in enumerate(self.copies):
+            it.name = f"copy{number}"
+
+    def check(self, *flags):
+        """What a check of the crate said."""
+        words = [sys.executable, str(TOP / "bench/over.py"), self.built, "check", self.name, *flags]
+        ended = subprocess.run(words, cwd=TOP, capture_output=True, text=True, check=False)
+        return ended.stdout + ended.stderr
+
+    def write(self, text_of):
+        """Writes each file with what stands for each lemma."""
+        for path, lines in self.files.items():
+            made, at = [], 0
+            for lemma in self.lemmas[path]:
+                made += lines[at : lemma.start] + text_of(lemma).split("\n")
+                at = lemma.end
+            made += lines[at:]
+            path.write_text("\n".join(with_imports(made) if made != lines else lines))
+
+    def held(self):
+        """The copies that a check accepts."""
+        try:
+            self.write(lambda lemma: "\n\n".join([lemma.text, *map(copy_of, lemma.shorter)]))
+            refused = refused_in(self.check())
+        finally:
+            self.write(lambda lemma: lemma.text)
+        return [it for it in self.copies if it.name not in refused]
 
 
 def refused_in(said):
     return set(re.findall(r"\.antt:\d+:\d+: error: `([^`]+)`", said))
 
 
-def held(built, crate, files, trials):
-    """Those of the trials that a check accepts."""
-    try:
-        for path, lines in files.items():
-            copies = [copy_of(lines, it) for it in trials if it.path == path]
-            path.write_text("\n".join(with_imports("\n\n".join(["\n".join(lines).rstrip("\n"), *copies, ""]).split("\n"))))
-        said = check(built, crate)
-    finally:
-        for path, lines in files.items():
-            path.write_text("\n".join(lines))
-    refused = refused_in(said)
-    return [it for it in trials if it.name not in refused]
-
-
-def shortened(lines, trials, without):
-    """The lines of a file in which the first trial of each clause is written, but for some lemmas."""
+def choices(good):
+    """What to write of the copies of a lemma that hold, most lines saved first."""
     best = {}
-    for it in trials:
-        if it.lemma.name not in without:
-            best.setdefault((it.lemma.start, it.clause), it)
-    for it in sorted(best.values(), key=lambda it: -it.lemma.clauses[it.clause][0]):
-        clause = it.lemma.clauses[it.clause]
-        lines = lines[: clause[0]] + with_call(lines, clause, it.call) + lines[clause[1] :]
-    return with_imports(lines)
+    for it in good:
+        known = best.get((it.start, it.end))
+        if known is None or it.saved() > known.saved():
+            best[it.start, it.end] = it
+    order = sorted(best.values(), key=lambda it: (-it.saved(), it.end - it.start))
+    together = []
+    for it in order:
+        if all(it.end <= other.start or other.end <= it.start for other in together):
+            together.append(it)
+    found = [together, [it for it in together if not it.drops], *([it] for it in order[:3])]
+    return sorted(found, key=lambda them: -sum(it.saved() for it in them)) + [[]]
+
+
+def text_of(lemma, written):
+    text = lemma.text
+    for it in sorted(written, key=lambda it: -it.start):
+        text = it.in_place(text)
+    return text
 
 
 def main():
     if len(sys.argv) < 3:
         sys.exit(__doc__)
-    built, crate, *parts = sys.argv[1:]
-    files, trials = {}, []
-    for path in sorted((TOP / "crates" / crate / "proofs").rglob("*.antt")):
-        if path.name in ("Invariants.antt", "Lib.antt", "Proof.antt") or parts and not any(it in str(path) for it in parts):
-            continue
-        files[path] = path.read_text().split("\n")
-        trials += trials_of(path, files[path], facts_in_scope(files[path]), len(trials))
-    print(f"{crate}: {len(trials)} trials", flush=True)
-    good = held(built, crate, files, trials)
+    crate = Crate(sys.argv[1], sys.argv[2], sys.argv[3:])
+    print(f"{crate.name}: {len(crate.copies)} copies", flush=True)
+    good = crate.held()
     print(f"{len(good)} hold", flush=True)
-    without = set()
-    while True:
-        for path, lines in files.items():
-            of_file = [it for it in good if it.path == path]
-            path.write_text("\n".join(shortened(lines, of_file, without) if of_file else lines))
-        said = check(built, crate)
-        refused = refused_in(said) & {it.lemma.name for it in good} - without
-        if not refused:
+    left = {}
+    for lemma in {id(it.lemma): it.lemma for it in good}.values():
+        left[id(lemma)] = choices([it for it in good if it.lemma is lemma])
+    for _ in range(MOST_ROUNDS):
+        crate.write(lambda lemma: text_of(lemma, left[id(lemma)][0]) if id(lemma) in left else lemma.text)
+        said = crate.check()
+        refused = refused_in(said)
+        too_much = [it for it in good if it.lemma.name in refused and len(left[id(it.lemma)]) > 1]
+        if not too_much:
             break
-        without |= refused
-    gone = sum(len(lines) - len(path.read_text().split("\n")) for path, lines in files.items())
+        for key in {id(it.lemma) for it in too_much}:
+            left[key].pop(0)
+    if "logic=proved" in said:
+        said = crate.check("--fix-imports")
+    gone = sum(len(lines) - len(path.read_text().split("\n")) for path, lines in crate.files.items())
     print(f"{gone} lines gone; {'proved' if 'logic=proved' in said else 'not proved: look at what a check says'}")
 
 
