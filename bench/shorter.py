@@ -37,10 +37,8 @@ LAMBDA = re.compile(r"\s*λ [^.]*\. ")
 BETWEEN = set("∙ ≡ + - * / % ^ < ≤ ++ ∷ && || → × ⊎ in = , ; | ↦ : ≢ at as where".split())
 # Names of the library's that are no facts, or that a tactic knows.
 NO_FACTS = set("refl sym ap subst ◌∙◌ ∙ absurd ⊎_elim inl inr tt arith rules common_steps".split())
-IMPORTS = {
-    "arith": "use Rattle.std.proofs.Common.{arith}",
-    "rules": "use Rattle.std.proofs.Common.{rules}",
-}
+COMMON = "Rattle.std.proofs.Common"
+SETS = ("arith", "rules")
 
 
 class Token(NamedTuple):
@@ -338,10 +336,15 @@ def copy_of(it):
 def with_imports(lines):
     """The lines of a file, with imports for the sets of lemmas that its calls name."""
     behind = "\n".join(it for it in lines if not it.startswith("use "))
-    at = next((number for number, it in enumerate(lines) if it.startswith("use ")), 0)
     imported = {word for it in lines if IMPORT.match(it) for word in re.findall(r"[^\s,{}]+", IMPORT.match(it)[2])}
-    more = [IMPORTS[name] for name in IMPORTS if name not in imported and re.search(rf"[ (]{name}[,) \n]", behind)]
-    return lines[:at] + more + lines[at:]
+    more = [name for name in SETS if name not in imported and re.search(rf"[ (]{name}[,) \n]", behind)]
+    if not more:
+        return lines
+    for number, it in enumerate(lines):
+        if it.startswith(f"use {COMMON}.{{"):
+            return [*lines[:number], it[:-1] + ", " + ", ".join(more) + "}", *lines[number + 1 :]]
+    at = next((number for number, it in enumerate(lines) if it.startswith("use ")), 0)
+    return [*lines[:at], f"use {COMMON}.{{{', '.join(more)}}}", *lines[at:]]
 
 
 class Crate:
