@@ -40,7 +40,7 @@ def write_rows():
     rows = [row for row in streams() if len(row["stream"]) <= 2 * MOST_BYTES]
     at_a_rate = [row for row in rows if " rate " in row["words"]]
     for name, some in (("AT_A_RATE", at_a_rate), ("OTHERS", [row for row in rows if row not in at_a_rate])):
-        print(f"const {name}: [Vector; {len(some)}] = [\n{''.join(map(row_text, some))}];\n")
+        print(f"static {name}: [Vector; {len(some)}] = [\n{''.join(map(row_text, some))}];\n")
 
 
 def main():

@@ -3,12 +3,13 @@
 ghost use Rattle.std.specs.Prelude.{IsTrue};
 ghost use Rattle.zf_header.specs.HeaderBits.{IsMode};
 
-use std::alloc::{AllocError, Global};
+use std::alloc::Global;
+use std::process::Abort;
 use std::test::Fail;
 use zf_base::{Shape, Ty};
 use zf_dev::{MemSink, MemSource};
 use zf_header::{Header, MAX_PRECISION, MAX_RATE, Mode};
-use zf_stream::{compress, restore};
+use zf_stream::{StreamFault, compress, restore};
 
 // The type, the number of dimensions, the sizes, the mode, the raw values, the stream, and the values that
 // zfp restores.
@@ -22,7 +23,7 @@ type Vector = (
     &'static [u8],
 );
 
-const AT_A_RATE: [Vector; 42] = [
+static AT_A_RATE: [Vector; 42] = [
     (
         Ty::I32,
         1,
@@ -403,7 +404,7 @@ const AT_A_RATE: [Vector; 42] = [
     ),
 ];
 
-const OTHERS: [Vector; 24] = [
+static OTHERS: [Vector; 24] = [
     (
         Ty::I32,
         1,
@@ -633,57 +634,72 @@ fn is_stated(mode: Mode) -> bool
     }
 }
 
-// The stream that is made of raw values in this mode; none where they have no header.
-fn made(
-    alloc: Global,
-    ty: Ty,
-    dims: u8,
-    sizes: [u64; 2],
-    mode: Mode,
-    values: &[u8],
-) -> Result<Option<MemSink>, AllocError> {
-    if dims < 1 || dims > 4 || !is_stated(mode) {
-        return Ok(None);
-    }
+// The header of a row.
+fn header_of(rt: &impl Abort, ty: Ty, dims: u8, sizes: [u64; 2], mode: Mode) -> Header
+    ensures { IsMode result.mode }
+{
+    assert!(rt; 1 <= dims && dims <= 4 && is_stated(mode));
     let Ok(shape) = Shape::new(dims, sizes[0], sizes[1], 1, 1) else {
-        return Ok(None);
+        panic!(rt; "no shape");
     };
-    let mut src = MemSource::new(values.to_vec(alloc)?, Vec::new(alloc), 1000);
-    let mut out = MemSink::new(alloc, Vec::new(alloc), 1000);
-    match compress(alloc, &Header { ty, shape, mode }, &mut src, &mut out) {
-        Ok(()) => Ok(Some(out)),
-        Err(_) => Ok(None),
-    }
+    Header { ty, shape, mode }
 }
 
-// The raw values that are restored of a stream; none where it is refused.
-fn restored(alloc: Global, stream: &[u8]) -> Result<Option<MemSink>, AllocError> {
-    let mut src = MemSource::new(stream.to_vec(alloc)?, Vec::new(alloc), 1000);
-    let mut out = MemSink::new(alloc, Vec::new(alloc), 1000);
-    match restore(alloc, &mut src, &mut out) {
-        Ok(()) => Ok(Some(out)),
-        Err(_) => Ok(None),
-    }
+// A source of these bytes.
+fn source(alloc: Global, bytes: &[u8]) -> Result<MemSource, StreamFault> {
+    let Ok(bytes) = bytes.to_vec(alloc) else {
+        return Err(StreamFault::Memory);
+    };
+    Ok(MemSource::new(bytes, Vec::new(alloc), 1000))
 }
 
-#[test]
-fn streams_of_zfp_at_a_rate(rt: HostRuntime) -> Result<(), Fail> {
-    for (ty, dims, sizes, mode, values, stream, back) in AT_A_RATE {
-        let out = made(rt.alloc(), ty, dims, sizes, mode, values)?.ok_or("a stream")?;
-        assert_eq!(rt; out.bytes(), stream);
-        let out = restored(rt.alloc(), stream)?.ok_or("values")?;
-        assert_eq!(rt; out.bytes(), back);
+// Whether raw values are made into this stream.
+fn is_made(alloc: Global, h: &Header, values: &[u8], stream: &[u8]) -> Result<bool, StreamFault>
+    requires { IsMode h.now.mode }
+{
+    let mut src = source(alloc, values)?;
+    let mut out = MemSink::new(alloc, Vec::new(alloc), 1000);
+    let answer = compress(alloc, h, &mut src, &mut out);
+    let same = out.bytes() == stream;
+    drop(out);
+    drop(src);
+    answer?;
+    Ok(same)
+}
+
+// Whether these raw values are restored of a stream.
+fn is_restored(alloc: Global, stream: &[u8], values: &[u8]) -> Result<bool, StreamFault> {
+    let mut src = source(alloc, stream)?;
+    let mut out = MemSink::new(alloc, Vec::new(alloc), 1000);
+    let answer = restore(alloc, &mut src, &mut out);
+    let same = out.bytes() == values;
+    drop(out);
+    drop(src);
+    answer?;
+    Ok(same)
+}
+
+fn are_made_and_restored(
+    rt: &impl Abort,
+    alloc: Global,
+    rows: &[Vector],
+) -> Result<(), StreamFault> {
+    for (ty, dims, sizes, mode, values, stream, back) in rows {
+        let h = header_of(rt, *ty, *dims, *sizes, *mode);
+        assert!(rt; is_made(alloc, &h, values, stream)?);
+        assert!(rt; is_restored(alloc, stream, back)?);
     }
     Ok(())
 }
 
 #[test]
+fn streams_of_zfp_at_a_rate(rt: HostRuntime) -> Result<(), Fail> {
+    are_made_and_restored(&rt, rt.alloc(), &AT_A_RATE)?;
+    Ok(())
+}
+
+#[test]
 fn streams_of_zfp_in_the_other_modes(rt: HostRuntime) -> Result<(), Fail> {
-    for (ty, dims, sizes, mode, values, stream, back) in OTHERS {
-        let out = made(rt.alloc(), ty, dims, sizes, mode, values)?.ok_or("a stream")?;
-        assert_eq!(rt; out.bytes(), stream);
-        let out = restored(rt.alloc(), stream)?.ok_or("values")?;
-        assert_eq!(rt; out.bytes(), back);
-    }
+    are_made_and_restored(&rt, rt.alloc(), &OTHERS)?;
     Ok(())
 }
