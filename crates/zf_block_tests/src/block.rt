@@ -1,12 +1,13 @@
 //! The blocks of the format's worked rows, and blocks of both types against a program that was written from
 //! the definitions alone.
 
-ghost use Rattle.std.specs.Prelude.{◌≡◌, ◌^◌, length};
+ghost use Rattle.std.specs.Prelude.{◌≡◌, ◌≤◌, ◌^◌, length};
+ghost use Rattle.zf_base.specs.Positions.{IsExtent};
 
-use std::alloc::Global;
+use std::alloc::{AllocError, Global};
 use std::process::Abort;
 use std::test::Fail;
-use zf_base::{Lane, Shape, block_len};
+use zf_base::{Extent, Lane, Shape, block_len};
 use zf_bits::{BitReader, BitWriter};
 use zf_block::{
     Scratch, decode_prec, decode_rate, decode_rev, encode_prec, encode_rate, encode_rev,
@@ -48,91 +49,124 @@ enum Code {
     Precision(u32),
 }
 
-/// Writes the code of the block of an array of one block.
-fn written<T: Lane>(
-    rt: &impl Abort,
-    alloc: Global,
-    shape: &Shape,
+/// Writes the code of a block.
+fn write<T: Lane>(
+    d: u8,
+    e: &Extent,
     code: &Code,
     block: &[T],
-) -> Result<BitWriter, Fail>
-    requires { length block.now ≡ 4 ^ length shape.now }
+    s: &mut Scratch<T>,
+    out: &mut BitWriter,
+) -> Result<(), AllocError>
+    requires dimension { (1 ≤ d) × (d ≤ 4) }
+    requires extent { IsExtent d e.now }
+    requires block { length block.now ≡ 4 ^ d }
+    requires scratch { s.old ≡ d }
+    ensures scratch { s.new ≡ d }
 {
-    let d = shape.dims();
-    assert!(rt; shape.blocks() == 1);
-    let e = shape.extent(0);
-    let mut s = Scratch::new(alloc, d)?;
-    let mut out = BitWriter::new(alloc);
     match *code {
-        Code::Reversible => encode_rev(d, &e, block, &mut s, &mut out)?,
+        Code::Reversible => encode_rev(d, e, block, s, out),
         Code::Rate(bits, _) => {
             out.reserve(u64::from(bits))?;
-            encode_rate(d, &e, bits, block, &mut s, &mut out);
+            encode_rate(d, e, bits, block, s, out);
+            Ok(())
         }
-        Code::Precision(prec) => encode_prec(d, &e, prec, block, &mut s, &mut out)?,
+        Code::Precision(prec) => encode_prec(d, e, prec, block, s, out),
     }
-    Ok(out)
+}
+
+/// Reads the block of a code of so many bits. The answer is whether they were there, and the planes from this
+/// one on are whole and no others.
+fn read_at_rate<T: Lane>(
+    d: u8,
+    bits: u32,
+    plane: u32,
+    reader: &mut BitReader<'_>,
+    s: &mut Scratch<T>,
+    block: &mut [T],
+) -> bool
+    requires dimension { (1 ≤ d) × (d ≤ 4) }
+    requires block { length block.old ≡ 4 ^ d }
+    requires scratch { s.old ≡ d }
+{
+    if reader.left() < u64::from(bits) {
+        return false;
+    }
+    let mut again = reader.another();
+    decode_rate(d, bits, reader, block);
+    whole_planes(d, bits, &mut again, s) == plane && again.left() == 0
 }
 
 /// Reads the block of a code. The answer is whether the code was there, and no more.
-fn read<T: Lane>(
-    rt: &impl Abort,
-    shape: &Shape,
-    code: &Code,
-    bits: &BitWriter,
-    block: &mut [T],
-) -> bool
-    requires { length block.old ≡ 4 ^ length shape.now }
+fn read<T: Lane>(d: u8, code: &Code, bits: &BitWriter, s: &mut Scratch<T>, block: &mut [T]) -> bool
+    requires dimension { (1 ≤ d) × (d ≤ 4) }
+    requires block { length block.old ≡ 4 ^ d }
+    requires scratch { s.old ≡ d }
 {
-    let d = shape.dims();
     let mut reader = BitReader::new(bits.words(), bits.len());
     let found = match *code {
         Code::Reversible => decode_rev(d, &mut reader, block).is_some(),
-        Code::Rate(bits, _) => {
-            assert!(rt; reader.left() >= u64::from(bits));
-            decode_rate(d, bits, &mut reader, block);
-            true
-        }
+        Code::Rate(bits, plane) => read_at_rate(d, bits, plane, &mut reader, s, block),
         Code::Precision(prec) => decode_prec(d, prec, &mut reader, block).is_some(),
     };
     found && reader.left() == 0
 }
 
-/// The least plane that a code of so many bits has whole.
-fn least_whole<T: Lane>(
-    rt: &impl Abort,
-    alloc: Global,
-    shape: &Shape,
-    bits: u32,
-    code: &BitWriter,
-) -> Result<u32, Fail> {
-    let d = shape.dims();
-    let mut s = Scratch::<T>::new(alloc, d)?;
-    let mut reader = BitReader::new(code.words(), code.len());
-    assert!(rt; reader.left() >= u64::from(bits));
-    let plane = whole_planes(d, bits, &mut reader, &mut s);
-    assert!(rt; reader.left() == 0);
-    Ok(plane)
+/// Writes a block and reads it again, as `both_ways` says.
+fn there_and_back<T: Lane>(
+    d: u8,
+    e: &Extent,
+    code: &Code,
+    len: u64,
+    sum: u64,
+    block: &mut [T],
+    s: &mut Scratch<T>,
+    out: &mut BitWriter,
+) -> Result<bool, AllocError>
+    requires dimension { (1 ≤ d) × (d ≤ 4) }
+    requires extent { IsExtent d e.now }
+    requires block { length block.old ≡ 4 ^ d }
+    requires scratch { s.old ≡ d }
+{
+    write(d, e, code, block, s, out)?;
+    clear(block);
+    Ok(read(d, code, out, s, block) && out.len() == len && digest(out.words()) == sum)
 }
 
-/// Writes the block of an array of one block, and reads it again. The answer is the length of the code and
-/// its digest.
+/// Writes a block of which this part exists, and reads it again. The answer is whether the code has this
+/// length and this digest, and was there.
 fn both_ways<T: Lane>(
-    rt: &impl Abort,
     alloc: Global,
-    shape: &Shape,
+    d: u8,
+    e: &Extent,
     code: &Code,
+    len: u64,
+    sum: u64,
     block: &mut [T],
-) -> Result<(u64, u64), Fail>
-    requires { length block.old ≡ 4 ^ length shape.now }
+) -> Result<bool, AllocError>
+    requires dimension { (1 ≤ d) × (d ≤ 4) }
+    requires extent { IsExtent d e.now }
+    requires block { length block.old ≡ 4 ^ d }
 {
-    let out = written(rt, alloc, shape, code, block)?;
-    clear(block);
-    assert!(rt; read(rt, shape, code, &out, block));
-    if let Code::Rate(bits, plane) = *code {
-        assert!(rt; least_whole::<T>(rt, alloc, shape, bits, &out)? == plane);
-    }
-    Ok((out.len(), digest(out.words())))
+    let mut s = Scratch::new(alloc, d)?;
+    let mut out = BitWriter::new(alloc);
+    let same = there_and_back(d, e, code, len, sum, block, &mut s, &mut out);
+    drop(out);
+    drop(s);
+    same
+}
+
+/// The part that exists of the block of an array of one block.
+fn extent_of(rt: &impl Abort, dims: u8, sizes: &[u64; 4]) -> Extent
+    requires { (1 ≤ dims) × (dims ≤ 4) }
+    ensures { IsExtent dims result }
+{
+    let [x, y, z, w] = *sizes;
+    let Ok(shape) = Shape::new(dims, x, y, z, w) else {
+        panic!(rt; "no shape");
+    };
+    assert!(rt; shape.blocks() == 1);
+    shape.extent(0)
 }
 
 /// A row of one dimension: how many values exist, the block, the code, its length and its digest, and what
@@ -141,7 +175,7 @@ type Line<T> = (u64, [T; 4], Code, u64, u64, [T; 4]);
 
 /// The rows of the format. The planes of 1 2 3 4 have codes of 39 bits together: one bit fewer, and the
 /// lowest plane is cut.
-const ROWS: [Line<i32>; 11] = [
+static ROWS: [Line<i32>; 11] = [
     (1, [0, 9, 9, 9], Code::Reversible, 6, 0, [0; 4]),
     (
         1,
@@ -217,7 +251,7 @@ const ROWS: [Line<i32>; 11] = [
 /// and a run.
 const SMOOTH: [i32; 4] = [268435456, 268437999, 268430001, 268435400];
 
-const FOURS: [Line<i32>; 11] = [
+static FOURS: [Line<i32>; 11] = [
     (
         4,
         [1073741824, -1073741824, 536870912, 0],
@@ -309,7 +343,7 @@ const WIDE_SMOOTH: [i64; 4] = [
     -1152921500000000000,
 ];
 
-const WIDE_FOURS: [Line<i64>; 12] = [
+static WIDE_FOURS: [Line<i64>; 12] = [
     (
         4,
         [
@@ -446,26 +480,26 @@ const WIDE_FOURS: [Line<i64>; 12] = [
     ),
 ];
 
-fn lines_are<T: Lane>(rt: &impl Abort, alloc: Global, rows: &[Line<T>]) -> Result<(), Fail> {
-    for (n, values, code, len, digest, back) in rows.iter() {
-        let shape = Shape::new(1, *n, 1, 1, 1)?;
-        assert!(rt; shape.dims() == 1);
+fn lines_are<T: Lane>(rt: &impl Abort, alloc: Global, rows: &[Line<T>]) -> Result<(), AllocError> {
+    for (n, values, code, len, sum, back) in rows {
+        let e = extent_of(rt, 1, &[*n, 1, 1, 1]);
         let mut block: [T; 4] = *values;
-        let found = both_ways(rt, alloc, &shape, code, &mut block)?;
-        assert!(rt; found == (*len, *digest) && block == *back);
+        assert!(rt; both_ways(alloc, 1, &e, code, *len, *sum, &mut block)? && block == *back);
     }
     Ok(())
 }
 
 #[test]
 fn rows_of_the_format(rt: HostRuntime) -> Result<(), Fail> {
-    lines_are::<i32>(&rt, rt.alloc(), &ROWS)
+    lines_are::<i32>(&rt, rt.alloc(), &ROWS)?;
+    Ok(())
 }
 
 #[test]
 fn lines_of_both_types(rt: HostRuntime) -> Result<(), Fail> {
     lines_are::<i32>(&rt, rt.alloc(), &FOURS)?;
-    lines_are::<i64>(&rt, rt.alloc(), &WIDE_FOURS)
+    lines_are::<i64>(&rt, rt.alloc(), &WIDE_FOURS)?;
+    Ok(())
 }
 
 /// An array of one block, which is filled with values that follow no rule, and its codes: of each the length,
@@ -473,7 +507,7 @@ fn lines_of_both_types(rt: HostRuntime) -> Result<(), Fail> {
 struct Row {
     dims: u8,
     sizes: [u64; 4],
-    codes: [(Code, u64, u64, u64); 3],
+    codes: &'static [(Code, u64, u64, u64)],
 }
 
 /// Values that follow no rule, the same each time, some of them at the ends of `i32` and near those of `i64`.
@@ -491,11 +525,11 @@ fn fill<T: Lane>(block: &mut [T]) {
     }
 }
 
-const NARROW: [Row; 4] = [
+static NARROW: [Row; 4] = [
     Row {
         dims: 1,
         sizes: [3, 1, 1, 1],
-        codes: [
+        codes: &[
             (Code::Reversible, 134, 1956684627123463394, 56895915491206),
             (Code::Rate(50, 20), 50, 823235889384005, 56880726540288),
             (Code::Precision(11), 44, 13995331340869, 56928006832128),
@@ -504,7 +538,7 @@ const NARROW: [Row; 4] = [
     Row {
         dims: 2,
         sizes: [2, 4, 1, 1],
-        codes: [
+        codes: &[
             (
                 Code::Reversible,
                 526,
@@ -528,7 +562,7 @@ const NARROW: [Row; 4] = [
     Row {
         dims: 3,
         sizes: [4, 1, 3, 1],
-        codes: [
+        codes: &[
             (
                 Code::Reversible,
                 1728,
@@ -547,7 +581,7 @@ const NARROW: [Row; 4] = [
     Row {
         dims: 4,
         sizes: [3, 4, 2, 1],
-        codes: [
+        codes: &[
             (
                 Code::Reversible,
                 6779,
@@ -570,11 +604,11 @@ const NARROW: [Row; 4] = [
     },
 ];
 
-const WIDE: [Row; 4] = [
+static WIDE: [Row; 4] = [
     Row {
         dims: 1,
         sizes: [3, 1, 1, 1],
-        codes: [
+        codes: &[
             (
                 Code::Reversible,
                 263,
@@ -598,7 +632,7 @@ const WIDE: [Row; 4] = [
     Row {
         dims: 2,
         sizes: [2, 4, 1, 1],
-        codes: [
+        codes: &[
             (
                 Code::Reversible,
                 1023,
@@ -622,7 +656,7 @@ const WIDE: [Row; 4] = [
     Row {
         dims: 3,
         sizes: [4, 1, 3, 1],
-        codes: [
+        codes: &[
             (
                 Code::Reversible,
                 3436,
@@ -646,7 +680,7 @@ const WIDE: [Row; 4] = [
     Row {
         dims: 4,
         sizes: [3, 4, 2, 1],
-        codes: [
+        codes: &[
             (
                 Code::Reversible,
                 13530,
@@ -664,27 +698,54 @@ const WIDE: [Row; 4] = [
     },
 ];
 
-fn is_as_in<T: Lane>(rt: &impl Abort, alloc: Global, row: &Row) -> Result<(), Fail> {
-    assert!(rt; 1 <= row.dims && row.dims <= 4);
-    let [x, y, z, w] = row.sizes;
-    let shape = Shape::new(row.dims, x, y, z, w)?;
-    let size = block_len(shape.dims());
-    for (code, len, digest, back) in row.codes.iter() {
-        let mut block = vec![in alloc; T::zero(); size]?;
-        fill(&mut block);
-        let found = both_ways(rt, alloc, &shape, code, &mut block)?;
-        assert!(rt; found == (*len, *digest) && digest_of(&block) == *back);
+/// Whether a block of which this part exists has these codes, each length, digest and block that comes back.
+fn has_codes<T: Lane>(
+    alloc: Global,
+    d: u8,
+    e: &Extent,
+    codes: &[(Code, u64, u64, u64)],
+    block: &mut [T],
+) -> Result<bool, AllocError>
+    requires dimension { (1 ≤ d) × (d ≤ 4) }
+    requires extent { IsExtent d e.now }
+    requires block { length block.old ≡ 4 ^ d }
+{
+    for (code, len, sum, back) in codes {
+        fill(block);
+        if !both_ways(alloc, d, e, code, *len, *sum, block)? || digest_of(block) != *back {
+            return Ok(false);
+        }
+    }
+    Ok(true)
+}
+
+fn is_as_in<T: Lane>(
+    alloc: Global,
+    d: u8,
+    e: &Extent,
+    codes: &[(Code, u64, u64, u64)],
+) -> Result<bool, AllocError>
+    requires dimension { (1 ≤ d) × (d ≤ 4) }
+    requires extent { IsExtent d e.now }
+{
+    let mut block = vec![in alloc; T::zero(); block_len(d)]?;
+    let same = has_codes(alloc, d, e, codes, &mut block);
+    drop(block);
+    same
+}
+
+fn are_as_in<T: Lane>(rt: &impl Abort, alloc: Global, rows: &[Row]) -> Result<(), AllocError> {
+    for row in rows {
+        assert!(rt; 1 <= row.dims && row.dims <= 4);
+        let e = extent_of(rt, row.dims, &row.sizes);
+        assert!(rt; is_as_in::<T>(alloc, row.dims, &e, row.codes)?);
     }
     Ok(())
 }
 
 #[test]
 fn blocks_of_both_types(rt: HostRuntime) -> Result<(), Fail> {
-    for row in NARROW.iter() {
-        is_as_in::<i32>(&rt, rt.alloc(), row)?;
-    }
-    for row in WIDE.iter() {
-        is_as_in::<i64>(&rt, rt.alloc(), row)?;
-    }
+    are_as_in::<i32>(&rt, rt.alloc(), &NARROW)?;
+    are_as_in::<i64>(&rt, rt.alloc(), &WIDE)?;
     Ok(())
 }

@@ -8,3 +8,5 @@ mod block;
 mod planes;
 #[cfg(test)]
 mod planes_of_four;
+#[cfg(test)]
+mod support;

@@ -1,9 +1,10 @@
 //! Values of the format's table of plane codes, and of a program that computes the definitions digit by
 //! digit.
 
-ghost use Rattle.std.specs.Prelude.{◌≡◌, ◌<◌, ◌≤◌, ◌⊎◌};
+ghost use Rattle.std.specs.Prelude.{◌≡◌, ◌<◌, ◌≤◌, ◌⊎◌, IsTrue};
 
-use std::alloc::Global;
+use crate::support::{is_block_size, with_room};
+use std::alloc::{AllocError, Global};
 use std::process::Abort;
 use std::test::Fail;
 use zf_bits::{BitReader, BitWriter};
@@ -11,76 +12,83 @@ use zf_planes::{
     code_len, decode, encode, planes_len, planes_within, read_planes, write_planes_below,
 };
 
-// Three planes of a size, each one by plane and rank; where the ones of their code are, of so many bits; and
-// the ones that each budget keeps.
+// Three planes of a size, each one by plane and rank; where the ones of their code are, of so many bits; the
+// ones that each budget keeps; and budgets, and how many whole planes they reach.
 struct Case {
     size: usize,
     ones: &'static [(usize, usize)],
     code_len: u64,
     code: &'static [u64],
     kept: &'static [(u64, &'static [(usize, usize)])],
+    within: &'static [(u64, u32)],
 }
 
-const SIZE_4: Case = Case {
-    size: 4,
-    ones: &[(2, 2), (1, 0), (0, 1), (0, 3)],
-    code_len: 13,
-    code: &[0, 3, 5, 10, 12],
-    kept: &[
-        (0, &[]),
-        (1, &[(2, 0)]),
-        (2, &[(2, 1)]),
-        (3, &[(2, 2)]),
-        (4, &[(2, 2)]),
-        (5, &[(2, 2)]),
-        (6, &[(2, 2), (1, 0)]),
-        (7, &[(2, 2), (1, 0)]),
-        (8, &[(2, 2), (1, 0)]),
-        (9, &[(2, 2), (1, 0)]),
-        (10, &[(2, 2), (1, 0)]),
-        (11, &[(2, 2), (1, 0), (0, 1)]),
-        (12, &[(2, 2), (1, 0), (0, 1)]),
-        (13, &[(2, 2), (1, 0), (0, 1), (0, 3)]),
-    ],
-};
+// The codes of the planes of four digits have 5, 4 and 4 bits, and those of the planes of 256 digits 133, 132
+// and 203.
+static CASES: [Case; 3] = [
+    Case {
+        size: 4,
+        ones: &[(2, 2), (1, 0), (0, 1), (0, 3)],
+        code_len: 13,
+        code: &[0, 3, 5, 10, 12],
+        kept: &[
+            (0, &[]),
+            (1, &[(2, 0)]),
+            (2, &[(2, 1)]),
+            (3, &[(2, 2)]),
+            (4, &[(2, 2)]),
+            (5, &[(2, 2)]),
+            (6, &[(2, 2), (1, 0)]),
+            (7, &[(2, 2), (1, 0)]),
+            (8, &[(2, 2), (1, 0)]),
+            (9, &[(2, 2), (1, 0)]),
+            (10, &[(2, 2), (1, 0)]),
+            (11, &[(2, 2), (1, 0), (0, 1)]),
+            (12, &[(2, 2), (1, 0), (0, 1)]),
+            (13, &[(2, 2), (1, 0), (0, 1), (0, 3)]),
+        ],
+        within: &[(0, 0), (4, 0), (5, 1), (8, 1), (9, 2), (12, 2), (13, 3)],
+    },
+    Case {
+        size: 16,
+        ones: &[(2, 9), (1, 0), (1, 15), (0, 1), (0, 2), (0, 10)],
+        code_len: 44,
+        code: &[0, 10, 12, 22, 29, 30, 38],
+        kept: &[
+            (9, &[(2, 8)]),
+            (10, &[(2, 9)]),
+            (11, &[(2, 9)]),
+            (13, &[(2, 9), (1, 0)]),
+            (26, &[(2, 9), (1, 0), (1, 13)]),
+            (28, &[(2, 9), (1, 0), (1, 15)]),
+            (29, &[(2, 9), (1, 0), (1, 15)]),
+            (31, &[(2, 9), (1, 0), (1, 15), (0, 1), (0, 2)]),
+            (44, &[(2, 9), (1, 0), (1, 15), (0, 1), (0, 2), (0, 10)]),
+        ],
+        within: &[],
+    },
+    Case {
+        size: 64,
+        ones: &[(1, 40), (0, 0), (0, 1), (0, 2)],
+        code_len: 86,
+        code: &[1, 42, 44, 45, 46],
+        kept: &[
+            (1, &[]),
+            (2, &[(1, 0)]),
+            (41, &[(1, 39)]),
+            (42, &[(1, 40)]),
+            (43, &[(1, 40)]),
+            (46, &[(1, 40), (0, 0), (0, 1)]),
+            (85, &[(1, 40), (0, 0), (0, 1), (0, 2)]),
+            (86, &[(1, 40), (0, 0), (0, 1), (0, 2)]),
+            (90, &[(1, 40), (0, 0), (0, 1), (0, 2)]),
+        ],
+        within: &[],
+    },
+];
 
-const SIZE_16: Case = Case {
-    size: 16,
-    ones: &[(2, 9), (1, 0), (1, 15), (0, 1), (0, 2), (0, 10)],
-    code_len: 44,
-    code: &[0, 10, 12, 22, 29, 30, 38],
-    kept: &[
-        (9, &[(2, 8)]),
-        (10, &[(2, 9)]),
-        (11, &[(2, 9)]),
-        (13, &[(2, 9), (1, 0)]),
-        (26, &[(2, 9), (1, 0), (1, 13)]),
-        (28, &[(2, 9), (1, 0), (1, 15)]),
-        (29, &[(2, 9), (1, 0), (1, 15)]),
-        (31, &[(2, 9), (1, 0), (1, 15), (0, 1), (0, 2)]),
-        (44, &[(2, 9), (1, 0), (1, 15), (0, 1), (0, 2), (0, 10)]),
-    ],
-};
-
-const SIZE_64: Case = Case {
-    size: 64,
-    ones: &[(1, 40), (0, 0), (0, 1), (0, 2)],
-    code_len: 86,
-    code: &[1, 42, 44, 45, 46],
-    kept: &[
-        (1, &[]),
-        (2, &[(1, 0)]),
-        (41, &[(1, 39)]),
-        (42, &[(1, 40)]),
-        (43, &[(1, 40)]),
-        (46, &[(1, 40), (0, 0), (0, 1)]),
-        (85, &[(1, 40), (0, 0), (0, 1), (0, 2)]),
-        (86, &[(1, 40), (0, 0), (0, 1), (0, 2)]),
-        (90, &[(1, 40), (0, 0), (0, 1), (0, 2)]),
-    ],
-};
-
-const SIZE_256: Case = Case {
+// Planes of more than a word each.
+static LARGE: [Case; 1] = [Case {
     size: 256,
     ones: &[(2, 130), (0, 0), (0, 200)],
     code_len: 468,
@@ -102,7 +110,24 @@ const SIZE_256: Case = Case {
         (398, &[(2, 130), (0, 0), (0, 132)]),
         (468, &[(2, 130), (0, 0), (0, 200)]),
     ],
-};
+    within: &[
+        (132, 0),
+        (133, 1),
+        (264, 1),
+        (265, 2),
+        (467, 2),
+        (u64::MAX, 3),
+    ],
+}];
+
+// Each table is named here alone: what a function says of it is proved with each byte, in each of its steps.
+fn cases() -> &'static [Case] {
+    &CASES
+}
+
+fn large_cases() -> &'static [Case] {
+    &LARGE
+}
 
 fn planes_with(rt: &impl Abort, ones: &[(usize, usize)]) -> [[u64; 4]; 3] {
     let mut planes = [[0; 4]; 3];
@@ -113,116 +138,241 @@ fn planes_with(rt: &impl Abort, ones: &[(usize, usize)]) -> [[u64; 4]; 3] {
     planes
 }
 
-// The ones of bits are at these places.
-fn has_ones(rt: &impl Abort, bits: &BitWriter, ones: &[u64]) {
+// Whether the ones of bits are at these places.
+fn has_ones(bits: &BitWriter, ones: &[u64]) -> bool {
     let mut reader = BitReader::new(bits.words(), bits.len());
+    let mut all = true;
     for at in 0..bits.len() {
-        assert!(rt; reader.read_bit() == Some(ones.contains(&at)));
+        all &= reader.read_bit() == Some(ones.contains(&at));
     }
+    all
 }
 
-// A code gives back these planes, and nothing where its last bit is not there.
-fn gives_back(rt: &impl Abort, budget: u64, size: usize, code: &BitWriter, kept: &[[u64; 4]; 3])
+// Whether a code gives back these planes.
+fn gives_back(budget: u64, size: usize, code: &BitWriter, kept: &[[u64; 4]; 3]) -> bool
     requires { (size ≡ 4) ⊎ (size ≡ 16) ⊎ (size ≡ 64) ⊎ (size ≡ 256) }
 {
     let len = code.len();
     let mut reader = BitReader::new(code.words(), len);
     let mut again = [[u64::MAX; 4]; 4];
     let count = decode(budget, 3, size, &mut reader, &mut again);
-    assert!(rt; count == Some(len) && reader.at() == len);
-    assert!(rt; again[0] == [0; 4] && &again[1..] == kept.as_slice());
-    if len > 0 {
-        let mut short = BitReader::new(code.words(), len - 1);
-        let none = decode(budget, 3, size, &mut short, &mut again);
-        assert!(rt; none.is_none() && short.at() == 0);
+    count == Some(len) && reader.at() == len && again == [[0; 4], kept[0], kept[1], kept[2]]
+}
+
+// Whether a code gives nothing where its last bit is not there.
+fn wants_its_last_bit(budget: u64, size: usize, code: &BitWriter) -> bool
+    requires { (size ≡ 4) ⊎ (size ≡ 16) ⊎ (size ≡ 64) ⊎ (size ≡ 256) }
+{
+    let len = code.len();
+    if len == 0 {
+        return true;
     }
+    let mut short = BitReader::new(code.words(), len - 1);
+    let mut again = [[0; 4]; 4];
+    decode(budget, 3, size, &mut short, &mut again).is_none() && short.at() == 0
+}
+
+// Whether the planes have this code, as far as a budget reaches, and it gives back what is kept.
+fn is_kept(
+    alloc: Global,
+    budget: u64,
+    size: usize,
+    planes: &[[u64; 4]; 3],
+    len: u64,
+    ones: &[u64],
+    kept: &[[u64; 4]; 3],
+) -> Result<bool, AllocError>
+    requires { (size ≡ 4) ⊎ (size ≡ 16) ⊎ (size ≡ 64) ⊎ (size ≡ 256) }
+{
+    let mut code = with_room(alloc, 1024)?;
+    let count = encode(budget, 3, size, planes, &mut code);
+    let is_same = count == len.min(budget)
+        && code.len() == count
+        && has_ones(&code, ones)
+        && gives_back(budget, size, &code, kept)
+        && wants_its_last_bit(budget, size, &code);
+    drop(code);
+    Ok(is_same)
 }
 
 // Writes the planes and reads them again at each budget.
-fn is_kept(rt: &impl Abort, alloc: Global, case: &Case) -> Result<(), Fail>
-    requires { (case.now.size ≡ 4) ⊎ (case.now.size ≡ 16) ⊎ (case.now.size ≡ 64) ⊎ (case.now.size ≡ 256) }
+fn are_kept(
+    rt: &impl Abort,
+    alloc: Global,
+    size: usize,
+    planes: &[[u64; 4]; 3],
+    len: u64,
+    ones: &[u64],
+    rows: &[(u64, &[(usize, usize)])],
+) -> Result<(), AllocError>
+    requires { (size ≡ 4) ⊎ (size ≡ 16) ⊎ (size ≡ 64) ⊎ (size ≡ 256) }
 {
-    let size = case.size;
-    let planes = planes_with(rt, case.ones);
-    assert!(rt; code_len(3, size, &planes) == case.code_len);
-    for (budget, ones) in case.kept {
-        let mut writer = BitWriter::new(alloc);
-        writer.reserve(1024)?;
-        let count = encode(*budget, 3, size, &planes, &mut writer);
-        assert!(rt; count == case.code_len.min(*budget) && writer.len() == count);
-        has_ones(rt, &writer, case.code);
-        gives_back(rt, *budget, size, &writer, &planes_with(rt, ones));
+    for (budget, ones_kept) in rows {
+        let kept = planes_with(rt, ones_kept);
+        assert!(rt; is_kept(alloc, *budget, size, planes, len, ones, &kept)?);
+    }
+    Ok(())
+}
+
+// Whether the planes have a code of so many bits.
+fn has_len(size: usize, planes: &[[u64; 4]; 3], len: u64) -> bool
+    ensures { IsTrue result → (size ≡ 4) ⊎ (size ≡ 16) ⊎ (size ≡ 64) ⊎ (size ≡ 256) }
+{
+    is_block_size(size) && code_len(3, size, planes) == len
+}
+
+fn all_are_kept(rt: &impl Abort, alloc: Global, cases: &[Case]) -> Result<(), AllocError> {
+    for case in cases {
+        let planes = planes_with(rt, case.ones);
+        assert!(rt; has_len(case.size, &planes, case.code_len));
+        are_kept(
+            rt,
+            alloc,
+            case.size,
+            &planes,
+            case.code_len,
+            case.code,
+            case.kept,
+        )?;
     }
     Ok(())
 }
 
 #[test]
 fn budgets_keep_what_they_reach(rt: HostRuntime) -> Result<(), Fail> {
-    is_kept(&rt, rt.alloc(), &SIZE_4)?;
-    is_kept(&rt, rt.alloc(), &SIZE_16)?;
-    is_kept(&rt, rt.alloc(), &SIZE_64)?;
-    is_kept(&rt, rt.alloc(), &SIZE_256)
+    all_are_kept(&rt, rt.alloc(), cases())?;
+    all_are_kept(&rt, rt.alloc(), large_cases())?;
+    Ok(())
 }
 
 // Planes of four digits, and the bits of their codes.
-const CODES: [(u64, &str); 5] = [
-    (0, "0"),
-    (1, "110"),
-    (4, "10010"),
-    (8, "1000"),
-    (9, "11100"),
+static CODES: [(u64, &[u8]); 5] = [
+    (0, b"0"),
+    (1, b"110"),
+    (4, b"10010"),
+    (8, b"1000"),
+    (9, b"11100"),
 ];
 
-#[test]
-fn planes_have_their_codes(rt: HostRuntime) -> Result<(), Fail> {
-    for (digits, code) in CODES {
-        let mut writer = BitWriter::new(rt.alloc());
-        writer.reserve(64)?;
-        let count = encode(64, 1, 4, &[[digits, 0, 0, 0]], &mut writer);
-        assert!(rt; count == code.len() as u64);
-        let mut reader = BitReader::new(writer.words(), writer.len());
-        for bit in code.bytes() {
-            assert!(rt; reader.read_bit() == Some(bit == b'1'));
-        }
+// Whether bits are these digits.
+fn are_digits(bits: &BitWriter, digits: &[u8]) -> bool {
+    let mut reader = BitReader::new(bits.words(), bits.len());
+    let mut all = true;
+    for digit in digits {
+        all &= reader.read_bit() == Some(*digit == b'1');
+    }
+    all && reader.left() == 0
+}
+
+// Whether a plane of four digits has this code.
+fn has_code(alloc: Global, digits: u64, bits: &[u8]) -> Result<bool, AllocError> {
+    let mut code = with_room(alloc, 64)?;
+    let count = encode(64, 1, 4, &[[digits, 0, 0, 0]], &mut code);
+    let is_same = count == bits.len() as u64 && are_digits(&code, bits);
+    drop(code);
+    Ok(is_same)
+}
+
+fn have_codes(rt: &impl Abort, alloc: Global, rows: &[(u64, &[u8])]) -> Result<(), AllocError> {
+    for (digits, bits) in rows {
+        assert!(rt; has_code(alloc, *digits, bits)?);
     }
     Ok(())
 }
 
-// A code gives back these planes of one word each.
-fn gives_back_words(
-    rt: &impl Abort,
-    budget: u64,
-    size: usize,
-    code: &BitWriter,
-    kept: &[[u64; 4]; 3],
-)
+#[test]
+fn planes_have_their_codes(rt: HostRuntime) -> Result<(), Fail> {
+    have_codes(&rt, rt.alloc(), &CODES)?;
+    Ok(())
+}
+
+// The first words of three planes.
+fn first_words(planes: &[[u64; 4]; 3]) -> [u64; 3] {
+    [planes[0][0], planes[1][0], planes[2][0]]
+}
+
+// Whether a code gives back these planes of one word each.
+fn gives_back_words(budget: u64, size: usize, code: &BitWriter, kept: &[u64; 3]) -> bool
     requires some { 0 < size }
     requires in_word { size ≤ 64 }
 {
     let mut reader = BitReader::new(code.words(), code.len());
     let mut again = [0; 4];
     let count = read_planes(budget, 3, size, &mut reader, &mut again);
-    assert!(rt; count == Some(code.len()));
-    assert!(rt; again == [0, kept[0][0], kept[1][0], kept[2][0]]);
+    count == Some(code.len()) && again == [0, kept[0], kept[1], kept[2]]
+}
+
+// Whether planes of one word each have this code, as far as a budget reaches, and it gives back what is kept.
+fn words_are_kept(
+    alloc: Global,
+    budget: u64,
+    size: usize,
+    planes: &[u64; 3],
+    len: u64,
+    ones: &[u64],
+    kept: &[u64; 3],
+) -> Result<bool, AllocError>
+    requires some { 0 < size }
+    requires in_word { size ≤ 64 }
+{
+    let mut code = with_room(alloc, 256)?;
+    let count = write_planes_below(0, budget, 3, size, planes, &mut code);
+    let is_same = count == len.min(budget)
+        && code.len() == count
+        && has_ones(&code, ones)
+        && gives_back_words(budget, size, &code, kept);
+    drop(code);
+    Ok(is_same)
+}
+
+// Writes the planes and reads them again at each budget.
+fn words_are_kept_at_each(
+    rt: &impl Abort,
+    alloc: Global,
+    size: usize,
+    planes: &[u64; 3],
+    len: u64,
+    ones: &[u64],
+    rows: &[(u64, &[(usize, usize)])],
+) -> Result<(), AllocError>
+    requires some { 0 < size }
+    requires in_word { size ≤ 64 }
+{
+    for (budget, ones_kept) in rows {
+        let kept = first_words(&planes_with(rt, ones_kept));
+        assert!(rt; words_are_kept(alloc, *budget, size, planes, len, ones, &kept)?);
+    }
+    Ok(())
+}
+
+// Whether planes of one word each have a code of so many bits.
+fn words_have_len(size: usize, planes: &[u64; 3], len: u64) -> bool
+    ensures some { IsTrue result → 0 < size }
+    ensures in_word { IsTrue result → size ≤ 64 }
+{
+    0 < size && size <= 64 && planes_len(3, size, planes) == len
+}
+
+fn all_words_are_kept(rt: &impl Abort, alloc: Global, cases: &[Case]) -> Result<(), AllocError> {
+    for case in cases {
+        let planes = first_words(&planes_with(rt, case.ones));
+        assert!(rt; words_have_len(case.size, &planes, case.code_len));
+        words_are_kept_at_each(
+            rt,
+            alloc,
+            case.size,
+            &planes,
+            case.code_len,
+            case.code,
+            case.kept,
+        )?;
+    }
+    Ok(())
 }
 
 #[test]
 fn one_word_a_plane_does_the_same(rt: HostRuntime) -> Result<(), Fail> {
-    for case in [&SIZE_4, &SIZE_16, &SIZE_64] {
-        let size = case.size;
-        assert!(rt; 0 < size && size <= 64);
-        let planes = planes_with(&rt, case.ones);
-        let words = [planes[0][0], planes[1][0], planes[2][0]];
-        assert!(rt; planes_len(3, size, &words) == case.code_len);
-        for (budget, ones) in case.kept {
-            let mut writer = BitWriter::new(rt.alloc());
-            writer.reserve(256)?;
-            let count = write_planes_below(0, *budget, 3, size, &words, &mut writer);
-            assert!(rt; count == case.code_len.min(*budget) && writer.len() == count);
-            has_ones(&rt, &writer, case.code);
-            gives_back_words(&rt, *budget, size, &writer, &planes_with(&rt, ones));
-        }
-    }
+    all_words_are_kept(&rt, rt.alloc(), cases())?;
     Ok(())
 }
 
@@ -232,16 +382,16 @@ struct Several {
     planes: [u64; 8],
     len: u64,
     code: u64,
-    kept: [(u64, [u64; 8]); 5],
+    kept: &'static [(u64, [u64; 8])],
 }
 
-const SEVERAL: [Several; 2] = [
+static SEVERAL: [Several; 2] = [
     Several {
         size: 4,
         planes: [13, 6, 11, 3, 1, 0, 2, 1],
         len: 28,
         code: 0x0d67_6433,
-        kept: [
+        kept: &[
             (10, [0, 0, 0, 0, 0, 0, 2, 1]),
             (17, [0, 0, 1, 3, 1, 0, 2, 1]),
             (23, [0, 6, 11, 3, 1, 0, 2, 1]),
@@ -254,7 +404,7 @@ const SEVERAL: [Several; 2] = [
         planes: [0x8a41, 0x1303, 0x0207, 0x0105, 3, 0, 0, 0],
         len: 63,
         code: 0x1520_a703_6074_1d78,
-        kept: [
+        kept: &[
             (20, [0, 0, 0, 0x0105, 3, 0, 0, 0]),
             (37, [0, 3, 0x0207, 0x0105, 3, 0, 0, 0]),
             (52, [1, 0x1303, 0x0207, 0x0105, 3, 0, 0, 0]),
@@ -264,49 +414,104 @@ const SEVERAL: [Several; 2] = [
     },
 ];
 
-#[test]
-fn several_planes_have_one_code(rt: HostRuntime) -> Result<(), Fail> {
-    for case in SEVERAL.iter() {
-        assert!(rt; 0 < case.size && case.size <= 16 && case.len <= 64);
-        for (budget, kept) in case.kept {
-            let mut writer = BitWriter::new(rt.alloc());
-            writer.reserve(256)?;
-            let count = write_planes_below(0, budget, 8, case.size, &case.planes, &mut writer);
-            assert!(rt; count == case.len.min(budget) && 0 < count && count <= 64);
-            let code = case.code & u64::MAX >> (64 - count);
-            assert!(rt; writer.words() == [code].as_slice());
-            let mut reader = BitReader::new(writer.words(), writer.len());
-            let mut again = [0; 8];
-            let read = read_planes(budget, 8, case.size, &mut reader, &mut again);
-            assert!(rt; read == Some(count) && again == kept);
-        }
+// Whether eight planes have this code, as far as a budget reaches, and it gives back what is kept.
+fn have_one_code(
+    alloc: Global,
+    budget: u64,
+    size: usize,
+    planes: &[u64; 8],
+    len: u64,
+    number: u64,
+    kept: &[u64; 8],
+) -> Result<bool, AllocError>
+    requires some { 0 < size }
+    requires small { size ≤ 16 }
+{
+    let mut code = with_room(alloc, 256)?;
+    let count = write_planes_below(0, budget, 8, size, planes, &mut code);
+    let is_same = count == len.min(budget)
+        && code.len() == count
+        && has_low_bits(&code, count, number)
+        && gives_back_eight(budget, size, &code, kept);
+    drop(code);
+    Ok(is_same)
+}
+
+// Whether bits are so many of the lowest of a number, at least one and at most 64.
+fn has_low_bits(bits: &BitWriter, count: u64, number: u64) -> bool {
+    0 < count && count <= 64 && bits.words() == [number & u64::MAX >> (64 - count)].as_slice()
+}
+
+// Whether a code gives back these eight planes.
+fn gives_back_eight(budget: u64, size: usize, code: &BitWriter, kept: &[u64; 8]) -> bool
+    requires some { 0 < size }
+    requires small { size ≤ 16 }
+{
+    let mut reader = BitReader::new(code.words(), code.len());
+    let mut again = [0; 8];
+    let count = read_planes(budget, 8, size, &mut reader, &mut again);
+    count == Some(code.len()) && again == *kept
+}
+
+// Writes eight planes and reads them again at each budget.
+fn have_one_code_at_each(
+    rt: &impl Abort,
+    alloc: Global,
+    size: usize,
+    planes: &[u64; 8],
+    len: u64,
+    number: u64,
+    rows: &[(u64, [u64; 8])],
+) -> Result<(), AllocError>
+    requires some { 0 < size }
+    requires small { size ≤ 16 }
+{
+    for (budget, kept) in rows {
+        assert!(rt; have_one_code(alloc, *budget, size, planes, len, number, kept)?);
     }
     Ok(())
 }
 
-// Budgets, and how many whole planes they reach. The codes of the planes of four digits have 5, 4 and 4 bits,
-// and those of the planes of 256 digits 133, 132 and 203.
-const WITHIN_4: [(u64, u32); 7] = [(0, 0), (4, 0), (5, 1), (8, 1), (9, 2), (12, 2), (13, 3)];
+fn all_have_one_code(rt: &impl Abort, alloc: Global, cases: &[Several]) -> Result<(), AllocError> {
+    for case in cases {
+        assert!(rt; 0 < case.size && case.size <= 16 && case.len <= 64);
+        have_one_code_at_each(
+            rt,
+            alloc,
+            case.size,
+            &case.planes,
+            case.len,
+            case.code,
+            case.kept,
+        )?;
+    }
+    Ok(())
+}
 
-const WITHIN_256: [(u64, u32); 6] = [
-    (132, 0),
-    (133, 1),
-    (264, 1),
-    (265, 2),
-    (467, 2),
-    (u64::MAX, 3),
-];
+#[test]
+fn several_planes_have_one_code(rt: HostRuntime) -> Result<(), Fail> {
+    all_have_one_code(&rt, rt.alloc(), &SEVERAL)?;
+    Ok(())
+}
 
-fn fit_whole(rt: &impl Abort, case: &Case, rows: &[(u64, u32)]) {
-    assert!(rt; case.size <= 256);
-    let planes = planes_with(rt, case.ones);
+// Whether budgets reach so many whole planes.
+fn reach(rt: &impl Abort, size: usize, planes: &[[u64; 4]; 3], rows: &[(u64, u32)])
+    requires { size ≤ 256 }
+{
     for (budget, count) in rows {
-        assert!(rt; planes_within(*budget, case.size, &planes) == *count);
+        assert!(rt; planes_within(*budget, size, planes) == *count);
+    }
+}
+
+fn fit_whole(rt: &impl Abort, cases: &[Case]) {
+    for case in cases {
+        assert!(rt; case.size <= 256);
+        reach(rt, case.size, &planes_with(rt, case.ones), case.within);
     }
 }
 
 #[test]
 fn planes_that_fit_whole(rt: HostRuntime) {
-    fit_whole(&rt, &SIZE_4, &WITHIN_4);
-    fit_whole(&rt, &SIZE_256, &WITHIN_256);
+    fit_whole(&rt, cases());
+    fit_whole(&rt, large_cases());
 }

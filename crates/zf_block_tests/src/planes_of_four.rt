@@ -3,7 +3,8 @@
 
 ghost use Rattle.std.specs.Prelude.{◌≤◌};
 
-use std::alloc::Global;
+use crate::support::with_room;
+use std::alloc::{AllocError, Global};
 use std::process::Abort;
 use std::test::Fail;
 use zf_bits::{BitReader, BitWriter};
@@ -18,7 +19,7 @@ struct Case {
     code: &'static [u64],
 }
 
-const CASES: [Case; 5] = [
+static CASES: [Case; 5] = [
     // Small coefficients.
     Case {
         width: 32,
@@ -88,78 +89,120 @@ fn planes_by_digits(digits: &[u64; 4]) -> [u64; 64] {
     planes
 }
 
-// The code of the case, as far as a budget reaches.
-fn written(rt: &impl Abort, alloc: Global, budget: u64, case: &Case) -> Result<BitWriter, Fail>
+// Writes the code of the case, as far as a budget reaches. The answer is whether as many bits were written as
+// it says.
+fn write(budget: u64, case: &Case, out: &mut BitWriter) -> bool
     requires width { case.now.width ≤ 64 }
     requires planes { case.now.prec ≤ case.now.width }
+    requires room { 512 ≤ out.old.room }
 {
-    let mut writer = BitWriter::new(alloc);
-    writer.reserve(512)?;
-    let count = write_four(0, budget, case.prec, case.width, &case.digits, &mut writer);
-    assert!(rt; count == writer.len());
-    Ok(writer)
+    write_four(0, budget, case.prec, case.width, &case.digits, out) == out.len()
 }
 
 // The same by way of planes in words.
-fn written_as_planes(
-    rt: &impl Abort,
-    alloc: Global,
-    budget: u64,
-    case: &Case,
-) -> Result<BitWriter, Fail>
+fn write_as_planes(budget: u64, case: &Case, out: &mut BitWriter) -> bool
     requires width { case.now.width ≤ 64 }
     requires planes { case.now.prec ≤ case.now.width }
+    requires room { 512 ≤ out.old.room }
 {
     let planes = planes_by_digits(&case.digits);
     let used = &planes[..case.width as usize];
-    let mut writer = BitWriter::new(alloc);
-    writer.reserve(512)?;
-    let count = write_planes_below(0, budget, case.prec, 4, used, &mut writer);
-    assert!(rt; count == writer.len());
-    Ok(writer)
+    write_planes_below(0, budget, case.prec, 4, used, out) == out.len()
 }
 
-// The first bits of a code.
-fn begins(rt: &impl Abort, part: &BitWriter, whole: &BitWriter) {
+// Whether a code is the first bits of another.
+fn begins(part: &BitWriter, whole: &BitWriter) -> bool {
     let mut read = BitReader::new(part.words(), part.len());
     let mut all = BitReader::new(whole.words(), whole.len());
+    let mut same = true;
     for _ in 0..part.len() {
-        assert!(rt; read.read_bit() == all.read_bit());
+        same &= read.read_bit() == all.read_bit();
     }
+    same
 }
 
-const BUDGETS: [u64; 12] = [0, 1, 17, 31, 40, 63, 64, 65, 129, 200, 258, 259];
+static BUDGETS: [u64; 12] = [0, 1, 17, 31, 40, 63, 64, 65, 129, 200, 258, 259];
 
-#[test]
-fn digits_have_the_code_of_their_planes(rt: HostRuntime) -> Result<(), Fail> {
-    for case in CASES.iter() {
+// Whether a budget keeps the first bits of the whole code, and the same by way of planes.
+fn keeps_a_part(
+    alloc: Global,
+    budget: u64,
+    case: &Case,
+    all: &BitWriter,
+) -> Result<bool, AllocError>
+    requires width { case.now.width ≤ 64 }
+    requires planes { case.now.prec ≤ case.now.width }
+{
+    let mut part = with_room(alloc, 512)?;
+    let mut by_planes = with_room(alloc, 512)?;
+    let same = write(budget, case, &mut part)
+        && write_as_planes(budget, case, &mut by_planes)
+        && begins(&part, all)
+        && part.len() == all.len().min(budget)
+        && by_planes.words() == part.words();
+    drop(by_planes);
+    drop(part);
+    Ok(same)
+}
+
+// The same of each budget.
+fn all_keep_a_part(alloc: Global, case: &Case, all: &BitWriter) -> Result<bool, AllocError>
+    requires width { case.now.width ≤ 64 }
+    requires planes { case.now.prec ≤ case.now.width }
+{
+    let mut same = true;
+    for budget in BUDGETS.iter() {
+        same &= keeps_a_part(alloc, *budget, case, all)?;
+    }
+    Ok(same)
+}
+
+// Whether the digits have their code, and each budget keeps what it reaches.
+fn have_their_code(alloc: Global, case: &Case) -> Result<bool, AllocError>
+    requires width { case.now.width ≤ 64 }
+    requires planes { case.now.prec ≤ case.now.width }
+{
+    let mut all = with_room(alloc, 512)?;
+    let same = write(400, case, &mut all) && all.len() == case.len && all.words() == case.code;
+    let parts = all_keep_a_part(alloc, case, &all);
+    drop(all);
+    Ok(same && parts?)
+}
+
+fn all_have_their_code(rt: &impl Abort, alloc: Global, cases: &[Case]) -> Result<(), AllocError> {
+    for case in cases {
         assert!(rt; case.width <= 64 && case.prec <= case.width);
-        let all = written(&rt, rt.alloc(), 400, case)?;
-        assert!(rt; all.len() == case.len && all.words() == case.code);
-        for budget in BUDGETS {
-            let part = written(&rt, rt.alloc(), budget, case)?;
-            let by_planes = written_as_planes(&rt, rt.alloc(), budget, case)?;
-            begins(&rt, &part, &all);
-            assert!(rt; part.len() == all.len().min(budget) && by_planes.words() == part.words());
-        }
+        assert!(rt; have_their_code(alloc, case)?);
     }
     Ok(())
 }
 
+#[test]
+fn digits_have_the_code_of_their_planes(rt: HostRuntime) -> Result<(), Fail> {
+    all_have_their_code(&rt, rt.alloc(), &CASES)?;
+    Ok(())
+}
+
 // Of digits whose top 28 planes are zeros: budgets, and the length and the bits of the code.
-const BELOW_ZEROS: [(u64, u64, u64); 3] = [
+static BELOW_ZEROS: [(u64, u64, u64); 3] = [
     (100, 45, 0x1314_7000_0000),
     (40, 40, 0x0014_7000_0000),
     (20, 20, 0),
 ];
 
+// Whether the code of the digits has so many bits, and these.
+fn has_bits(alloc: Global, budget: u64, len: u64, bits: u64) -> Result<bool, AllocError> {
+    let mut code = with_room(alloc, 512)?;
+    let count = write_four(28, budget, 32, 32, &[9, 4, 0, 15], &mut code);
+    let same = count == len && code.words() == [bits].as_slice();
+    drop(code);
+    Ok(same)
+}
+
 #[test]
 fn planes_of_zeros_are_known(rt: HostRuntime) -> Result<(), Fail> {
-    for (budget, len, code) in BELOW_ZEROS {
-        let mut writer = BitWriter::new(rt.alloc());
-        writer.reserve(512)?;
-        let count = write_four(28, budget, 32, 32, &[9, 4, 0, 15], &mut writer);
-        assert!(rt; count == len && writer.words() == [code].as_slice());
+    for (budget, len, bits) in BELOW_ZEROS.iter() {
+        assert!(rt; has_bits(rt.alloc(), *budget, *len, *bits)?);
     }
     Ok(())
 }
@@ -170,7 +213,7 @@ const CODE: u64 = 0x006d_b07a_2e83;
 const CODE_LEN: u64 = 40;
 
 // What budgets keep of them.
-const KEPT: [(u64, [u64; 4]); 12] = [
+static KEPT: [(u64, [u64; 4]); 12] = [
     (0, [0, 0, 0, 0]),
     (1, [0x800, 0, 0, 0]),
     (4, [0x800, 0, 0, 0]),
@@ -185,23 +228,29 @@ const KEPT: [(u64, [u64; 4]); 12] = [
     (50, [0x9d6, 0x0b5, 0x013, 6]),
 ];
 
+// Whether these digits come back in so many planes, the twelve and more below them.
+fn come_back(budget: u64, width: u32, digits: &[u64; 4]) -> bool
+    requires { (12 ≤ width) × (width ≤ 64) }
+{
+    let mut reader = BitReader::new(&[CODE], CODE_LEN);
+    let mut again = [u64::MAX; 4];
+    let count = read_four(budget, 12, width, &mut reader, &mut again);
+    let [a, b, c, d] = *digits;
+    let low = width - 12;
+    count == Some(reader.at())
+        && reader.at() == budget.min(CODE_LEN)
+        && again == [a << low, b << low, c << low, d << low]
+}
+
 #[test]
 fn budgets_keep_digits(rt: HostRuntime) {
-    for (budget, digits) in KEPT {
-        for width in [12, 64] {
-            let mut reader = BitReader::new(&[CODE], CODE_LEN);
-            let mut again = [u64::MAX; 4];
-            let count = read_four(budget, 12, width, &mut reader, &mut again);
-            assert!(rt; count == Some(reader.at()) && reader.at() == budget.min(CODE_LEN));
-            for r in 0..4 {
-                assert!(rt; again[r] == digits[r] << (width - 12));
-            }
-        }
+    for (budget, digits) in KEPT.iter() {
+        assert!(rt; come_back(*budget, 12, digits) && come_back(*budget, 64, digits));
     }
 }
 
 // Each list of bits is a code. These begin with many zeros, with ones, and with both.
-const CODES: [[u64; 3]; 4] = [
+static CODES: [[u64; 3]; 4] = [
     [0, 0x9e37_79b9_7f4a_7c15, 0xf39c_c060_5ced_c834],
     [u64::MAX, 0x0000_ffff_0000_1248, 0],
     [
@@ -227,8 +276,8 @@ fn digits_in(planes: &[u64; 32]) -> [u64; 4] {
     digits
 }
 
-// Reads a code of which so many bits are there, into digits and into planes.
-fn is_read_as_planes(rt: &impl Abort, budget: u64, prec: u32, code: &[u64; 3], bits: u64)
+// Whether a code of which so many bits are there is read into digits as it is into planes.
+fn is_read_as_planes(budget: u64, prec: u32, code: &[u64; 3], bits: u64) -> bool
     requires planes { prec ≤ 32 }
     requires bits { bits ≤ 192 }
 {
@@ -237,29 +286,26 @@ fn is_read_as_planes(rt: &impl Abort, budget: u64, prec: u32, code: &[u64; 3], b
     let count = read_planes(budget, prec, 4, &mut reader, &mut planes);
     let mut again = BitReader::new(code, bits);
     let mut digits = [u64::MAX; 4];
-    let same = read_four(budget, prec, 32, &mut again, &mut digits) == count;
-    assert!(rt; same && again.at() == reader.at());
-    assert!(rt;
-        if count.is_some() {
-            digits == digits_in(&planes)
-        } else {
-            again.at() == 0
-        }
-    );
+    let found = read_four(budget, prec, 32, &mut again, &mut digits);
+    let same = if count.is_some() {
+        digits == digits_in(&planes)
+    } else {
+        again.at() == 0
+    };
+    same && found == count && again.at() == reader.at()
 }
 
 #[test]
 fn digits_are_those_of_planes(rt: HostRuntime) {
-    for code in CODES {
+    for code in CODES.iter() {
         for prec in [0, 1, 5, 17, 32] {
             for budget in 0..170 {
-                is_read_as_planes(&rt, budget, prec, &code, 192);
+                assert!(rt; is_read_as_planes(budget, prec, code, 192));
             }
         }
         for bits in 0..150 {
-            for budget in [64, 1000] {
-                is_read_as_planes(&rt, budget, 32, &code, bits);
-            }
+            assert!(rt; is_read_as_planes(64, 32, code, bits));
+            assert!(rt; is_read_as_planes(1000, 32, code, bits));
         }
     }
 }

@@ -18,20 +18,36 @@ impl<T: Lane> LineMap<T> for MiddleOfEnds {
 }
 
 #[rattlefmt::skip]
-const BLOCK: [i32; 16] = [
+static BLOCK: [i32; 16] = [
     1, 0, 0, 0,
     0, 8, 8, 0,
     0, 8, 8, 0,
     1, 0, 0, 2,
 ];
 
+// The block after one axis, after both, and after both in the other order.
+static ONE: [i32; 16] = [1, 0, 0, 1, 0, 8, 8, 0, 0, 8, 8, 0, 1, 0, 0, 2];
+
+static ALL: [i32; 16] = [0, 0, 0, 1, 0, 8, 8, 0, 0, 8, 8, 0, 1, 0, 0, 2];
+
+static BACK: [i32; 16] = [1, 0, 0, 1, 0, 8, 8, 0, 0, 8, 8, 0, 1, 0, 0, 2];
+
+fn one_axis(mut block: [i32; 16]) -> [i32; 16] {
+    pass(&MiddleOfEnds, 4, &mut block);
+    block
+}
+
+fn all_axes(mut block: [i32; 16]) -> [i32; 16] {
+    passes(&MiddleOfEnds, 2, &mut block);
+    block
+}
+
+fn all_axes_back(mut block: [i32; 16]) -> [i32; 16] {
+    passes_back(&MiddleOfEnds, 2, &mut block);
+    block
+}
+
 #[test]
 fn axes_are_passed_in_order(rt: HostRuntime) {
-    let [mut one, mut all, mut back] = [BLOCK; 3];
-    pass(&MiddleOfEnds, 4, &mut one);
-    passes(&MiddleOfEnds, 2, &mut all);
-    passes_back(&MiddleOfEnds, 2, &mut back);
-    assert!(rt; one == [1, 0, 0, 1, 0, 8, 8, 0, 0, 8, 8, 0, 1, 0, 0, 2]);
-    assert!(rt; all == [0, 0, 0, 1, 0, 8, 8, 0, 0, 8, 8, 0, 1, 0, 0, 2]);
-    assert!(rt; back == [1, 0, 0, 1, 0, 8, 8, 0, 0, 8, 8, 0, 1, 0, 0, 2]);
+    assert!(rt; one_axis(BLOCK) == ONE && all_axes(BLOCK) == ALL && all_axes_back(BLOCK) == BACK);
 }

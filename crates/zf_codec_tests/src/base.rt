@@ -1,11 +1,14 @@
 //! Values from a program that was written from the definitions alone, and generic callers of `Lane`.
 
+ghost use Rattle.std.specs.Prelude.{IsTrue};
+ghost use Rattle.zf_base.specs.Positions.{IsPosition};
+
 use std::process::Abort;
 use std::test::Fail;
 use zf_base::{Extent, Lane, Pos, Shape, ShapeFault};
 
 // Two values; their sum and difference, and the double, the half and the word of the first, as numbers.
-const NARROW: [(i32, i32, [i128; 5]); 3] = [
+static NARROW: [(i32, i32, [i128; 5]); 3] = [
     (
         i32::MAX,
         1,
@@ -19,7 +22,7 @@ const NARROW: [(i32, i32, [i128; 5]); 3] = [
     (-3, -1, [-4, -2, -6, -2, 4294967293]),
 ];
 
-const WIDE: [(i64, i64, [i128; 5]); 1] = [(
+static WIDE: [(i64, i64, [i128; 5]); 1] = [(
     i64::MIN,
     -1,
     [
@@ -67,17 +70,23 @@ fn generic_sums_and_doubles_wrap(rt: HostRuntime) {
     assert!(rt; block == [-2, -2] && sum3(i64::MAX, 1, -1) == i64::MAX);
 }
 
+// Numbers, and the values that they are.
+static NUMBERS: [(i128, Option<i32>); 2] = [(2147483647, Some(i32::MAX)), (2147483648, None)];
+
+fn are_values(rt: &impl Abort, rows: &[(i128, Option<i32>)]) {
+    for (number, value) in rows {
+        assert!(rt; i32::from_wide(*number) == *value);
+    }
+}
+
 #[test]
 fn values_come_from_words_and_numbers(rt: HostRuntime) {
-    assert!(rt; i32::from_word(u64::MAX) == -1);
-    for (number, value) in [(2147483647, Some(i32::MAX)), (2147483648, None)] {
-        assert!(rt; i32::from_wide(number) == value);
-    }
-    assert!(rt; i64::from_wide(-9223372036854775809).is_none());
+    are_values(&rt, &NUMBERS);
+    assert!(rt; i32::from_word(u64::MAX) == -1 && i64::from_wide(-9223372036854775809).is_none());
 }
 
 // Dimensions, the sizes along x, y, z and w, and the fault of this shape if it has one.
-const FAULTS: [(u8, [u64; 4], Option<ShapeFault>); 10] = [
+static FAULTS: [(u8, [u64; 4], Option<ShapeFault>); 10] = [
     (1, [0, 0, 0, 0], Some(ShapeFault::Zero)),
     (1, [281474976710656, 0, 0, 0], Some(ShapeFault::TooLarge)),
     (1, [281474976710657, 0, 0, 0], Some(ShapeFault::Field)),
@@ -90,12 +99,16 @@ const FAULTS: [(u8, [u64; 4], Option<ShapeFault>); 10] = [
     (4, [4096, 4096, 8, 1], None),
 ];
 
+fn have_faults(rt: &impl Abort, rows: &[(u8, [u64; 4], Option<ShapeFault>)]) {
+    for (dims, [x, y, z, w], fault) in rows {
+        assert!(rt; 1 <= *dims && *dims <= 4);
+        assert!(rt; Shape::new(*dims, *x, *y, *z, *w).err() == *fault);
+    }
+}
+
 #[test]
 fn shapes_have_their_faults(rt: HostRuntime) {
-    for (dims, [x, y, z, w], fault) in FAULTS {
-        assert!(rt; 1 <= dims && dims <= 4);
-        assert!(rt; Shape::new(dims, x, y, z, w).err() == fault);
-    }
+    have_faults(&rt, &FAULTS);
 }
 
 // Dimensions and sizes of an array, its values and blocks, and one of its positions; the block and the place
@@ -111,7 +124,7 @@ struct Placed {
     size: [u64; 4],
 }
 
-const PLACED: [Placed; 4] = [
+static PLACED: [Placed; 4] = [
     Placed {
         dims: 1,
         sizes: [5, 0, 0, 0],
@@ -158,23 +171,49 @@ fn at([x, y, z, w]: [u64; 4]) -> Pos {
     Pos { x, y, z, w }
 }
 
-#[test]
-fn positions_have_their_places(rt: HostRuntime) -> Result<(), Fail> {
-    for row in PLACED.iter() {
+// Whether an array has so many dimensions, values and blocks, and this size along x.
+fn has_counts(shape: &Shape, row: &Placed) -> bool {
+    let counts = (shape.dims(), shape.values(), shape.blocks(), shape.size(0));
+    counts == (row.dims, row.values, row.blocks, row.sizes[0])
+}
+
+// Whether the array has the position, and none beside its end along x.
+fn has_position(shape: &Shape, p: Pos) -> bool
+    ensures { IsTrue result → IsPosition shape.now p }
+{
+    let x = shape.size(0);
+    shape.contains(p) && !shape.contains(Pos { x, ..p })
+}
+
+// Whether a position of the array has this block and place, and its block this part of the array.
+fn has_place(shape: &Shape, p: Pos, row: &Placed) -> bool
+    requires { IsPosition shape.now p }
+{
+    let (b, place) = shape.place(p);
+    let extent = Extent {
+        origin: at(row.origin),
+        size: at(row.size),
+    };
+    (b, place) == row.place && b < shape.blocks() && shape.extent(b) == extent
+}
+
+fn is_placed(shape: &Shape, row: &Placed) -> bool {
+    let p = at(row.position);
+    has_counts(shape, row) && has_position(shape, p) && has_place(shape, p, row)
+}
+
+fn are_placed(rt: &impl Abort, rows: &[Placed]) -> Result<(), ShapeFault> {
+    for row in rows {
         assert!(rt; 1 <= row.dims && row.dims <= 4);
         let [x, y, z, w] = row.sizes;
         let shape = Shape::new(row.dims, x, y, z, w)?;
-        let counts = (shape.dims(), shape.values(), shape.blocks(), shape.size(0));
-        assert!(rt; counts == (row.dims, row.values, row.blocks, x));
-        let p = at(row.position);
-        assert!(rt; shape.contains(p) && !shape.contains(Pos { x, ..p }));
-        let (b, place) = shape.place(p);
-        assert!(rt; (b, place) == row.place && b < shape.blocks());
-        let extent = Extent {
-            origin: at(row.origin),
-            size: at(row.size),
-        };
-        assert!(rt; shape.extent(b) == extent);
+        assert!(rt; is_placed(&shape, row));
     }
+    Ok(())
+}
+
+#[test]
+fn positions_have_their_places(rt: HostRuntime) -> Result<(), Fail> {
+    are_placed(&rt, &PLACED)?;
     Ok(())
 }

@@ -1,5 +1,7 @@
 //! Values of the format's tables, and of a program that computes the definitions digit by digit.
 
+ghost use Rattle.std.specs.Prelude.{◌≤◌, length};
+
 use std::process::Abort;
 use zf_base::Lane;
 use zf_coef::{
@@ -8,7 +10,7 @@ use zf_coef::{
 };
 
 // Dimensions, and the places of the first 16 ranks.
-const ORDERS: [(u8, &[u8]); 4] = [
+static ORDERS: [(u8, &[u8]); 4] = [
     (1, &[0, 1, 2, 3]),
     (2, &[0, 1, 4, 5, 2, 8, 6, 9, 3, 12, 10, 7, 13, 11, 14, 15]),
     (3, &[0, 1, 4, 16, 5, 17, 20, 2, 8, 32, 21, 6, 18, 9, 33, 24]),
@@ -18,17 +20,21 @@ const ORDERS: [(u8, &[u8]); 4] = [
     ),
 ];
 
-#[test]
-fn ranks_have_their_places(rt: HostRuntime) {
-    for (d, places) in ORDERS {
-        assert!(rt; 1 <= d && d <= 4);
-        let all = order(d);
-        assert!(rt; &all[..all.len().min(16)] == places);
+fn have_places(rt: &impl Abort, rows: &[(u8, &[u8])]) {
+    for (d, places) in rows {
+        assert!(rt; 1 <= *d && *d <= 4);
+        let all = order(*d);
+        assert!(rt; &all[..all.len().min(16)] == *places);
     }
 }
 
+#[test]
+fn ranks_have_their_places(rt: HostRuntime) {
+    have_places(&rt, &ORDERS);
+}
+
 // Values and their digits.
-const NARROW: [(i32, u64); 6] = [
+static NARROW: [(i32, u64); 6] = [
     (1, 1),
     (-1, 3),
     (2, 6),
@@ -37,7 +43,7 @@ const NARROW: [(i32, u64); 6] = [
     (-1073741824, 0xc000_0000),
 ];
 
-const WIDE: [(i64, u64); 4] = [
+static WIDE: [(i64, u64); 4] = [
     (1, 1),
     (-1, 3),
     (i64::MIN, 0x8000_0000_0000_0000),
@@ -57,26 +63,49 @@ fn values_have_their_digits(rt: HostRuntime) {
 }
 
 // A block of two dimensions, its digits by rank, and its lowest six planes, each in a word.
-const BLOCK: [i32; 16] = [-8, -7, -6, -5, -4, -3, -2, -1, 0, 1, 2, 3, 4, 5, 6, 7];
+static BLOCK: [i32; 16] = [-8, -7, -6, -5, -4, -3, -2, -1, 0, 1, 2, 3, 4, 5, 6, 7];
 
-const DIGITS: [u64; 16] = [8, 9, 12, 13, 14, 0, 2, 1, 15, 4, 6, 3, 5, 7, 26, 27];
+static DIGITS: [u64; 16] = [8, 9, 12, 13, 14, 0, 2, 1, 15, 4, 6, 3, 5, 7, 26, 27];
 
-const LOW_PLANES: [u64; 6] = [47498, 60752, 14108, 49439, 49152, 0];
+static LOW_PLANES: [[u64; 4]; 6] = [
+    [47498, 0, 0, 0],
+    [60752, 0, 0, 0],
+    [14108, 0, 0, 0],
+    [49439, 0, 0, 0],
+    [49152, 0, 0, 0],
+    [0, 0, 0, 0],
+];
+
+fn ranked_digits(block: &[i32; 16]) -> [u64; 16] {
+    let mut digits = [0; 16];
+    ranked::<i32>(2, block, &mut digits);
+    digits
+}
+
+fn unranked_values(digits: &[u64; 16]) -> [i32; 16] {
+    let mut block = [0; 16];
+    unranked::<i32>(2, digits, &mut block);
+    block
+}
+
+fn planes_of(digits: &[u64; 16]) -> [[u64; 4]; 32] {
+    let mut planes = [[1; 4]; 32];
+    to_planes(digits, &mut planes);
+    planes
+}
+
+fn digits_in(planes: &[[u64; 4]; 32]) -> [u64; 16] {
+    let mut digits = [1; 16];
+    from_planes(planes, &mut digits);
+    digits
+}
 
 #[test]
 fn planes_hold_a_block(rt: HostRuntime) {
-    let mut digits = [0; 16];
-    ranked::<i32>(2, &BLOCK, &mut digits);
-    let mut planes = [[1; 4]; 32];
-    to_planes(&digits, &mut planes);
-    for (plane, word) in planes.iter().zip(LOW_PLANES) {
-        assert!(rt; *plane == [word, 0, 0, 0]);
-    }
-    let mut again = [1; 16];
-    from_planes(&planes, &mut again);
-    let mut restored = [0; 16];
-    unranked::<i32>(2, &again, &mut restored);
-    assert!(rt; digits == DIGITS && again == DIGITS && restored == BLOCK);
+    let digits = ranked_digits(&BLOCK);
+    assert!(rt; digits == DIGITS && unranked_values(&digits) == BLOCK);
+    let planes = planes_of(&digits);
+    assert!(rt; digits_in(&planes) == digits && &planes[..6] == LOW_PLANES.as_slice());
 }
 
 // The definitions' plain program: the planes by their digits.
@@ -109,50 +138,83 @@ fn digits_of(planes: usize) -> [u64; 256] {
     digits
 }
 
+// Whether the digits of so many planes are transposed as the plain program does it, and come back.
+fn are_as_the_plain(count: usize, size: usize) -> bool
+    requires { (count ≤ 64) × (size ≤ 256) }
+{
+    let all = digits_of(count);
+    let digits = &all[..size];
+    let plain = planes_by_digits(digits);
+    let mut planes = [[7; 4]; 64];
+    to_planes(digits, &mut planes[..count]);
+    let mut again = [7; 256];
+    from_planes(&planes[..count], &mut again[..size]);
+    &planes[..count] == &plain[..count] && &again[..size] == digits
+}
+
 // How many planes there are, and how many digits.
-const PLANE_COUNTS: [usize; 2] = [32, 64];
+static PLANE_COUNTS: [usize; 2] = [32, 64];
 
-const SIZES: [usize; 10] = [0, 1, 3, 4, 15, 16, 17, 64, 255, 256];
+static SIZES: [usize; 8] = [0, 1, 3, 4, 15, 16, 17, 64];
 
-#[test]
-fn kernels_are_the_plain_program(rt: HostRuntime) {
-    for count in PLANE_COUNTS {
-        for size in SIZES {
-            assert!(rt; count <= 64 && size <= 256);
-            let digits = &digits_of(count)[..size];
-            let mut planes = [[7; 4]; 64];
-            to_planes(digits, &mut planes[..count]);
-            assert!(rt; &planes[..count] == &planes_by_digits(digits)[..count]);
-            let mut again = [7; 256];
-            from_planes(&planes[..count], &mut again[..size]);
-            assert!(rt; &again[..size] == digits);
+static LARGE_SIZES: [usize; 2] = [255, 256];
+
+// The same for each number of planes and of digits.
+fn all_are_as_the_plain(rt: &impl Abort, counts: &[usize], sizes: &[usize]) {
+    for count in counts {
+        for size in sizes {
+            assert!(rt; *count <= 64 && *size <= 256 && are_as_the_plain(*count, *size));
         }
     }
 }
 
-// The same where one word a plane is enough.
 #[test]
-fn kernels_of_a_word_are_the_plain_program(rt: HostRuntime) {
-    for count in PLANE_COUNTS {
-        for size in [0, 1, 3, 4, 15, 16, 17, 64] {
-            assert!(rt; count <= 64 && size <= 64);
-            let digits = &digits_of(count)[..size];
-            let mut planes = [7; 64];
-            planes_of_digits(digits, &mut planes[..count]);
-            let plain = planes_by_digits(digits);
-            for k in 0..count {
-                assert!(rt; planes[k] == plain[k][0]);
-            }
-            let mut again = [7; 64];
-            digits_of_planes(&planes[..count], &mut again[..size]);
-            assert!(rt; &again[..size] == digits);
+fn kernels_are_the_plain_program(rt: HostRuntime) {
+    all_are_as_the_plain(&rt, &PLANE_COUNTS, &SIZES);
+    all_are_as_the_plain(&rt, &PLANE_COUNTS, &LARGE_SIZES);
+}
+
+// Whether planes are the first words of others.
+fn are_first_words(planes: &[u64], others: &[[u64; 4]; 64]) -> bool
+    requires { length planes.now ≤ 64 }
+{
+    let mut same = true;
+    for k in 0..planes.len() {
+        same &= planes[k] == others[k][0];
+    }
+    same
+}
+
+// The same as `are_as_the_plain`, where one word a plane is enough.
+fn words_are_as_the_plain(count: usize, size: usize) -> bool
+    requires { (count ≤ 64) × (size ≤ 64) }
+{
+    let all = digits_of(count);
+    let digits = &all[..size];
+    let plain = planes_by_digits(digits);
+    let mut planes = [7; 64];
+    planes_of_digits(digits, &mut planes[..count]);
+    let mut again = [7; 64];
+    digits_of_planes(&planes[..count], &mut again[..size]);
+    are_first_words(&planes[..count], &plain) && &again[..size] == digits
+}
+
+fn all_words_are_as_the_plain(rt: &impl Abort, counts: &[usize], sizes: &[usize]) {
+    for count in counts {
+        for size in sizes {
+            assert!(rt; *count <= 64 && *size <= 64 && words_are_as_the_plain(*count, *size));
         }
     }
+}
+
+#[test]
+fn kernels_of_a_word_are_the_plain_program(rt: HostRuntime) {
+    all_words_are_as_the_plain(&rt, &PLANE_COUNTS, &SIZES);
 }
 
 // Digits, the width, how many planes are needed, those above the lowest digit that any coefficient has, and
 // how many are zero above the greatest one.
-const NEEDED: [(&[u64], u32, u32, u32); 6] = [
+static NEEDED: [(&[u64], u32, u32, u32); 6] = [
     (&[], 32, 0, 32),
     (&[0, 0, 0, 0], 32, 0, 32),
     (&[0, 1, 0, 0], 32, 32, 31),
@@ -161,10 +223,16 @@ const NEEDED: [(&[u64], u32, u32, u32); 6] = [
     (&[12, 8, 0, 24], 64, 62, 59),
 ];
 
+fn are_needed(rt: &impl Abort, rows: &[(&[u64], u32, u32, u32)]) {
+    for (digits, width, needed, zeros) in rows {
+        assert!(rt; 0 < *width && *width <= 64);
+        assert!(rt;
+            zero_planes(digits, *width) == *zeros && needed_planes(digits, *width) == *needed
+        );
+    }
+}
+
 #[test]
 fn planes_are_needed_down_to_the_lowest_digit(rt: HostRuntime) {
-    for (digits, width, needed, zeros) in NEEDED {
-        assert!(rt; 0 < width && width <= 64);
-        assert!(rt; zero_planes(digits, width) == zeros && needed_planes(digits, width) == needed);
-    }
+    are_needed(&rt, &NEEDED);
 }

@@ -3,7 +3,7 @@
 ghost use Rattle.std.specs.Prelude.{◌≡◌, ◌<◌, ◌^◌, length};
 ghost use Rattle.zf_spec.specs.Grid.{product, blocks};
 
-use std::alloc::Global;
+use std::alloc::{AllocError, Global};
 use std::process::Abort;
 use std::test::Fail;
 use zf_base::{Lane, Shape, block_len};
@@ -50,7 +50,7 @@ fn read_and_write<T: Lane>(shape: &Shape, b: u64, values: &mut [T], block: &mut 
 }
 
 // Dimensions and sizes, a block, and its two fingerprints.
-const ROWS: [(u8, [u64; 4], u64, (u64, u64)); 5] = [
+static ROWS: [(u8, [u64; 4], u64, (u64, u64)); 5] = [
     (1, [7, 0, 0, 0], 1, (154943, 4998)),
     (2, [6, 5, 0, 0], 3, (10846086369289120896, 929)),
     (
@@ -73,20 +73,43 @@ const ROWS: [(u8, [u64; 4], u64, (u64, u64)); 5] = [
     ),
 ];
 
-fn fingerprints_are<T: Lane>(rt: &impl Abort, alloc: Global) -> Result<(), Fail> {
-    for (dims, [x, y, z, w], b, fingerprints) in ROWS {
-        assert!(rt; 1 <= dims && dims <= 4);
-        let shape = Shape::new(dims, x, y, z, w)?;
-        assert!(rt; b < shape.blocks());
-        let mut values = vec![in alloc; T::zero(); shape.values() as usize]?;
-        let mut block = vec![in alloc; T::zero(); block_len(shape.dims())]?;
-        assert!(rt; read_and_write(&shape, b, &mut values, &mut block) == fingerprints);
+// The two fingerprints of a block of an array.
+fn fingerprints_of<T: Lane>(alloc: Global, shape: &Shape, b: u64) -> Result<(u64, u64), AllocError>
+    requires { b < blocks shape.now }
+{
+    let mut values = vec![in alloc; T::zero(); shape.values() as usize]?;
+    let mut block = vec![in alloc; T::zero(); block_len(shape.dims())]?;
+    let found = read_and_write::<T>(shape, b, &mut values, &mut block);
+    drop(block);
+    drop(values);
+    Ok(found)
+}
+
+// The shape of an array.
+fn shape_of(rt: &impl Abort, dims: u8, [x, y, z, w]: [u64; 4]) -> Shape {
+    assert!(rt; 1 <= dims && dims <= 4);
+    let Ok(shape) = Shape::new(dims, x, y, z, w) else {
+        panic!(rt; "no shape");
+    };
+    shape
+}
+
+fn fingerprints_are<T: Lane>(
+    rt: &impl Abort,
+    alloc: Global,
+    rows: &[(u8, [u64; 4], u64, (u64, u64))],
+) -> Result<(), AllocError> {
+    for (dims, sizes, b, fingerprints) in rows {
+        let shape = shape_of(rt, *dims, *sizes);
+        assert!(rt; *b < shape.blocks());
+        assert!(rt; fingerprints_of::<T>(alloc, &shape, *b)? == *fingerprints);
     }
     Ok(())
 }
 
 #[test]
 fn blocks_are_read_padded_and_written(rt: HostRuntime) -> Result<(), Fail> {
-    fingerprints_are::<i32>(&rt, rt.alloc())?;
-    fingerprints_are::<i64>(&rt, rt.alloc())
+    fingerprints_are::<i32>(&rt, rt.alloc(), &ROWS)?;
+    fingerprints_are::<i64>(&rt, rt.alloc(), &ROWS)?;
+    Ok(())
 }
