@@ -1,4 +1,5 @@
 -- Planes in which the first rank alone has ones: their code, what is read as such, and the digits that they hold.
+use Rattle.std.proofs.Common.{rules}
 use Rattle.std.proofs.Common.{◌≡◌, refl, sym, ap, subst, ◌∙◌, ℕ, zero, suc, ◌+◌, ◌-◌, ◌*◌, ◌/◌, ◌%◌, ◌^◌, ◌<◌, ◌≤◌, ◌≢◌, max, inl, inr, Bool, true, false, pos, List, [], ◌∷◌, ◌++◌, map, reverse, length, take, drop, replicate, get_or, ext_get_or, ◌==◌, All, arith}
 use Rattle.std.proofs.Math.Pow.{pow_mono}
 use Rattle.std.proofs.lemmas.Nat.{pow_pos, pow-add, shr-shr, shl_whole, mul-add-lt}
@@ -105,9 +106,7 @@ module _ (n : ℕ) where
       ∙ ap (λ (bs : List Bool). false ∷ bs) (code-held ds)
   code-held (true ∷ ds) =
       let one : max 0 (reach (true ∷ others)) ≡ 1 = omega (arith, reach_none others (has_one-zeros (suc n))) in
-      ap (λ k. plane_code 0 (true ∷ others) ++ code_from k (held ds)) one
-      ∙ ap (λ (bs : List Bool). (true ∷ true ∷ bs) ++ code_from 1 (held ds)) none
-      ∙ ap (λ (bs : List Bool). true ∷ true ∷ false ∷ bs) (behind_one ds)
+      search (rules, none, behind_one)
 
 pub code-first_planes : (size : ℕ) (ds : List Bool) → 2 ≤ size → code (first_planes size ds) ≡ first_code ds
 code-first_planes size ds some =
@@ -139,21 +138,12 @@ module _ (size k u len : ℕ) (s : List Bool) (some : 2 ≤ size) (is : IsFirstC
 
 -- fewer bits, which have the code, have it too
 pub first_within : (k u len budget : ℕ) (s : List Bool) → len ≤ budget → budget ≤ length s → IsFirstCode k u len s → IsFirstCode k u len (take budget s)
-first_within k u len budget s fits enough is =
-    record {
-      bits = take-take len budget s fits ∙ is.bits;
-      there = omega (arith, length-take budget s);
-      some = is.some;
-      small = is.small;
-    }
+first_within k u len budget s fits enough is = search (rules, take-take, length-take)
 
 pub kept-first : (size k u len budget : ℕ) (s : List Bool) → 2 ≤ size → len ≤ budget → budget ≤ length s → IsFirstCode k u len s
     → kept_planes budget (planes_in k size (take budget s)) ≡ first_planes size (digits_down k u)
 kept-first size k u len budget s some fits enough is =
-    let here = first_within k u len budget s fits enough is in
-    let planes = first_planes size (digits_down k u) in
-    ap (kept_planes budget) (planes_in-first size k u len (take budget s) some here)
-    ∙ kept_planes-whole budget planes (omega (arith, code_len size k u len (take budget s) some here))
+    let here = first_within k u len budget s fits enough is in search (rules, planes_in-first, kept_planes-whole, code_len)
 
 -- ---- the digits of all ranks
 
@@ -178,9 +168,7 @@ planes_of-first w u size = each (reverse (upto w)) ∙ ap (first_planes size) do
         let long = length-map-reverse-upto digit w in
         let fields = length-field w u in
         ext_get_or false (map digit (reverse (upto w))) (digits_down w u) (long ∙ sym (length-digits_down w u))
-        (λ k below.
-        get_or-map-reverse-upto digit w k false (omega arith)
-        ∙ sym (get_or-reverse (field w u) k false (omega arith) ∙ ap (λ n. get_or (field w u) (n - 1 - k) false) fields))
+        (search (rules, get_or-map-reverse-upto, get_or-reverse))
 
 pub first_above : (size k n u : ℕ) → 1 ≤ size → AreAbove size (first_planes size (digits_down k u)) (first_planes size (digits_down (k + n) (u * 2 ^ n)))
 first_above size k n u some = (
@@ -217,14 +205,7 @@ uncut_first size w k u len v s sizes within word is here =
     let n = w - k in
     let all : k + n ≡ w = omega arith in
     let whole : v ≡ u * 2 ^ n = is ∙ shl_whole u k n 64 here.small (omega arith) in
-    let above = first_above size k n u (omega arith) in (
-      above.0,
-      planes_of-first w v size
-          ∙ ap (λ j. first_planes size (digits_down j v)) (sym all)
-          ∙ ap (λ x. first_planes size (digits_down (k + n) x)) whole
-          ∙ above.1
-          ∙ ap (λ (ps : List (List Bool)). ps ++ replicate above.0 (replicate size false)) (sym (planes_in-first size k u len s some here)),
-    )
+    let above = first_above size k n u (omega arith) in search (rules, planes_of-first, planes_in-first)
 
 -- the coefficients that they stand for
 pub coefficients_first : (w : Width) (d n u size : ℕ) → IsDimension d → n ≡ bits w → size ≡ 4 ^ d
@@ -265,14 +246,7 @@ one_more word i digits left low come =
     let first : is_odd left ≡ is_odd d = is_odd-mod left in
     let second : is_odd (left / 2) ≡ false = let even : left / 2 ≡ digit_value false + 2 * (left / 4) = omega arith in ap is_odd even ∙ is_odd-digit_value false (left / 4) in
     record {
-      code =
-          ap (λ n. field n word) two
-          ∙ field-add (2 * i) 2 word
-          ∙ ap (λ n. field (2 * i) word ++ field 2 n) (sym come.behind)
-          ∙ ap (λ b. field (2 * i) word ++ (b ∷ is_odd (left / 2) ∷ [])) first
-          ∙ ap (λ b. field (2 * i) word ++ (is_odd d ∷ b ∷ [])) second
-          ∙ ap (λ (bs : List Bool). bs ++ (is_odd d ∷ false ∷ [])) come.code
-          ∙ sym (ap (λ n. lone_code (digits_down (i + 1) n)) twice ∙ ap lone_code (digits_down-add i 1 digits d (omega arith)) ∙ lone_code-append (digits_down i digits) (is_odd d ∷ []));
+      code = search (rules, field-add, digits_down-add, lone_code-append);
       small = omega (arith, come.small, pow-add 2 i 1);
       behind = omega (arith, come.behind, shr-shr word (2 * i) 2, ap (λ n. word / 2 ^ n) two);
     }
@@ -290,9 +264,7 @@ have_come word count digits left come seen reads = record { reads = Reads-same r
 
 -- two parts, one behind the other
 parts_below : (m n u v : ℕ) → u < 2 ^ m → v < 2 ^ n → u * 2 ^ n + v < 2 ^ (m + n)
-parts_below m n u v high few =
-    let order : m + n ≡ n + m = omega arith in
-    omega (arith, mul-add-lt u (2 ^ n) v (2 ^ m) high few, pow-add 2 n m, ap (λ k. 2 ^ k) order)
+parts_below m n u v high few = search (rules, mul-add-lt, pow-add)
 
 pub ReadsDigits-append : {a b c : Reader} (m n u v : ℕ) → ReadsDigits m u a b → ReadsDigits n v b c → ReadsDigits (m + n) (u * 2 ^ n + v) a c
 ReadsDigits-append m n u v first second = record {
@@ -303,8 +275,7 @@ ReadsDigits-append m n u v first second = record {
 -- as a word has them
 pub joined : (m n u v : ℕ) → u < 2 ^ m → v < 2 ^ n → m + n ≤ 63 → (u * 2 ^ n % 2 ^ 64 ≡ u * 2 ^ n) × (u * 2 ^ n + v < 2 ^ 64)
 joined m n u v high low few =
-    let bound : 2 ^ (m + n) ≤ 2 ^ 63 = pow_mono {i = m + n} {j = 63} few in
-    (shl_whole u m n 64 high (omega arith), omega (arith, parts_below m n u v high low))
+    omega (arith, pow_mono {i = m + n} {j = 63} few, shl_whole u m n 64 high (omega arith), parts_below m n u v high low)
 
 -- the first one, behind the planes of zeros, and those behind it
 pub first_read : {old zeros one new : Reader} (z n d len : ℕ) → Reads old zeros (replicate z false) → Reads zeros one (true ∷ true ∷ false ∷ []) → ReadsDigits n d one new → len ≡ new.at - old.at
@@ -318,26 +289,13 @@ first_read {old} {zeros} {one} {new} z n d len above first behind count =
     let whole : 1 * 2 ^ n + d ≡ u = omega arith in
     let alone : u ≡ 0 * 2 ^ k + u = omega arith in
     let below : 0 * 2 ^ k + u < 2 ^ (z + k) = parts_below z k 0 u (pow_pos z) (omega (arith, behind.small, twice)) in
-    let all : digits_down (z + k) u ≡ replicate z false ++ (true ∷ digits) =
-    ap (digits_down (z + k)) alone
-    ∙ digits_down-add z k 0 u (omega (arith, behind.small, twice))
-    ∙ ap (λ (ds : List Bool). ds ++ digits_down k u) (digits_down-zero z)
-    ∙ ap (λ v. replicate z false ++ digits_down k v) (sym whole)
-    ∙ ap (λ (ds : List Bool). replicate z false ++ ds) (digits_down-add 1 n 1 d behind.small) in
+    let all : digits_down (z + k) u ≡ replicate z false ++ (true ∷ digits) = search (rules, digits_down-add, digits_down-zero) in
     let reads : Reads old new bits = Reads-same (Reads-append above (Reads-append first behind.reads)) (sym (ap first_code all ∙ first_code-behind z digits)) in
-    let long : length bits ≡ len = omega (arith, reads.place, count) in
-    record {
-      bits = ap (take len) reads.next ∙ take-append-le len bits (rest new) (omega (arith, long)) ∙ take_all len bits (omega (arith, long));
-      there = omega (arith, ap length reads.next, length-append bits (rest new), long);
-      some = omega arith;
-      small = omega arith;
-    }
+    let long : length bits ≡ len = omega (arith, reads.place, count) in search (rules, take-append-le, take_all, length-append)
 
 -- as the code puts it together
 pub first_fits : (n d : ℕ) → d < 2 ^ n → n ≤ 63 → 1 * 2 ^ n % 2 ^ 64 + d < 2 ^ 64
-first_fits n d small few =
-    let bound : 2 ^ n ≤ 2 ^ 63 = pow_mono {i = n} {j = 63} few in
-    omega (arith, shl_whole 1 1 n 64 (omega arith) (omega arith))
+first_fits n d small few = search (rules, pow_mono, shl_whole)
 
 pub whole_read : {old zeros one new : Reader} (prec z v d n len a b : ℕ) → z ≤ prec → z ≢ prec → prec ≤ 64 → n ≡ prec - z - 1 → IsPeeked v (rest zeros) → v % 8 ≡ 3 → 3 ≤ length (rest zeros)
     → take z (rest old) ≡ replicate z false → Reads old zeros (take z (rest old)) → Reads zeros one (take 3 (rest zeros)) → ReadsDigits n d one new → len ≡ b - a → a ≡ old.at → b ≡ new.at

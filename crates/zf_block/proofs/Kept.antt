@@ -1,10 +1,8 @@
 -- Planes that a budget keeps whole, and planes that are missing below.
-use Rattle.std.proofs.Common.{◌≡◌, refl, sym, ap, ◌∙◌, ℕ, zero, suc, ◌-◌, ◌^◌, ◌<◌, ◌≤◌, max, Bool, false, List, [], ◌∷◌, ◌++◌, length, take, get_or, replicate, ext_get_or, arith}
+use Rattle.std.proofs.Common.{rules}
+use Rattle.std.proofs.Common.{◌≡◌, refl, sym, ap, ◌∙◌, ℕ, zero, suc, ◌-◌, ◌≤◌, max, Bool, false, List, [], ◌∷◌, ◌++◌, length, take, get_or, replicate, arith}
 use Rattle.std.proofs.lemmas.List.{length-append, take_all}
 use Rattle.std.specs.Int.{Width}
-use mir.Val.{bits}
-use Rattle.zf_spec.specs.Numbers.{value_of}
-use Rattle.zf_spec.specs.Ranks.{by_place}
 use Rattle.zf_spec.specs.Planes.{reach, plane_code, code, code_from}
 use Rattle.zf_spec.specs.Kept.{kept_planes_from, kept_planes}
 use Rattle.zf_spec.specs.Codes.{coefficients_of}
@@ -51,17 +49,7 @@ same_at (p ∷ ps) n size zero r = refl
 same_at (p ∷ ps) n size (suc k) r = same_at ps n size k r
 
 digits_at-zeros : (w : ℕ) (ps : List (List Bool)) (n size r : ℕ) → digits_at w (ps ++ replicate n (replicate size false)) r ≡ digits_at w ps r
-digits_at-zeros w ps n size r =
-    let more = ps ++ replicate n (replicate size false) in
-    let long = length-digits_at w more r in
-    ext_get_or false (digits_at w more r) (digits_at w ps r) (long ∙ sym (length-digits_at w ps r))
-    (λ i h.
-    let below : i < w = omega (arith, h, long) in
-    get_or-digits_at w more r i below ∙ same_at ps n size (w - 1 - i) r ∙ sym (get_or-digits_at w ps r i below))
+digits_at-zeros w ps n size r = search (rules, length-digits_at, digits_at, get_or-digits_at, same_at)
 
 pub coefficients_of-zeros : (w : Width) (d : ℕ) (ps : List (List Bool)) (n size : ℕ) → coefficients_of w d (ps ++ replicate n (replicate size false)) ≡ coefficients_of w d ps
-coefficients_of-zeros w d ps n size =
-    let more = ps ++ replicate n (replicate size false) in
-    coefficients_of-is w d more
-    ∙ ap (by_place d) (map-upto_same (λ r. value_of w (digits_at (bits w) more r)) (λ r. value_of w (digits_at (bits w) ps r)) (4 ^ d) (λ r h. ap (value_of w) (digits_at-zeros (bits w) ps n size r)))
-    ∙ sym (coefficients_of-is w d ps)
+coefficients_of-zeros w d ps n size = search (rules, coefficients_of-is, map-upto_same, digits_at, digits_at-zeros)

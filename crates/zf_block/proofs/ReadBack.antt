@@ -1,8 +1,9 @@
 -- What is read back from the codes of a block.
-use Rattle.std.proofs.Common.{◌≡◌, sym, ap, ◌∙◌, ℕ, ◌^◌, ◌<◌, Bool, ℤ, pos, Some, List, ◌++◌, length, take, refl, ◌-◌, take_at, ext_get_or, arith}
+use Rattle.std.proofs.Common.{rules}
+use Rattle.std.proofs.Common.{◌≡◌, sym, ap, ◌∙◌, ℕ, ◌^◌, Bool, ℤ, pos, Some, List, ◌++◌, length, take, refl, ◌-◌, take_at, ext_get_or}
 use Rattle.std.proofs.lemmas.Option.{none-some, some_pair_parts}
 use Rattle.std.specs.Int.{Width}
-use Rattle.zf_spec.specs.Grid.{fours, indices, is_inside}
+use Rattle.zf_spec.specs.Grid.{fours}
 use Rattle.zf_spec.specs.Codes.{rev, rate, prec, round, round_prec, existing_values, read_rev, read_rate, read_prec}
 use Rattle.zf_spec.proofs.BlockReading.{read_rev-rev, read_rate-rate, read_prec-prec, length-rate}
 use Rattle.zf_spec.proofs.Padding.{length-existing_values, get_or-existing_inside}
@@ -72,9 +73,7 @@ existing_values-fours d block long =
     let axes = length-fours d in
     let count : length (existing_values (fours d) block) ≡ 4 ^ d = length-existing_values (fours d) block ∙ ap (λ k. 4 ^ k) axes in
     ext_get_or (pos 0) (existing_values (fours d) block) block (count ∙ sym long)
-    (λ p h.
-    let below : p < 4 ^ length (fours d) = omega (arith, h, length-existing_values (fours d) block) in
-    get_or-existing_inside (fours d) block p below (ap (λ k. is_inside (fours d) (indices k p)) axes ∙ inside_fours d p))
+    (search (rules, length-existing_values, get_or-existing_inside, inside_fours))
 
 pub one_answer : (w : Width) (d : ℕ) (old new : Reader) (b : List ℤ) → ReadsRev w d old new b → ¬ LacksRev w d old
 one_answer w d old new b reads lacks = none-some _ (sym (lacks.code (fours d) (length-fours d)) ∙ reads.code (fours d) (length-fours d))

@@ -1,5 +1,6 @@
 -- What reading a code is, from what was read of it.
-use Rattle.std.proofs.Common.{◌≡◌, sym, ap, subst, ◌∙◌, ℕ, ◌+◌, ◌-◌, ◌^◌, ◌<◌, ◌≤◌, cond, le-ltb, lt-ltb, ℤ, Bool, Some, None, List, ◌++◌, false, length, take, drop, drop_at, replicate, refl, arith}
+use Rattle.std.proofs.Common.{rules}
+use Rattle.std.proofs.Common.{◌≡◌, sym, ap, subst, ◌∙◌, ℕ, ◌+◌, ◌-◌, ◌^◌, ◌<◌, ◌≤◌, le-ltb, lt-ltb, ℤ, Bool, Some, None, List, ◌++◌, false, length, take, drop, drop_at, replicate, refl, arith}
 use Rattle.std.specs.Int.{Width}
 use Rattle.std.proofs.Math.Nat.{mul-le-mul_left, mul-le-mul_right}
 use Rattle.std.proofs.Math.Seq.{take-append-add}
@@ -38,39 +39,19 @@ rev_block w d s = unlorenzo w d (coefficients_of w d (rev_planes w (4 ^ d) s))
 read_rev-enough : (w : Width) (es : List ℕ) (s : List Bool) → rev_len w (4 ^ length es) s ≤ length s
     → read_rev w es s ≡ Some (existing_values es (rev_block w (length es) s), rev_len w (4 ^ length es) s)
 unfolding read_rev rev_len rev_planes
-read_rev-enough w es s enough =
-    let n = rev_len w (4 ^ length es) s in
-    ap (λ t. cond t None (Some (existing_values es (rev_block w (length es) s), n))) (le-ltb (length s) n enough)
+read_rev-enough w es s enough = search (rules, le-ltb)
 
 read_rev-short : (w : Width) (es : List ℕ) (s : List Bool) → length s < rev_len w (4 ^ length es) s → read_rev w es s ≡ None
 unfolding read_rev rev_len rev_planes
-read_rev-short w es s short =
-    let n = rev_len w (4 ^ length es) s in
-    ap (λ t. cond t None (Some (existing_values es (rev_block w (length es) s), n))) (lt-ltb (length s) n short)
+read_rev-short w es s short = search (rules, lt-ltb)
 
 -- the code was read
 pub ReadsRev-planes : (w : Width) (d : ℕ) (old new : Reader) → PassesCode (rev_len w (4 ^ d) (rest old)) old new → ReadsRev w d old new (rev_block w d (rest old))
-ReadsRev-planes w d old new passes =
-    let s = rest old in
-    let reads = passes.passed in
-    let count : rev_len w (4 ^ d) s ≡ new.at - old.at = omega (arith, reads.place, length-take (rev_len w (4 ^ d) s) s) in
-    let Passed : ℕ → Type 0 = λ k. Reads old new (take k s) in
-    record {
-      code = λ es same.
-          let Read : ℕ → Type 0 = λ k. rev_len w (4 ^ k) s ≤ length s → read_rev w es s ≡ Some (existing_values es (rev_block w k s), rev_len w (4 ^ k) s) in
-          let Answer : ℕ → Type 0 = λ n. read_rev w es s ≡ Some (existing_values es (rev_block w d s), n) in
-          subst Answer count (subst Read same (read_rev-enough w es s) passes.whole);
-      passed = subst Passed count reads;
-    }
+ReadsRev-planes w d old new passes = search (rules, length-take, read_rev-enough)
 
 -- the bits ended before
 pub LacksRev-short : (w : Width) (d : ℕ) (old new : Reader) → LacksBits (rev_len w (4 ^ d) (rest old)) old new → LacksRev w d old
-LacksRev-short w d old new lacks = record {
-  code = λ es same.
-      let s = rest old in
-      let Lacks : ℕ → Type 0 = λ k. length s < rev_len w (4 ^ k) s → read_rev w es s ≡ None in
-      subst Lacks same (read_rev-short w es s) lacks.short;
-}
+LacksRev-short w d old new lacks = search (rules, read_rev-short)
 
 -- ---- planes without a budget
 
@@ -92,10 +73,7 @@ passes_rest bits used old middle new enough less first second =
 length-code-planes_in : (prec size : ℕ) (s : List Bool) → size ≤ 256 → prec ≤ 64 → length (code (planes_in prec size s)) ≤ 16640
 length-code-planes_in prec size s small few =
     let bound = length-code-le size (planes_in prec size s) (planes_in-length prec size s) in
-    let count = length-planes_in prec size s in
-    let digits = mul-le-mul_right 64 small in
-    let planes = mul-le-mul_left size few in
-    omega (arith, rw count at bound)
+    let count = length-planes_in prec size s in search (rules, mul-le-mul_right, mul-le-mul_left)
 
 -- with the greatest budget all bits that are left count
 module _ (prec size : ℕ) (old : Reader) (small : size ≤ 256) (few : prec ≤ 64) (short : length (rest old) ≤ 18446744073709551615) where
@@ -106,15 +84,10 @@ module _ (prec size : ℕ) (old : Reader) (small : size ≤ 256) (few : prec ≤
   coded-all = ap (planes_in prec size) (take_all 18446744073709551615 s short)
 
   coded_bits-all : coded_bits 18446744073709551615 prec size s ≡ uncut_len prec size s
-  coded_bits-all =
-      let bound = length-code-planes_in prec size s small few in
-      let same = ap (λ ps. length (code ps)) coded-all in
-      omega arith
+  coded_bits-all = search (rules, length-code-planes_in, coded-all)
 
   kept_planes-all : kept_planes 18446744073709551615 (coded 18446744073709551615 prec size s) ≡ planes_in prec size s
-  kept_planes-all =
-      let bound = length-code-planes_in prec size s small few in
-      ap (kept_planes 18446744073709551615) coded-all ∙ kept_planes-whole 18446744073709551615 (planes_in prec size s) (omega arith)
+  kept_planes-all = search (rules, length-code-planes_in, coded-all, kept_planes-whole)
 
   -- what was read with the greatest budget is the whole code
   module _ (new : Reader) where
@@ -123,9 +96,7 @@ module _ (prec size : ℕ) (old : Reader) (small : size ≤ 256) (few : prec ≤
 
     pub uncut_passes : (count : ℕ) → ¬ (length s < coded_bits 18446744073709551615 prec size s) → count ≡ coded_bits 18446744073709551615 prec size s → Reads old new (take count s)
         → PassesCode (uncut_len prec size s) old new
-    uncut_passes count enough is_all reads =
-        let Passed : ℕ → Type 0 = λ k. Reads old new (take k s) in
-        record { whole = omega (arith, coded_bits-all, enough); passed = subst Passed (is_all ∙ coded_bits-all) reads }
+    uncut_passes count enough is_all reads = search (rules, coded_bits-all)
 
   pub uncut_above : (held : List (List Bool)) (n : ℕ) → held ≡ kept_planes 18446744073709551615 (coded 18446744073709551615 prec size s) ++ replicate n (replicate size false)
       → AreAbove size (planes_in prec size s) held
@@ -147,9 +118,7 @@ module _ (w : Width) (size p : ℕ) (old middle : Reader) (value : p ≡ number 
   -- its planes are those of the bits behind the count
   pub planes-behind_count : planes_in p size (rest middle) ≡ rev_planes w size (rest old)
   unfolding rev_planes
-  planes-behind_count =
-      ap (planes_in p size) (rest-Reads (count_bits w) count long reads)
-      ∙ ap (λ k. planes_in k size (drop (count_bits w) (rest old))) value
+  planes-behind_count = search (rules, rest-Reads, long)
 
   len-behind_count : count_bits w + length (code (planes_in p size (rest middle))) ≡ rev_len w size (rest old)
   unfolding rev_len
@@ -160,21 +129,11 @@ module _ (w : Width) (size p : ℕ) (old middle : Reader) (value : p ≡ number 
 
   -- the count and the code were passed
   pub passes-behind_count : (new : Reader) → PassesCode (uncut_len p size (rest middle)) middle new → PassesCode (rev_len w size (rest old)) old new
-  passes-behind_count new passes =
-      let k = uncut_len p size (rest middle) in
-      let all : length count + k ≡ rev_len w size (rest old) = omega (arith, long, len-behind_count) in
-      let Passed : ℕ → Type 0 = λ j. Reads old new (take j (rest old)) in
-      record {
-        whole = omega (arith, len-behind_count, length-behind_count, passes.whole);
-        passed = subst Passed all (Reads-part count k reads passes.passed);
-      }
+  passes-behind_count new passes = search (rules, long, len-behind_count, length-behind_count, Reads-part)
 
   -- the code is missing behind the count, and the reader went back to where it stood
   pub lacks-behind_count : (a b : Reader) (start : ℕ) → LacksBits (uncut_len p size (rest middle)) middle a → b ≡ reader_at a.all start → start ≡ old.at → LacksBits (rev_len w size (rest old)) old b
-  lacks-behind_count a b start lacks back at = record {
-    short = omega (arith, len-behind_count, length-behind_count, lacks.short);
-    unread = back ∙ ap (λ bits. reader_at bits start) (ap (λ (r : Reader). r.all) lacks.unread ∙ reads.all) ∙ ap (reader_at old.all) at;
-  }
+  lacks-behind_count a b start lacks back at = search (rules, len-behind_count, length-behind_count)
 
 -- where the bits of the count are missing, those of the code are
 pub lacks-count : (w : Width) (size : ℕ) (old new : Reader) → LacksBits (count_bits w) old new → LacksBits (rev_len w size (rest old)) old new
@@ -190,39 +149,19 @@ prec_block w p d s = unlift w d (coefficients_of w d (prec_planes w p (4 ^ d) s)
 read_prec-enough : (w : Width) (p : ℕ) (es : List ℕ) (s : List Bool) → prec_len w p (4 ^ length es) s ≤ length s
     → read_prec w p es s ≡ Some (existing_values es (prec_block w p (length es) s), prec_len w p (4 ^ length es) s)
 unfolding read_prec prec_len prec_planes
-read_prec-enough w p es s enough =
-    let n = prec_len w p (4 ^ length es) s in
-    ap (λ t. cond t None (Some (existing_values es (prec_block w p (length es) s), n))) (le-ltb (length s) n enough)
+read_prec-enough w p es s enough = search (rules, le-ltb)
 
 read_prec-short : (w : Width) (p : ℕ) (es : List ℕ) (s : List Bool) → length s < prec_len w p (4 ^ length es) s → read_prec w p es s ≡ None
 unfolding read_prec prec_len prec_planes
-read_prec-short w p es s short =
-    let n = prec_len w p (4 ^ length es) s in
-    ap (λ t. cond t None (Some (existing_values es (prec_block w p (length es) s), n))) (lt-ltb (length s) n short)
+read_prec-short w p es s short = search (rules, lt-ltb)
 
 -- the code was read
 pub ReadsPrec-planes : (w : Width) (d p : ℕ) (old new : Reader) → PassesCode (prec_len w p (4 ^ d) (rest old)) old new → ReadsPrec w d p old new (prec_block w p d (rest old))
-ReadsPrec-planes w d p old new passes =
-    let s = rest old in
-    let reads = passes.passed in
-    let count : prec_len w p (4 ^ d) s ≡ new.at - old.at = omega (arith, reads.place, length-take (prec_len w p (4 ^ d) s) s) in
-    let Passed : ℕ → Type 0 = λ k. Reads old new (take k s) in
-    record {
-      code = λ es same.
-          let Read : ℕ → Type 0 = λ k. prec_len w p (4 ^ k) s ≤ length s → read_prec w p es s ≡ Some (existing_values es (prec_block w p k s), prec_len w p (4 ^ k) s) in
-          let Answer : ℕ → Type 0 = λ n. read_prec w p es s ≡ Some (existing_values es (prec_block w p d s), n) in
-          subst Answer count (subst Read same (read_prec-enough w p es s) passes.whole);
-      passed = subst Passed count reads;
-    }
+ReadsPrec-planes w d p old new passes = search (rules, length-take, read_prec-enough)
 
 -- the bits ended before
 pub LacksPrec-short : (w : Width) (d p : ℕ) (old new : Reader) → LacksBits (prec_len w p (4 ^ d) (rest old)) old new → LacksPrec w d p old
-LacksPrec-short w d p old new lacks = record {
-  code = λ es same.
-      let s = rest old in
-      let Lacks : ℕ → Type 0 = λ k. length s < prec_len w p (4 ^ k) s → read_prec w p es s ≡ None in
-      subst Lacks same (read_prec-short w p es s) lacks.short;
-}
+LacksPrec-short w d p old new lacks = search (rules, read_prec-short)
 
 -- ---- a code of a fixed rate
 
@@ -237,13 +176,4 @@ read_rate-block w es s = refl
 -- the code was read
 pub ReadsRate-planes : (w : Width) (d budget : ℕ) (old new : Reader) → budget ≤ length (rest old) → Reads old new (take budget (rest old))
     → ReadsRate w d budget old new (unlift w d (coefficients_of w d (kept_planes budget (planes_in (bits w) (4 ^ d) (take budget (rest old))))))
-ReadsRate-planes w d budget old new enough reads =
-    let s = take budget (rest old) in
-    let long : length s ≡ budget = length-take-le budget (rest old) enough in
-    record {
-      code = λ es same.
-          let Read : ℕ → Type 0 = λ k. read_rate w es s ≡ existing_values es (rate_block w k s) in
-          let Kept : ℕ → Type 0 = λ n. read_rate w es s ≡ existing_values es (unlift w d (coefficients_of w d (kept_planes n (planes_in (bits w) (4 ^ d) s)))) in
-          subst Kept long (subst Read same (read_rate-block w es s));
-      passed = reads;
-    }
+ReadsRate-planes w d budget old new enough reads = search (rules, long, length-take-le, read_rate-block)

@@ -1,12 +1,13 @@
 -- Planes of which the upper ones alone are reached.
-use Rattle.std.proofs.Common.{◌≡◌, refl, sym, ap, ◌∙◌, ℕ, zero, suc, ◌+◌, ◌-◌, ◌*◌, ◌/◌, ◌^◌, ◌<◌, ◌≤◌, max, Bool, true, false, true≢false, eqb, List, [], ◌∷◌, map, length, take, drop, get_or, get_or-take, take-append-drop, ext_get_or, ⊎_elim, arith, pow-suc}
+use Rattle.std.proofs.Common.{rules}
+use Rattle.std.proofs.Common.{◌≡◌, refl, sym, ap, ◌∙◌, ℕ, zero, suc, ◌+◌, ◌-◌, ◌*◌, ◌/◌, ◌^◌, ◌<◌, ◌≤◌, max, Bool, true, false, List, [], ◌∷◌, map, length, take, drop, get_or, get_or-take, take-append-drop, ext_get_or, arith, pow-suc}
 use Rattle.std.proofs.lemmas.Bool.{cases_lt}
 use Rattle.std.proofs.lemmas.List.{length-append, length-map, length-take, length-take-le, get_or-map, take_all}
 use Rattle.std.proofs.lemmas.List.Elements.{All-head, All-tail, All-take}
 use Rattle.std.proofs.lemmas.Nat.{leading_top, shr-shr}
 use Rattle.std.proofs.lemmas.Nat.Bits.{bit_at_cat_high}
 use lib.Count.{leading_of_zero}
-use Rattle.std.specs.Int.{bit_at, leading_zeros, w64}
+use Rattle.std.specs.Int.{leading_zeros, w64}
 use Rattle.zf_spec.specs.Numbers.{field, is_odd}
 use Rattle.zf_spec.specs.Planes.{plane, planes_of, reach, reach_of_all, tail, plane_code, code_from, code, AreOfSize}
 use Rattle.zf_spec.specs.ReadPlanes.{first_bits}
@@ -31,10 +32,7 @@ code_from-ge k n size (ds ∷ ps) few within all =
 
 -- a plane whose last rank has a one reaches as far as it is long
 reach_whole : (size : ℕ) (ds : List Bool) → 0 < size → get_or ds (size - 1) false ≡ true → size ≤ reach ds
-reach_whole size ds some one = ⊎_elim
-    (λ (less : size - 1 < reach ds). omega arith)
-    (λ (more : reach ds ≤ size - 1). absurd (true≢false (sym one ∙ none_past_reach ds (size - 1) more)))
-    (cases_lt (size - 1) (reach ds))
+reach_whole size ds some one = search (rules, none_past_reach, cases_lt)
 
 -- below such a plane, each plane has a bit for each rank
 below_whole : (size p n : ℕ) (ps : List (List Bool)) → 0 < size → p < length ps → n ≤ size → AreOfSize size ps → get_or (get_or ps p []) (size - 1) false ≡ true
@@ -58,10 +56,7 @@ below_whole size (suc p) n (ds ∷ ps) some here within all one =
 
 -- the highest digit of a word
 highest : (v j : ℕ) → 2 ^ j ≤ v → v < 2 ^ suc j → is_odd (v / 2 ^ j) ≡ true
-highest v j low high =
-    let split : 1 * 2 ^ j + (v - 2 ^ j) ≡ v = omega arith in
-    let none : j - j ≡ 0 = omega arith in
-    ap (λ b. eqb b 1) (ap (λ u. bit_at u j) (sym split) ∙ bit_at_cat_high 1 j (v - 2 ^ j) j (omega (arith, pow-suc 2 j)) (omega arith) ∙ ap (bit_at 1) none)
+highest v j low high = search (rules, bit_at_cat_high, pow-suc)
 
 -- a word with fewer leading zeros than digits is not zero
 some_digit : (v p : ℕ) → leading_zeros w64 v ≡ p → p < 64 → 0 < v
@@ -77,11 +72,7 @@ last_one us w r v p width within is word zeros here =
     let j = top.0 in
     let place : w - 1 - p ≡ j = omega (arith, top.1, zeros) in
     let small : j < w = omega (arith, top.1, zeros) in
-    ap (λ ds. get_or ds r false) (get_or-planes_of w cs p here ∙ ap (λ k. plane k cs) place)
-    ∙ get_or-plane j cs r
-    ∙ ap (λ ds. get_or ds j false) (get_or-map (field w) us r 0 [] within ∙ ap (field w) is)
-    ∙ get_or-field w v j false small
-    ∙ highest v j top.2 top.3
+    search (rules, get_or-planes_of, get_or-plane, get_or-map, get_or-field, highest)
 
 -- so many bits stand in the code of the top planes
 pub top_has : (bits k w size v p : ℕ) (us : List ℕ) → w ≡ 64 → k ≤ w → size ≡ length us → 0 < size → get_or us (size - 1) 0 ≡ v → v < 2 ^ 64 → leading_zeros w64 v ≡ p → p < k

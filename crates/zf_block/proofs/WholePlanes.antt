@@ -1,5 +1,6 @@
 -- How far down a code at a fixed rate has its planes whole.
-use Rattle.std.proofs.Common.{◌≡◌, refl, sym, ap, subst, ◌∙◌, ℕ, zero, suc, ◌+◌, ◌-◌, ◌^◌, ◌<◌, ◌≤◌, max, Bool, false, not, leb, ℤ, List, [], ◌∷◌, ◌++◌, length, take, get_or, replicate, All, ⊎_elim, take-take, append-nil, append_assoc, arith}
+use Rattle.std.proofs.Common.{rules}
+use Rattle.std.proofs.Common.{◌≡◌, refl, sym, ap, subst, ◌∙◌, ℕ, zero, suc, ◌+◌, ◌-◌, ◌^◌, ◌<◌, ◌≤◌, max, Bool, false, leb, ℤ, List, [], ◌∷◌, ◌++◌, length, take, get_or, replicate, All, ⊎_elim, take-take, append-nil, append_assoc, arith}
 use Rattle.std.proofs.lemmas.Bool.{cases_lt, leb-true, le-leb, true≢false}
 use Rattle.std.proofs.lemmas.List.{length-append, length-take, length-replicate}
 use Rattle.std.proofs.lemmas.List.Elements.{All-take}
@@ -33,9 +34,7 @@ at_place budget ps k below = ap (fits_from budget ps) (get_or-upto (length ps) k
 
 pub whole_from-le : (budget : ℕ) (ps : List (List Bool)) → whole_from budget ps ≤ length ps
 unfolding whole_from
-whole_from-le budget ps =
-    let first : position_or_len (fits_from budget ps) (upto (length ps)) ≤ length (upto (length ps)) = prefix_len-le-length (λ k. not (fits_from budget ps k)) (upto (length ps)) in
-    omega (arith, first, length-upto (length ps))
+whole_from-le budget ps = search (rules, prefix_len-le-length, length-upto)
 
 pub whole_from-fits : (budget : ℕ) (ps : List (List Bool)) → length (code (planes_from (whole_from budget ps) ps)) ≤ budget
 unfolding whole_from planes_from
@@ -83,10 +82,7 @@ code_prefix_begins ps m s begins =
 
 length-code_take-le : (ps : List (List Bool)) (m n : ℕ) → m ≤ n → length (code (take m ps)) ≤ length (code (take n ps))
 length-code_take-le ps m n less =
-    let split = code_from-prefix 0 (take n ps) m in
-    let top : take m (take n ps) ≡ take m ps = take-take m n ps less in
-    let same = ap (λ qs. length (code qs)) top in
-    omega (arith, ap length split.1, length-append (code (take m (take n ps))) split.0, same)
+    let split = code_from-prefix 0 (take n ps) m in search (rules, take-take, length-append)
 
 -- ---- how many of the planes that are kept have codes that fit says which is the least plane
 
@@ -171,6 +167,5 @@ planes_kept_from w budget es block k from =
     let ps = planes w d c in
     let s = first_bits budget (code ps) in
     let whole : whole_from (length s) (planes_in (bits w) (4 ^ d) s) ≡ whole_from budget (planes_in (length ps) (4 ^ d) s) =
-    ap (λ n. whole_from n (planes_in (bits w) (4 ^ d) s)) (length-first_bits budget (code ps))
-    ∙ ap (λ p. whole_from budget (planes_in p (4 ^ d) s)) (sym (length-planes w d c)) in
+    search (rules, length-first_bits, length-planes) in
     kept_from (4 ^ d) budget ps (planes-length w d c) k (omega (arith, whole, from))

@@ -1,11 +1,8 @@
 -- The widths of the two types.
-use Rattle.std.proofs.Common.{◌≡◌, ℕ, ◌≤◌, ◌⊎◌, ⊎_elim, ap, arith}
+use Rattle.std.proofs.Common.{rules}
+use Rattle.std.proofs.Common.{◌≡◌, ℕ, ◌≤◌, ◌⊎◌}
 use Rattle.std.specs.Int.{Width, w32, w64}
 use mir.Val.{bits}
 
 pub width_bounds : (w : Width) (n : ℕ) → (w ≡ w32) ⊎ (w ≡ w64) → n ≡ bits w → (32 ≤ n) × (n ≤ 64)
-width_bounds w n two e =
-    ⊎_elim
-    (λ narrow. let b = ap bits narrow in (omega arith, omega arith))
-    (λ wide. let b = ap bits wide in (omega arith, omega arith))
-    two
+width_bounds w n two e = search rules

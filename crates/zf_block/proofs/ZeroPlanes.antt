@@ -1,14 +1,15 @@
 -- Planes of zeros: what begins with zeros is read as such, a budget keeps them as they are, and they stand for a block of zeros.
-use Rattle.std.proofs.Common.{◌≡◌, refl, sym, ap, ◌∙◌, ℕ, zero, suc, ◌+◌, ◌-◌, ◌^◌, ◌≤◌, inl, inr, min, max, nat_le, cond}
-use Rattle.std.proofs.Common.{Bool, true, false, ℤ, pos, List, [], ◌∷◌, ◌++◌, map, length, take, reverse, drop, get_or, ext_get_or, replicate, arith}
+use Rattle.std.proofs.Common.{rules}
+use Rattle.std.proofs.Common.{◌≡◌, refl, sym, ap, ◌∙◌, ℕ, zero, suc, ◌+◌, ◌-◌, ◌^◌, ◌≤◌, inl, inr, min, max}
+use Rattle.std.proofs.Common.{Bool, true, false, ℤ, pos, List, [], ◌∷◌, map, length, take, reverse, drop, get_or, ext_get_or, replicate, arith}
 use Rattle.std.proofs.lemmas.List.{append-nil, length-replicate, take-replicate, drop-replicate, drop-take, take_all}
 use Rattle.std.proofs.Math.Nat.{one-le-pow}
 use Rattle.std.specs.Int.{Width}
 use mir.Val.{bits}
 use Rattle.zf_spec.specs.Numbers.{field, number}
 use Rattle.zf_spec.specs.Grid.{IsDimension, IsBlockSize, upto}
-use Rattle.zf_spec.specs.Planes.{plane, planes_of, reach, has_one, needed_planes, tail, plane_code, code}
-use Rattle.zf_spec.specs.Kept.{kept_plane, cut_plane, kept_planes_from, kept_planes}
+use Rattle.zf_spec.specs.Planes.{plane, planes_of, reach, has_one, needed_planes, plane_code, code}
+use Rattle.zf_spec.specs.Kept.{kept_plane, kept_planes_from, kept_planes}
 use Rattle.zf_spec.specs.ReadPlanes.{first_bits, plane_in, planes_in_from, planes_in}
 use Rattle.zf_spec.specs.Padding.{source_place, pad}
 use Rattle.zf_spec.specs.Codes.{count_bits, coefficients_of, planes, rev_of_planes}
@@ -53,17 +54,7 @@ needed-zero_planes p size = needed_planes-is (zero_planes p size) ∙ ap reach (
 -- the reversible one is a count of one plane less one, and its bit
 pub rev-zero_planes : (w : Width) (p size : ℕ) → 1 ≤ size → 1 ≤ p → rev_of_planes w (zero_planes p size) ≡ replicate (count_bits w + 1) false
 unfolding rev_of_planes
-rev-zero_planes w p size some many =
-    let one : max 1 (needed_planes (zero_planes p size)) ≡ 1 = omega (arith, needed-zero_planes p size) in
-    ap (λ n. field (count_bits w) (n - 1) ++ code (take n (zero_planes p size))) one
-    ∙ ap (λ ps. field (count_bits w) 0 ++ code ps) (take-replicate 1 p (replicate size false) many)
-    ∙ ap (λ bs. field (count_bits w) 0 ++ bs) (code-zero_planes 1 size some)
-    ∙ ap (λ bs. bs ++ false ∷ []) (field-zero (count_bits w))
-    ∙ behind (count_bits w)
-  where
-    behind : (n : ℕ) → replicate n false ++ false ∷ [] ≡ replicate (n + 1) false
-    behind zero = refl
-    behind (suc n) = let more : suc n + 1 ≡ suc (n + 1) = omega arith in rw more (ap (λ bs. false ∷ bs) (behind n))
+rev-zero_planes w p size some many = search (rules, needed-zero_planes, take-replicate, code-zero_planes, some, field-zero)
 
 -- and zeros that are cut or filled with zeros are zeros
 pub first_bits-zeros : (n m : ℕ) → first_bits n (replicate m false) ≡ replicate n false
@@ -76,12 +67,7 @@ first_bits-zeros (suc n) (suc m) = ap (λ bs. false ∷ bs) (first_bits-zeros n 
 first_zero : (p size : ℕ) (s : List Bool) → 1 ≤ size → plane_in size 0 s ≡ replicate size false
     → planes_in_from (suc p) size 0 s ≡ replicate size false ∷ planes_in_from p size 0 (drop 1 s)
 first_zero p size s some is =
-    let blank = replicate size false in
-    let low : max 0 (reach blank) ≡ 0 = omega (arith, reach_none blank (has_one-zeros size)) in
-    let one : tail blank ≡ false ∷ [] = tail_none blank (omega (arith, length-replicate size false)) (has_one-zeros size) in
-    ap (λ (ds : List Bool). ds ∷ planes_in_from p size (max 0 (reach ds)) (drop (length (plane_code 0 ds)) s)) is
-    ∙ ap (λ n. blank ∷ planes_in_from p size n (drop (length (plane_code 0 blank)) s)) low
-    ∙ ap (λ (bs : List Bool). blank ∷ planes_in_from p size 0 (drop (length bs) s)) one
+    let blank = replicate size false in search (rules, blank, reach_none, has_one-zeros, tail_none, length-replicate)
 
 -- where the first p bits are zeros, as far as there are any
 pub planes_in-zeros : (p size k : ℕ) (s : List Bool) → 1 ≤ size → take p s ≡ replicate k false → planes_in p size s ≡ zero_planes p size
@@ -100,17 +86,7 @@ planes_in-zeros (suc p) size (suc k) (false ∷ s) some zeros =
 -- ---- what a budget keeps of them
 
 kept_zero : (r size : ℕ) → kept_plane r 0 (replicate size false) ≡ replicate size false
-kept_zero r size = either (nat_le (length (plane_code 0 (replicate size false))) r)
-  where
-    cut : cut_plane r 0 (replicate size false) ≡ replicate size false
-    cut =
-        let none : min 0 r ≡ 0 = omega arith in
-        let all : r - 0 ≡ r = omega arith in
-        rw none (rw all (kept_tail-zeros r (replicate size false) (has_one-zeros size) ∙ ap (λ n. replicate n false) (length-replicate size false)))
-
-    either : (t : Bool) → cond t (replicate size false) (cut_plane r 0 (replicate size false)) ≡ replicate size false
-    either true = refl
-    either false = cut
+kept_zero r size = search (rules, kept_tail-zeros, has_one-zeros, length-replicate)
 
 pub kept-zero_planes : (r p size : ℕ) → kept_planes r (zero_planes p size) ≡ zero_planes p size
 kept-zero_planes r zero size = refl
@@ -222,7 +198,4 @@ module _ (w : Width) (size : ℕ) (s : List Bool) (some : 1 ≤ size) where
   -- the planes of a rate, as far as it reaches
   pub rate_planes-zeros : (n budget k : ℕ) → k ≡ min budget n → take k s ≡ replicate k false
       → kept_planes budget (planes_in n size (take budget s)) ≡ zero_planes n size
-  rate_planes-zeros n budget k top zeros =
-      let less : min n budget ≡ k = omega arith in
-      ap (kept_planes budget) (planes_in-zeros n size k (take budget s) some (take_both n budget s ∙ ap (λ j. take j s) less ∙ zeros))
-      ∙ kept-zero_planes budget n size
+  rate_planes-zeros n budget k top zeros = search (rules, planes_in-zeros, some, take_both, kept-zero_planes)

@@ -1,11 +1,12 @@
 -- Zero bits that fill a code, and planes of zeros at the top.
+use Rattle.std.proofs.Common.{rules}
 use Rattle.std.proofs.Common.{◌≡◌, refl, sym, ap, ◌∙◌, ℕ, zero, suc, ◌+◌, ◌-◌, ◌≤◌, Bool, false, List, [], ◌∷◌, ◌++◌, length, take, replicate, arith}
 use Rattle.std.proofs.lemmas.List.{replicate-append-replicate, take-take, take-replicate}
 use Rattle.zf_spec.specs.Numbers.{field}
 use Rattle.zf_spec.specs.ReadPlanes.{first_bits}
 use Rattle.zf_spec.proofs.Fields.{field-zero}
 use Rattle.zf_bits.specs.Writer.{Writer, Appends}
-use Rattle.zf_bits.proofs.Appending.{Appends-nil, Appends-append, Appends-same}
+use Rattle.zf_bits.proofs.Appending.{Appends-append, Appends-same}
 
 -- of so many zeros, some are left to write
 pub record WritesZeros (old now : Writer) (count left : ℕ) : Type 0 where
@@ -14,9 +15,7 @@ pub record WritesZeros (old now : Writer) (count left : ℕ) : Type 0 where
   pub within : left ≤ count
 
 pub WritesZeros-start : (w : Writer) (count : ℕ) → count ≤ w.room → WritesZeros w w count count
-WritesZeros-start w count fits =
-    let none : 0 ≡ count - count = omega arith in
-    record { bits = Appends-same (Appends-nil w) (ap (λ n. replicate n false) none); fits = fits; within = omega arith }
+WritesZeros-start w count fits = search rules
 
 -- k more of them
 zeros_more : {old now new : Writer} (n k : ℕ) → Appends old now (replicate n false) → Appends now new (field k 0) → Appends old new (replicate (n + k) false)
@@ -46,7 +45,6 @@ pub first_bits-take : (n : ℕ) (s : List Bool) → first_bits n s ≡ take n s 
 first_bits-take zero [] = refl
 first_bits-take zero (b ∷ s) = let none : zero - suc (length s) ≡ 0 = omega arith in rw none refl
 first_bits-take (suc n) [] =
-    let all : n - 0 ≡ n = omega arith in
     let more : suc n - 0 ≡ suc n = omega arith in
     rw more (ap (λ bs. false ∷ bs) (first_of_none n))
   where

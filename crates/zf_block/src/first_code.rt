@@ -7,8 +7,10 @@ ghost use Rattle.zf_block.specs.FirstAlone.{IsFirstCode, ReadsDigits};
 use crate::zero_block::are_zeros;
 use zf_bits::BitReader;
 
-/// Where the group bits behind digits lie.
-const GROUP_BITS: u64 = 0xaaaa_aaaa_aaaa_aaaa;
+/// How many digits are looked at before any is read.
+const AHEAD: u32 = 16;
+/// Where the group bits behind them lie.
+const GROUP_BITS: u64 = 0xaaaa_aaaa;
 
 /// The code of planes in which the first rank alone has ones.
 #[derive(Clone, Copy)]
@@ -27,8 +29,9 @@ pub(crate) fn first_code(prec: u32, reader: &BitReader<'_>) -> Option<FirstCode>
     ensures { IfSome result (λ code. IsFirstCode prec code.digits code.len (rest reader.now)) }
 {
     let mut place = reader.another();
-    let zeros = place.peek().trailing_zeros().min(prec);
-    if zeros == prec || !are_zeros(zeros, &place) {
+    let word = place.peek();
+    let zeros = word.trailing_zeros().min(prec);
+    if zeros == prec || !may_be(word, zeros, prec - zeros - 1) || !are_zeros(zeros, &place) {
         return None;
     }
     place.skip(u64::from(zeros));
@@ -43,6 +46,18 @@ pub(crate) fn first_code(prec: u32, reader: &BitReader<'_>) -> Option<FirstCode>
         digits: (1 << below) + digits,
         len: place.at() - reader.at(),
     })
+}
+
+/// Whether the bits in sight may be such a code, with so many zeros at the top and so many planes below the first
+/// that has a one. Those of most blocks are not, which are then read but once.
+#[inline(always)]
+fn may_be(word: u64, zeros: u32, below: u32) -> bool
+    requires { zeros ≤ 63 }
+{
+    let seen = word >> zeros;
+    let begins = zeros > 61 || seen % 8 == 3;
+    let goes_on = below < AHEAD || zeros > 61 - 2 * AHEAD || (seen >> 3) & GROUP_BITS == 0;
+    begins && goes_on
 }
 
 /// Reads so many digits, each with a group bit of zero behind it, where it is seen that they come next.
@@ -70,10 +85,6 @@ fn next_digits(count: u32, place: &mut BitReader<'_>) -> Option<u64>
         return None;
     }
     let mut rest = place.peek();
-    // Another code is mostly told at once.
-    if count > 0 && rest & (GROUP_BITS >> (64 - len)) != 0 {
-        return None;
-    }
     let mut digits = 0;
     for _ in 0..count {
         if rest % 4 > 1 {

@@ -1,12 +1,10 @@
 -- How far what a fixed rate makes of a block is from the block, where planes from some plane up are kept whole.
-use Rattle.std.proofs.Common.{◌≡◌, refl, sym, ap, subst, ◌∙◌, ℕ, zero, suc, ◌+◌, ◌-◌, ◌*◌, ◌^◌, ◌<◌, ◌≤◌, Bool, true, false, cond, ℤ, pos, List, length, get_or, take, All, ⊎_elim, arith}
-use Rattle.std.specs.Int.RustNames.{unsigned_abs}
+use Rattle.std.proofs.Common.{◌≡◌, refl, sym, ap, subst, ◌∙◌, ℕ, zero, suc, ◌+◌, ◌-◌, ◌*◌, ◌^◌, ◌<◌, ◌≤◌, Bool, ℤ, List, length, take, All, arith, rules}
 use Rattle.std.specs.Int.{Width, w8, w16, w32, w64, w128}
 use Rattle.std.proofs.lemmas.Bool.{cases_lt}
 use Rattle.std.proofs.lemmas.List.{get_or_past}
 use mir.Val.{bits, hbits}
-use Rattle.zf_spec.specs.Grid.{is_inside, indices}
-use Rattle.zf_spec.specs.Padding.{source_place, pad}
+use Rattle.zf_spec.specs.Padding.{pad}
 use Rattle.zf_spec.specs.Lift.{lift, lift_line, unlift}
 use Rattle.zf_spec.specs.Kept.{kept_planes}
 use Rattle.zf_spec.specs.Codes.{planes, coefficients_of, existing_values, round}
@@ -14,7 +12,7 @@ use Rattle.zf_spec.proofs.Padding.{IsExtent, length-pad, get_or-pad, existing_va
 use Rattle.zf_spec.proofs.PlaneDigits.{length-coefficients_of}
 use Rattle.zf_axes.proofs.AxisByAxis.{length-along_axes}
 use Rattle.zf_bound.specs.Errors.{AreWithin, AreClose, lost_below, grown, IsSmallEnough}
-use Rattle.zf_bound.proofs.Lines.{IsNear, zero_within}
+use Rattle.zf_bound.proofs.Lines.{zero_within}
 use Rattle.zf_bound.proofs.Axes.{lifted_within, restored_close}
 use Rattle.zf_bound.proofs.LostDigits.{coefficients_close}
 
@@ -41,24 +39,10 @@ grown-le (suc d) e = let rest = grown-le d e in omega arith
 -- ---- padding and existing values
 
 pub pad_within : (es : List ℕ) (block : List ℤ) (m : ℕ) → AreWithin m block → AreWithin m (pad es block)
-pad_within es block m small p = ⊎_elim
-    (λ inside. subst (λ v. unsigned_abs v ≤ m) (sym (get_or-pad es block p inside)) (small (source_place es p)))
-    (λ past. subst (λ v. unsigned_abs v ≤ m) (sym (get_or_past (pad es block) p (pos 0) (omega (arith, past, length-pad es block)))) (zero_within m))
-    (cases_lt p (4 ^ length es))
+pad_within es block m small p = search (rules, get_or-pad, get_or_past, length-pad, zero_within, cases_lt)
 
 pub existing_close : (es : List ℕ) (e : ℕ) (a b : List ℤ) → AreClose e a b → AreClose e (existing_values es a) (existing_values es b)
-existing_close es e a b near p = ⊎_elim
-    (λ inside.
-    subst (λ v. IsNear e v (get_or (existing_values es b) p (pos 0))) (sym (get_or-existing_values es a p inside))
-    (subst (λ v. IsNear e (cond (is_inside es (indices (length es) p)) (get_or a p (pos 0)) (pos 0)) v) (sym (get_or-existing_values es b p inside)) (by (is_inside es (indices (length es) p)))))
-    (λ past.
-    subst (λ v. IsNear e v (get_or (existing_values es b) p (pos 0))) (sym (get_or_past (existing_values es a) p (pos 0) (omega (arith, past, length-existing_values es a))))
-    (subst (λ v. IsNear e (pos 0) v) (sym (get_or_past (existing_values es b) p (pos 0) (omega (arith, past, length-existing_values es b)))) (zero_within e)))
-    (cases_lt p (4 ^ length es))
-  where
-    by : (t : Bool) → IsNear e (cond t (get_or a p (pos 0)) (pos 0)) (cond t (get_or b p (pos 0)) (pos 0))
-    by true = near p
-    by false = zero_within e
+existing_close es e a b near p = search (rules, get_or-existing_values, get_or_past, length-existing_values, zero_within, cases_lt)
 
 -- ---- a whole block
 

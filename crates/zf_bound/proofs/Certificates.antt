@@ -1,5 +1,5 @@
 -- What is certified is there once its parts are.
-use Rattle.std.proofs.Common.{◌≡◌, ap, ◌∙◌, ℕ, ◌+◌, ◌-◌, ◌*◌, ◌^◌, Bool, ltb, List, length}
+use Rattle.std.proofs.Common.{◌≡◌, ap, ◌∙◌, ℕ, Bool, List, length, rules}
 use Rattle.std.specs.Prelude.{◌↔◌, IsTrue}
 use Rattle.std.proofs.lemmas.Bool.{ltb_from_iff}
 use mir.Val.{bits}
@@ -18,9 +18,4 @@ made_same c k e t f g h = ap (λ n. made n c.error c.holds) f ∙ ap (λ n. made
 
 pub certified_is : (h : Header) (cs : List (List Bool)) (m : ℕ) (c : Certified) → c.plane ≡ plane_of (width_of h.ty) (length h.shape) cs → c.error ≡ error_of (length h.shape) c.plane
     → (IsTrue c.holds ↔ IsSmallEnough (bits (width_of h.ty)) m c.error) → c ≡ certified_of h cs m
-certified_is h cs m c plane error holds =
-    let k = plane_of (width_of h.ty) (length h.shape) cs in
-    let exact : c.error ≡ error_of (length h.shape) k = error ∙ ap (error_of (length h.shape)) plane in
-    let test : c.holds ≡ ltb (8 * (m + c.error + 17)) (2 ^ (bits (width_of h.ty) - 1)) = ltb_from_iff holds in
-    made_same c k (error_of (length h.shape) k) (ltb (8 * (m + error_of (length h.shape) k + 17)) (2 ^ (bits (width_of h.ty) - 1))) plane exact
-    (test ∙ ap (λ e. ltb (8 * (m + e + 17)) (2 ^ (bits (width_of h.ty) - 1))) exact)
+certified_is h cs m c plane error holds = search (rules, ltb_from_iff, made_same)

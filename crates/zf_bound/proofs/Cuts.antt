@@ -1,5 +1,5 @@
 -- A code among bits, and the plane of the codes of an index.
-use Rattle.std.proofs.Common.{◌≡◌, sym, ap, ◌∙◌, ℕ, ◌+◌, ◌≤◌, max, Bool, List, [], ◌∷◌, ◌++◌, map, length, take, drop, take-take, arith}
+use Rattle.std.proofs.Common.{◌≡◌, ap, ◌∙◌, ℕ, ◌+◌, ◌≤◌, max, Bool, List, [], ◌∷◌, ◌++◌, map, length, take, drop, take-take, arith, rules}
 use Rattle.std.specs.Int.{Width}
 use Rattle.std.proofs.lemmas.List.{length-take, length-drop, map-append}
 use Rattle.zf_spec.specs.Grid.{upto}
@@ -23,7 +23,4 @@ plane_of-append w d [] c = omega arith
 plane_of-append w d (b ∷ cs) c = let rest = plane_of-append w d cs c in omega arith
 
 pub plane_of-more : (w : Width) (d : ℕ) (code : ℕ → List Bool) (n k : ℕ) → k ≡ plane_of w d (map code (upto n)) → max k (rate_whole_from w d (code n)) ≡ plane_of w d (map code (upto (n + 1)))
-plane_of-more w d code n k is =
-    let more : upto (n + 1) ≡ upto n ++ n ∷ [] = count_from-add 0 n 1 ∙ ap (λ i. upto n ++ i ∷ []) (let e : 0 + n ≡ n = omega arith in e) in
-    ap (λ j. max j (rate_whole_from w d (code n))) is
-    ∙ sym (ap (plane_of w d) (ap (map code) more ∙ map-append code (upto n) (n ∷ [])) ∙ plane_of-append w d (map code (upto n)) (code n))
+plane_of-more w d code n k is = search (rules, count_from-add, map-append, plane_of-append)

@@ -1,10 +1,10 @@
 -- What is certified of a file whose codes an index has.
-use Rattle.std.proofs.Common.{◌≡◌, sym, ap, subst, ◌∙◌, ℕ, ◌+◌, ◌*◌, ◌<◌, ◌≤◌, Bool, true, false, cond, ltb, ℤ, Some, None, Option, List, [], map, length, get_or, take, drop, arith}
+use Rattle.std.proofs.Common.{◌≡◌, sym, ap, subst, ◌∙◌, ℕ, ◌+◌, ◌*◌, ◌<◌, ◌≤◌, Bool, ℤ, Some, List, length, take, rules}
 use Rattle.std.specs.Prelude.{IfOk, is_ok}
 use Rattle.std.specs.Int.{Width}
 use Rattle.std.proofs.lemmas.Option.{none-some}
 use mir.Val.{bits}
-use Rattle.zf_spec.specs.Grid.{IsShape, extent_of, upto}
+use Rattle.zf_spec.specs.Grid.{IsShape, extent_of}
 use Rattle.zf_spec.specs.Codes.{read_rate}
 use Rattle.zf_spec.specs.Stream.{to_bits}
 use Rattle.zf_spec.proofs.Bytes.{length-to_bits}
@@ -16,7 +16,7 @@ use Rattle.zf_header.specs.declared.header.Mode.TheVariants.{Rate}
 use Rattle.zf_header.specs.HeaderBits.{IsRate, block_bits}
 use Rattle.zf_header.proofs.Modes.{mode_is_rate, rate_is_some}
 use Rattle.zf_parse.specs.Parsing.{Said, parse, read_code, values_of_blocks, longest_code}
-use Rattle.zf_index.specs.Spans.{Index, place, len_at, code_in, codes_in}
+use Rattle.zf_index.specs.Spans.{Index, len_at, code_in, codes_in}
 use Rattle.zf_index.specs.Files.{IsIndexOf, found, block_read, len_read, blocks_found}
 use Rattle.zf_index.proofs.Places.{ends_within}
 use Rattle.zf_bound.specs.Errors.{IsSmallEnough}
@@ -32,14 +32,7 @@ some_same a b e = cc
 -- what is found of a code at a fixed rate, where one is found
 rate_found : (w : Width) (b n : ℕ) (es : List ℕ) (s : List Bool) → len_read (read_code w (Rate b) es s) ≡ Some n
     → (n ≡ b) × (block_read (read_code w (Rate b) es s) ≡ read_rate w es (take n s))
-rate_found w b n es s = by (ltb (length s) b)
-  where
-    answer : Bool → Option (List ℤ × ℕ)
-    answer t = cond t None (Some (read_rate w es (take b s), b))
-
-    by : (t : Bool) → len_read (answer t) ≡ Some n → (n ≡ b) × (block_read (answer t) ≡ read_rate w es (take n s))
-    by true e = absurd (none-some _ e)
-    by false e = let same : b ≡ n = some_same b n e in (sym same, ap (λ k. read_rate w es (take k s)) same)
+rate_found w b n es s = search (rules, none-some, some_same)
 
 -- ---- a file
 
@@ -53,12 +46,7 @@ module _ (bytes : List ℕ) (h : Header) (i : Index) (index : IsIndexOf bytes h 
 
   module _ (rate : IsRate h.mode) where
     code_found : (b : ℕ) → b < length i.lens → (len_at i b ≡ block_bits h.mode) × (block_read (found h i (to_bits bytes) b) ≡ read_rate (width_of h.ty) (extent_of h.shape b) (code_in i (to_bits bytes) b))
-    code_found b below =
-        let mode = mode_is_rate h.mode rate in
-        let s = drop (place i b) (to_bits bytes) in
-        let P : Mode → Type 0 = λ m. len_read (read_code (width_of h.ty) m (extent_of h.shape b) s) ≡ Some (len_at i b) in
-        let Q : Mode → Type 0 = λ m. (len_at i b ≡ block_bits h.mode) × (block_read (read_code (width_of h.ty) m (extent_of h.shape b) s) ≡ read_rate (width_of h.ty) (extent_of h.shape b) (code_in i (to_bits bytes) b)) in
-        subst Q (sym mode) (rate_found (width_of h.ty) (block_bits h.mode) (len_at i b) (extent_of h.shape b) s (subst P mode (index.read b below)))
+    code_found b below = search (rules, mode_is_rate, rate_found)
 
     -- the longest code is as long as each
     longest_is : longest_code h ≡ block_bits h.mode
@@ -67,18 +55,10 @@ module _ (bytes : List ℕ) (h : Header) (i : Index) (index : IsIndexOf bytes h 
     -- all codes lie in the file, and have room where the longest has
     pub are_inside : (room : ℕ) → longest_code h + 64 ≤ room → AreInside i (8 * length bytes) room
     are_inside room fits b below =
-        let ends = ends_within i b (length i.lens) below in
-        let long = (code_found b below).0 in
-        (omega (arith, ends, index.within, length-to_bits bytes), omega (arith, long, longest_is, fits), omega (arith, long, (rate_is_some h.mode rate).1))
+        let ends = ends_within i b (length i.lens) below in search (rules, code_found, length-to_bits, longest_is, rate_is_some)
 
     blocks_same : blocks_found h i (to_bits bytes) ≡ blocks_read h (codes_in i (to_bits bytes))
-    blocks_same =
-        let w = width_of h.ty in
-        let s = to_bits bytes in
-        let back = λ (b : ℕ). read_rate w (extent_of h.shape b) (get_or (codes_in i s) b []) in
-        map-upto_same (λ b. block_read (found h i s b)) back (length i.lens)
-        (λ b below. (code_found b below).1 ∙ ap (read_rate w (extent_of h.shape b)) (sym (get_or-map-upto (code_in i s) (length i.lens) b [] below)))
-        ∙ ap (λ n. map back (upto n)) index.count
+    blocks_same = search (rules, map-upto_same, code_found, get_or-map-upto)
 
     -- the bound
     pub bound_holds : (m k e width : ℕ) → IsShape h.shape → k ≡ plane_of (width_of h.ty) (length h.shape) (codes_in i (to_bits bytes)) → e ≡ error_of (length h.shape) k → width ≡ bits (width_of h.ty)

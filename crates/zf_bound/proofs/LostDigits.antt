@@ -1,5 +1,5 @@
 -- What the digits below a plane come to: where digits from the plane up are the same, values differ by less than 2^k.
-use Rattle.std.proofs.Common.{◌≡◌, refl, sym, ap, subst, ◌∙◌, ℕ, zero, suc, ◌+◌, ◌-◌, ◌^◌, ◌<◌, ◌≤◌, Bool, true, false, ℤ, pos, negsuc, ◌+ℤ◌, ◌-ℤ◌, ◌*ℤ◌, List, [], ◌∷◌, map, length, get_or, take, ⊎_elim, get_or-take, pow-suc, arith}
+use Rattle.std.proofs.Common.{◌≡◌, refl, sym, ap, subst, ◌∙◌, ℕ, zero, suc, ◌+◌, ◌-◌, ◌^◌, ◌<◌, ◌≤◌, Bool, true, false, ℤ, pos, negsuc, ◌+ℤ◌, ◌-ℤ◌, ◌*ℤ◌, List, [], ◌∷◌, map, length, get_or, take, ⊎_elim, get_or-take, pow-suc, arith, rules}
 use Rattle.std.specs.Int.RustNames.{unsigned_abs}
 use Rattle.std.specs.Int.{Width}
 use Rattle.std.proofs.lemmas.Bool.{cases_lt}
@@ -88,20 +88,11 @@ value_near w v es m k room small l same = apart (value_of w es) is
 
 -- the digits of a coefficient in planes that are the same from plane k up
 digits_same : (w : ℕ) (ps qs : List (List Bool)) (r k : ℕ) → k ≤ w → take (w - k) qs ≡ take (w - k) ps → AreSameFrom k (digits_at w ps r) (digits_at w qs r)
-digits_same w ps qs r k few same i above = ⊎_elim
-    (λ inside.
-    let upper : w - 1 - i < w - k = omega arith in
-    get_or-digits_at w ps r i inside
-    ∙ ap (λ ds. get_or ds r false) (sym (get_or-take (w - k) ps (w - 1 - i) [] upper) ∙ ap (λ l. get_or l (w - 1 - i) []) (sym same) ∙ get_or-take (w - k) qs (w - 1 - i) [] upper)
-    ∙ sym (get_or-digits_at w qs r i inside))
-    (λ past. get_or_past (digits_at w ps r) i false (omega (arith, past, length-digits_at w ps r)) ∙ sym (get_or_past (digits_at w qs r) i false (omega (arith, past, length-digits_at w qs r))))
-    (cases_lt i w)
+digits_same w ps qs r k few same i above = search (rules, get_or-digits_at, get_or-take, get_or_past, digits_at, length-digits_at, cases_lt)
 
 -- the coefficient at a place, of planes
 coefficient_at : (w : Width) (d : ℕ) (ps : List (List Bool)) (p : ℕ) → p < 4 ^ d → get_or (coefficients_of w d ps) p (pos 0) ≡ value_of w (digits_at (bits w) ps (rank_of d p))
-coefficient_at w d ps p h =
-    ap (λ vs. get_or vs p (pos 0)) (coefficients_of-is w d ps) ∙ get_or-by_place d (values_by_rank w d ps) p h
-    ∙ get_or-map-upto (λ r. value_of w (digits_at (bits w) ps r)) (4 ^ d) (rank_of d p) (pos 0) (rank_of_below d p h)
+coefficient_at w d ps p h = search (rules, coefficients_of-is, get_or-by_place, values_by_rank, get_or-map-upto, digits_at, rank_of, rank_of_below)
 
 -- the digits of a coefficient, in its planes
 digits_of_place : (w : Width) (d : ℕ) (c : List ℤ) (p : ℕ) → p < 4 ^ d → digits_at (bits w) (planes w d c) (rank_of d p) ≡ digits (bits w) (get_or c p (pos 0))

@@ -1,5 +1,5 @@
 -- The places of a line, in a block that is made of whole groups of lines.
-use Rattle.std.proofs.Common.{◌≡◌, ℕ, ◌+◌, ◌*◌, ◌/◌, ◌%◌, ◌<◌, ◌≤◌, ℤ, pos, List, length, get_or, ap, ◌∙◌, ◌⊎◌, inl, inr, arith}
+use Rattle.std.proofs.Common.{◌≡◌, ℕ, ◌+◌, ◌*◌, ◌/◌, ◌%◌, ◌<◌, ◌≤◌, ℤ, pos, List, length, get_or, ap, ◌∙◌, ◌⊎◌, inl, inr, arith, rules}
 use Rattle.std.proofs.lemmas.Bool.{cases_lt}
 use Rattle.std.proofs.lemmas.Nat.{div-mul-add}
 use Rattle.std.proofs.Math.Nat.{mul-le-mul_left, mod-lt}
@@ -27,9 +27,7 @@ module _ (s p n : ℕ) (some : 0 < s) (groups : n % (4 * s) ≡ 0) (inside : p <
       omega (arith, steps, line_start-is s p some, mod-lt p some, group_inside s n (p / s / 4) some groups group_below)
 
   pub member_start : (k : ℕ) → k < 4 → line_start s (line_start s p + s * k) ≡ line_start s p
-  member_start k small =
-      let start = line_start-is s p some in
-      line_start-member s (p / s / 4) (line_start s p) k some (omega (arith, start)) (omega (arith, start, mod-lt p some)) small
+  member_start k small = search (rules, line_start-is, line_start-member, line_start, mod-lt)
 
   pub member_index : (k : ℕ) → k < 4 → (line_start s p + s * k) / s % 4 ≡ k
   member_index k small =

@@ -1,5 +1,5 @@
 -- Where values are small enough nothing wraps: the lift of a line and the way back are those over whole numbers.
-use Rattle.std.proofs.Common.{◌≡◌, refl, ap, sym, subst, ◌∙◌, ℕ, ◌+◌, ◌*◌, ◌^◌, ◌<◌, ◌≤◌, ℤ, pos, ◌+ℤ◌, ◌-ℤ◌, ◌*ℤ◌, [], ◌∷◌, lt_of_le_of_lt, arith}
+use Rattle.std.proofs.Common.{◌≡◌, refl, sym, subst, ℕ, ◌+◌, ◌*◌, ◌^◌, ◌<◌, ◌≤◌, ℤ, pos, ◌+ℤ◌, ◌-ℤ◌, ◌*ℤ◌, [], ◌∷◌, lt_of_le_of_lt, arith, rules}
 use Rattle.std.specs.Int.RustNames.{unsigned_abs}
 use Rattle.std.specs.Int.{Width}
 use Rattle.std.proofs.lemmas.Int.{ints, fits_signed_from_abs}
@@ -17,8 +17,7 @@ pub whole : (n : Width) (v : ℤ) → unsigned_abs v < 2 ^ hbits n → wrap n v 
 whole n v h = wrap_value n v (fits_signed_from_abs n v h)
 
 pub floor_half_is : (v : ℤ) → IsHalf v (floor_half v)
-floor_half_is v = let below = floor_half_at_most v in let above = floor_half_above v in
-    record { least = omega (arith, ints, below); most = omega (arith, ints, above) }
+floor_half_is v = search (rules, floor_half_at_most, floor_half_above, ints)
 
 pub whole_half : (n : Width) (v : ℤ) → unsigned_abs v < 2 ^ hbits n → IsHalf v (half n v)
 whole_half n v h = subst (λ u. IsHalf v (floor_half u)) (sym (whole n v h)) (floor_half_is v)
@@ -100,24 +99,7 @@ lifted n x y z w m room x_small y_small z_small w_small =
       c = c;
       d = d;
       line = refl;
-      lifts = record {
-        x1 = x1;
-        w1 = w1;
-        z1 = z1;
-        y1 = y1;
-        w2 = w2;
-        y2 = y2;
-        half_y = half_y;
-        half_d = half_d;
-        outer = outer;
-        inner = inner;
-        sums = sums;
-        rests = rests;
-        half_y_is = half_y_is;
-        d_is = d_is;
-        half_d_is = half_d_is;
-        b_is = b_is;
-      };
+      lifts = search rules;
     }
 
 -- ---- the way back
@@ -145,9 +127,7 @@ rest_small u v s r m n i e f g = omega (arith, ints, i, e, f, g)
 doubled_less : (n : Width) (u v s : ℤ) (k l : ℕ) → 2 * k < 2 ^ hbits n → k + l < 2 ^ hbits n → s ≡ v +ℤ u → unsigned_abs u ≤ k → unsigned_abs v ≤ l
     → wrap n (wrap n (pos 2 *ℤ u) -ℤ s) ≡ (u +ℤ u) -ℤ s
 doubled_less n u v s k l double_room room e f g =
-    let double : pos 2 *ℤ u ≡ u +ℤ u = omega (arith, ints) in
-    let same : wrap n (pos 2 *ℤ u) ≡ u +ℤ u = whole n (pos 2 *ℤ u) (double_fits u k _ double_room f) ∙ double in
-    ap (λ t. wrap n (t -ℤ s)) same ∙ whole n ((u +ℤ u) -ℤ s) (rest_fits u v s k l _ room e f g)
+    let double : pos 2 *ℤ u ≡ u +ℤ u = omega (arith, ints) in search (rules, whole, double_fits, rest_fits)
 
 -- fact 2, its first half: nothing wraps
 pub unlifted : (n : Width) (a b c d : ℤ) (m : ℕ) → 8 * m < 2 ^ hbits n
@@ -191,26 +171,5 @@ unlifted n a b c d m room a_small b_small c_small d_small =
       z = z;
       w = w;
       line = refl;
-      unlifts = record {
-        half_d = half_d;
-        y1 = y1;
-        half_y = half_y;
-        w1 = w1;
-        y2 = y2;
-        w2 = w2;
-        z1 = z1;
-        x1 = x1;
-        half_d_is = half_d_is;
-        y1_is = y1_is;
-        half_y_is = half_y_is;
-        w1_is = w1_is;
-        y2_is = y2_is;
-        w2_is = w2_is;
-        z1_is = z1_is;
-        x1_is = x1_is;
-        y_is = y_is;
-        z_is = z_is;
-        w_is = w_is;
-        x_is = x_is;
-      };
+      unlifts = search rules;
     }

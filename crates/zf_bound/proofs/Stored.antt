@@ -1,15 +1,14 @@
 -- What was stored comes back within the bound.
-use Rattle.std.proofs.Common.{◌≡◌, refl, sym, ap, subst, ◌∙◌, ℕ, ℤ, Bool, List, [], map, length, get_or}
+use Rattle.std.proofs.Common.{◌≡◌, refl, sym, subst, ℕ, ℤ, Bool, List, map, length, rules}
 use Rattle.std.specs.Prelude.{IfOk}
 use mir.Val.{bits}
 use Rattle.zf_spec.specs.Grid.{product, blocks, extent_of, block_of, upto}
-use Rattle.zf_spec.specs.Codes.{round, read_rate}
+use Rattle.zf_spec.specs.Codes.{round}
 use Rattle.zf_spec.specs.Stream as stream
 use Rattle.zf_spec.proofs.Counting.{get_or-map-upto, map-upto_same}
 use Rattle.zf_spec.proofs.BlockReading.{read_rate-rate}
 use Rattle.zf_base.specs.Widths.{width_of}
 use Rattle.zf_header.specs.declared.header.Header.{Header}
-use Rattle.zf_header.specs.declared.header.Mode.{Mode}
 use Rattle.zf_header.specs.declared.header.Mode.TheVariants.{Rate}
 use Rattle.zf_header.specs.HeaderBits.{coding, IsHeader}
 use Rattle.zf_parse.specs.Raw.{stream_of}
@@ -28,13 +27,7 @@ rounded h budget values b = round (width_of h.ty) budget (extent_of h.shape b) (
 
 read_of_stored : (h : Header) (values : List ℤ) (budget : ℕ) → h.mode ≡ Rate budget → blocks_read h (codes_of h values) ≡ map (rounded h budget values) (upto (blocks h.shape))
 unfolding codes_of rounded
-read_of_stored h values budget is =
-    let w = width_of h.ty in
-    let code = λ (mode : Mode) (b : ℕ). stream.block_code w (coding mode) (extent_of h.shape b) (block_of h.shape values b) in
-    map-upto_same (λ b. read_rate w (extent_of h.shape b) (get_or (map (code h.mode) (upto (blocks h.shape))) b [])) (rounded h budget values) (blocks h.shape)
-    (λ b below.
-    ap (read_rate w (extent_of h.shape b)) (get_or-map-upto (code h.mode) (blocks h.shape) b [] below ∙ ap (λ mode. code mode b) is)
-    ∙ read_rate-rate w budget (extent_of h.shape b) (block_of h.shape values b))
+read_of_stored h values budget is = search (rules, map-upto_same, rounded, get_or-map-upto, read_rate-rate)
 
 pub stored_close : (h : Header) (values : List ℤ) (budget m : ℕ) → IsHeader h → h.mode ≡ Rate budget → length values ≡ product h.shape → AreWithin m values
     → let e = error_of (length h.shape) (plane_of (width_of h.ty) (length h.shape) (stream.codes (width_of h.ty) h.shape (coding h.mode) values)) in

@@ -1,11 +1,10 @@
 -- How far the values of a stream are from whatever contents have its codes.
-use Rattle.std.proofs.Common.{◌≡◌, refl, sym, ap, subst, ◌∙◌, ℕ, zero, suc, ◌-◌, ◌^◌, ◌<◌, ◌≤◌, Bool, true, false, cond, ℤ, pos, List, [], ◌∷◌, map, length, get_or, take, All, ⊎_elim, arith}
-use Rattle.std.specs.Int.RustNames.{unsigned_abs}
+use Rattle.std.proofs.Common.{◌≡◌, refl, sym, ap, subst, ◌∙◌, ℕ, zero, suc, ◌-◌, ◌^◌, ◌<◌, ◌≤◌, Bool, ℤ, pos, List, [], ◌∷◌, map, length, get_or, take, All, ⊎_elim, arith, rules}
 use Rattle.std.specs.Int.{Width}
 use Rattle.std.proofs.lemmas.Bool.{cases_lt}
 use Rattle.std.proofs.lemmas.List.{get_or_past}
 use mir.Val.{bits}
-use Rattle.zf_spec.specs.Grid.{IsShape, product, grid, blocks, coordinates, raster, is_inside, indices, extents, extent_of, position_in, value_at, block_of, blocks_of, upto}
+use Rattle.zf_spec.specs.Grid.{IsShape, blocks, extent_of, block_of, blocks_of, upto}
 use Rattle.zf_spec.specs.Kept.{kept_planes}
 use Rattle.zf_spec.specs.Padding.{pad}
 use Rattle.zf_spec.specs.Lift.{lift}
@@ -17,7 +16,6 @@ use Rattle.zf_spec.proofs.Counting.{length-map-upto, get_or-map-upto}
 use Rattle.zf_spec.proofs.BlockReading.{read_rate-rate}
 use Rattle.zf_spec.proofs.PlaneDigits.{length-planes}
 use Rattle.zf_base.specs.Widths.{width_of}
-use Rattle.zf_base.specs.Places.{block_number, place_of}
 use Rattle.zf_base.proofs.Extents.{length-extent_of}
 use Rattle.zf_pad.proofs.Blocks.{all_extents}
 use Rattle.zf_header.specs.declared.header.Header.{Header}
@@ -31,7 +29,7 @@ use Rattle.zf_parse.proofs.Joined.{values_of_blocks-blocks}
 use Rattle.zf_parse.proofs.BlocksBack.{existing_values-block_of}
 use Rattle.zf_bound.specs.Errors.{AreWithin, AreClose, IsSmallEnough}
 use Rattle.zf_bound.specs.Bounds.{plane_of, error_of, AreContents}
-use Rattle.zf_bound.proofs.Lines.{IsNear, zero_within}
+use Rattle.zf_bound.proofs.Lines.{zero_within}
 use Rattle.zf_bound.proofs.Blocks.{round_close}
 
 -- ---- the plane of a stream
@@ -67,25 +65,10 @@ tops_kept w budget es block k from =
 pub round_of_code : (w : Width) (budget : ℕ) (es : List ℕ) (block : List ℤ) (m : ℕ) → length es ≤ 4 → All (λ e. (1 ≤ e) × (e ≤ 4)) es → AreWithin m block
     → let k = rate_whole_from w (length es) (rate w budget es block) in
     IsSmallEnough (bits w) m (error_of (length es) k) → AreClose (error_of (length es) k) (existing_values es block) (round w budget es block)
-round_of_code w budget es block m few sizes small premise =
-    let k = rate_whole_from w (length es) (rate w budget es block) in
-    round_close w budget es block m k few sizes (rate_whole_from-le w (length es) (rate w budget es block)) premise small (tops_kept w budget es block k (omega arith))
+round_of_code w budget es block m few sizes small premise = search (rules, round_close, rate_whole_from-le, tops_kept)
 
 block_within : (ns : List ℕ) (values : List ℤ) (b m : ℕ) → AreWithin m values → AreWithin m (block_of ns values b)
-block_within ns values b m small p = ⊎_elim
-    (λ inside. subst (λ v. unsigned_abs v ≤ m) (sym (get_or-map-upto (value_at ns values cs) size p (pos 0) inside)) (by (is_inside (extents ns cs) (indices (length ns) p))))
-    (λ past. subst (λ v. unsigned_abs v ≤ m) (sym (get_or_past (block_of ns values b) p (pos 0) (omega (arith, past, length-map-upto (value_at ns values cs) size)))) (zero_within m))
-    (cases_lt p (4 ^ length ns))
-  where
-    cs : List ℕ
-    cs = coordinates (grid ns) b
-
-    size : ℕ
-    size = 4 ^ length ns
-
-    by : (t : Bool) → unsigned_abs (cond t (get_or values (raster ns (position_in (coordinates (grid ns) b) (indices (length ns) p))) (pos 0)) (pos 0)) ≤ m
-    by true = small (raster ns (position_in (coordinates (grid ns) b) (indices (length ns) p)))
-    by false = zero_within m
+block_within ns values b m small p = search (rules, get_or-map-upto, get_or_past, length-map-upto, zero_within, cases_lt)
 
 -- what is read of its code is close to it
 block_close : (w : Width) (budget : ℕ) (ns : List ℕ) (values : List ℤ) (b m k : ℕ) → IsShape ns → b < blocks ns → AreWithin m values
@@ -110,18 +93,7 @@ nothing (suc k) = refl
 
 -- blocks that are close make values that are close
 joined_close : (ns : List ℕ) (e : ℕ) (as' bs : List (List ℤ)) → ((b : ℕ) → AreClose e (get_or as' b []) (get_or bs b [])) → AreClose e (values_of_blocks ns as') (values_of_blocks ns bs)
-joined_close ns e as' bs near k = ⊎_elim
-    (λ inside.
-    subst (λ v. IsNear e v (get_or (values_of_blocks ns bs) k (pos 0))) (sym (get_or-map-upto (value as') (product ns) k (pos 0) inside))
-    (subst (λ v. IsNear e (value as' k) v) (sym (get_or-map-upto (value bs) (product ns) k (pos 0) inside))
-    (near (block_number ns (coordinates ns k)) (place_of (coordinates ns k)))))
-    (λ past.
-    subst (λ v. IsNear e v (get_or (values_of_blocks ns bs) k (pos 0))) (sym (get_or_past (values_of_blocks ns as') k (pos 0) (omega (arith, past, length-map-upto (value as') (product ns)))))
-    (subst (λ v. IsNear e (pos 0) v) (sym (get_or_past (values_of_blocks ns bs) k (pos 0) (omega (arith, past, length-map-upto (value bs) (product ns))))) (zero_within e)))
-    (cases_lt k (product ns))
-  where
-    value : List (List ℤ) → ℕ → ℤ
-    value found k = get_or (get_or found (block_number ns (coordinates ns k)) []) (place_of (coordinates ns k)) (pos 0)
+joined_close ns e as' bs near k = search (rules, get_or-map-upto, get_or_past, length-map-upto, zero_within, cases_lt)
 
 -- the blocks that are read of codes, one of each
 abbrev pub blocks_read : Header → List (List Bool) → List (List ℤ)
@@ -172,8 +144,5 @@ stream_close h budget m codes contents shape is these premise =
         (subst (λ (vs : List ℤ). AreClose e (block_of h.shape contents b) vs)
         (sym (get_or-map-upto back (blocks h.shape) b [] below ∙ ap (read_rate w (extent_of h.shape b)) (code_is b below)))
         (block_close w budget h.shape contents b m k shape below these.small (whole b below) (plane_of-le w (length h.shape) codes) premise)))
-        (λ past.
-        subst (λ (vs : List ℤ). AreClose e vs (get_or (blocks_read h codes) b [])) (sym (get_or_past (blocks_of h.shape contents) b [] (omega (arith, past, length-map-upto (block_of h.shape contents) (blocks h.shape)))))
-        (subst (λ (vs : List ℤ). AreClose e [] vs) (sym (get_or_past (blocks_read h codes) b [] (omega (arith, past, length-map-upto back (blocks h.shape)))))
-        (λ p. subst (λ v. IsNear e v v) (sym (nothing p)) (zero_within e))))
+        (search (rules, get_or_past, length-map-upto, nothing, zero_within))
         (cases_lt b (blocks h.shape))

@@ -1,6 +1,6 @@
 -- The lift of a line and the way back over whole numbers, where nothing wraps: how large the coefficients are,
 -- and how far what comes back is from the line, where the coefficients have an error.
-use Rattle.std.proofs.Common.{◌≡◌, ℕ, ◌+◌, ◌*◌, ◌≤◌, ℤ, pos, ◌+ℤ◌, ◌-ℤ◌, ◌≤ℤ◌, le_trans, arith}
+use Rattle.std.proofs.Common.{◌≡◌, ℕ, ◌+◌, ◌*◌, ◌≤◌, ℤ, pos, ◌+ℤ◌, ◌-ℤ◌, ◌≤ℤ◌, le_trans, arith, rules}
 use Rattle.std.specs.Int.RustNames.{unsigned_abs}
 use Rattle.std.proofs.lemmas.Int.{ints}
 
@@ -148,12 +148,10 @@ line_x x w x1 w1 y1 w2 a z1 x' w' x1' w2' e j f h k g i n1 n2 = omega (arith, in
 module _ (x y z w a b c d : ℤ) (a' b' c' d' x' y' z' w' : ℤ) (e : ℕ) (there : Lifts x y z w a b c d) (back : Unlifts a' b' c' d' x' y' z' w')
     (a_near : unsigned_abs (a' -ℤ a) ≤ e) (b_near : unsigned_abs (b' -ℤ b) ≤ e) (c_near : unsigned_abs (c' -ℤ c) ≤ e) (d_near : unsigned_abs (d' -ℤ d) ≤ e) where
   y1_near : unsigned_abs (back.y2 -ℤ there.y1) ≤ 2 * e
-  y1_near = rotation_y _ _ _ _ _ _ _ _ _ _ _ _ _ _ e there.rests.rest_is there.half_y_is there.d_is there.half_d_is there.b_is
-      back.half_d_is back.y1_is back.half_y_is back.w1_is back.y2_is b_near d_near
+  y1_near = search (rules, rotation_y)
 
   w1_near : unsigned_abs (back.w2 -ℤ (there.w2 +ℤ there.w2 -ℤ there.y1)) ≤ 2 * e + 1
-  w1_near = rotation_w _ _ _ _ _ _ _ _ _ _ _ _ _ _ _ e there.rests.rest_is there.half_y_is there.d_is there.half_d_is there.b_is
-      back.half_d_is back.y1_is back.half_y_is back.w1_is back.y2_is back.w2_is b_near d_near
+  w1_near = search (rules, rotation_w)
 
   z1_near : unsigned_abs (back.z1 -ℤ there.z1) ≤ 2 * e
   z1_near = sum_near _ _ _ _ _ _ e there.sums.rest_is back.z1_is a_near c_near

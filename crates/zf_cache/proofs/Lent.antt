@@ -1,5 +1,5 @@
 -- What a touched cache gives to read, and what it ends as once a loan of a block has ended.
-use Rattle.std.proofs.Common.{◌≡◌, refl, sym, ap, subst, ◌∙◌, ℕ, ◌<◌, ℤ, pos, Bool, true, false, List, map, length, get_or, set, replicate}
+use Rattle.std.proofs.Common.{◌≡◌, refl, sym, ap, subst, ◌∙◌, ℕ, ◌<◌, ℤ, pos, Bool, true, false, List, map, length, get_or, replicate, rules}
 use Rattle.std.specs.Bool.{OnTrue}
 use Rattle.std.proofs.lemmas.List.{get_or-map, set-set, length-replicate}
 use Rattle.zf_base.specs.Formats.{Format, existing_of}
@@ -39,14 +39,7 @@ module _ (place : ℕ → List ℕ → ℕ → ℕ) (may_hold : ℕ → ℕ → 
   pub gets : (p : ℕ) (line : List X) (r : X) → p < h.block_len → line ≡ line_at t.lines l → r ≡ get_or line p r
       → OnTrue (f.exists b p) (value r ≡ get_or (values_by place value (kept_of t) h j b) p (pos 0))
   unfolding state_at
-  gets p line r within is read = on_true (f.exists b p) (λ e.
-      let row = line_at t.lines l in
-      let inside : p < length row = subst (λ n. p < n) (sym whole) within in
-      let exists : h.exists b p ≡ true = ap (λ q. q.exists b p) same ∙ e in
-      ap value (read ∙ ap (λ ls. get_or ls p r) is)
-      ∙ sym (get_or-map value row p r (pos 0) inside)
-      ∙ sym (get_or-existing_of_exists h b (map value row) p within exists)
-      ∙ ap (λ xs. get_or xs p (pos 0)) (sym here))
+  gets p line r within is read = search (rules, on_true, whole, get_or-map, get_or-existing_of_exists, here)
 
   -- the whole block, for the state that the touch has made
   pub shows : (s : State Code) (line : List X) → state_at place value (kept_of t) h j ≡ s → line ≡ line_at t.lines l → existing_of f b (map value line) ≡ s.values b
@@ -78,12 +71,7 @@ module _ (place : ℕ → List ℕ → ℕ → ℕ) (may_hold : ℕ → ℕ → 
     counted = ap (λ (u : State Code). u.counts) state
 
     pub lends : (w : List X) → kept_of (ended w) ≡ lent w
-    lends w = λ i. record {
-      lines = (ap (λ ls. set ls l (over (line_at t.lines l) w)) to.others.lines ∙ set-set c.lines l (line_at t.lines l) (over (line_at t.lines l) w)
-          ∙ (λ m. set c.lines l (over (sym is m) w))) i;
-      tags = (to.others.tags ∙ (λ m. set c.tags l (dirty m))) i;
-      counts = counted i;
-    }
+    lends w = search (rules, set-set, counted)
 
     pub row_held : existing_of f b (map value row) ≡ touched.values b
     unfolding soiled

@@ -1,10 +1,10 @@
 -- What is proved of the parts of a cache, in the words of its contracts, whatever its placing.
-use Rattle.std.proofs.Common.{◌≡◌, refl, sym, ap, subst, ◌∙◌, ℕ, ℤ, List, map, length}
-use Rattle.zf_base.specs.Formats.{Format, existing_of}
+use Rattle.std.proofs.Common.{◌≡◌, refl, sym, ap, subst, ◌∙◌, ℕ, ℤ, List, length, rules}
+use Rattle.zf_base.specs.Formats.{Format}
 use Rattle.zf_base.specs.declared.backing.Reading.{Ghosts as Reading}
 use Rattle.zf_cached.specs.State.{State}
 use Rattle.zf_cached.specs.Placing.{Line}
-use Rattle.zf_cached.specs.Touch.{touch_at, touch_for_writing_at, soiled, with_values}
+use Rattle.zf_cached.specs.Touch.{touch_at, touch_for_writing_at, soiled}
 use Rattle.zf_cached.specs.Changes.{flush}
 use Rattle.zf_lines.specs.Rows.{line_at, over}
 use Rattle.zf_cache.specs.declared.body.Body.{Body}
@@ -43,12 +43,7 @@ module _ (place : ℕ → List ℕ → ℕ → ℕ) (line : Line) (told : IsTold
     CacheStep step = StepsTo R (state_at place value) (FitsAt place value) step view back (kept_of t) now
 
     steps : (inner outer : Format R.Code → State R.Code → State R.Code) → inner f s ≡ outer f s → FieldsStep inner → CacheStep outer
-    steps inner outer same e = record {
-      state = e.state ∙ same ∙ ap (λ (q : Kept X). outer f (state_at place value q f (R.codes back))) is;
-      fits = e.fits.fits;
-      format = e.format;
-      kept = e.kept;
-    }
+    steps inner outer same e = search rules
 
     at_line : (l b : ℕ) → l ≡ line_by place (kept_of body) b → touch_in f s l b ≡ touch_at line f s b
     at_line l b at = touched_by (kept_of body) f (R.codes back) (subst (λ (q : Kept X). FitsAt place value q f (R.codes back)) (sym is) fits) l b at
@@ -62,9 +57,7 @@ module _ (place : ℕ → List ℕ → ℕ → ℕ) (line : Line) (told : IsTold
 
     pub puts_in : (b p : ℕ) (v : ℤ) → FieldsStep (λ g u. with_value g (soiled (touch_in g u (line_by place (kept_of body) b) b) b) b p v) → CacheStep (λ g u. put_at line g u b p v)
     unfolding put_at touch_for_writing_at
-    puts_in b p v =
-        let l = line_by place (kept_of body) b in
-        steps (λ g u. with_value g (soiled (touch_in g u l b) b) b p v) (λ g u. put_at line g u b p v) (ap (λ u. with_value f (soiled u b) b p v) (at_line l b refl))
+    puts_in b p v = search (rules, steps, at_line)
 
     pub flushes : FieldsStep (λ g u. flush g u) → CacheStep (λ g u. flush g u)
     flushes = steps (λ g u. flush g u) (λ g u. flush g u) refl
@@ -75,10 +68,7 @@ module _ (place : ℕ → List ℕ → ℕ → ℕ) (line : Line) (told : IsTold
       (fit_of : (d : Kept X) (g : Format Code) (i : ℕ → Code) → FitsAt place value d g i → Fit d g i)
       (f h : Format Code) (j : ℕ → Code) (c : Kept X) (t : Body X) (b l : ℕ) (same : h ≡ f) (sound : IsSound place value t h j) (to : ComesTo place c (kept_of t) b l) where
     pub stands : (s : State Code) → state_at place value (kept_of t) h j ≡ s → StandsForAt place line Fit value (kept_of t) f j s
-    stands s state = record {
-      state = state_now place may_hold rule value f h j c t b l same sound to s state;
-      fits = fit_of (kept_of t) f j (fits_now place may_hold rule value f h j c t b l same sound to);
-    }
+    stands s state = search (rules, state_now, fits_now)
 
     module _ (k : ℕ → Code) (fits : FitsAt place value c f k) (dirty : tag_at t.tags.items l ≡ dirty_tag b)
         (state : state_at place value (kept_of t) h j ≡ soiled (touch_in f (state_at place value c f k) l b) b)
@@ -94,9 +84,7 @@ module _ (place : ℕ → List ℕ → ℕ → ℕ) (line : Line) (told : IsTold
       loans = record {
         held = row_held place may_hold rule value f h j c t b l same sound to k dirty state row is ∙ ap (λ (u : State Code). u.values b) touched;
         written = λ w. record {
-          state = ap (λ d. state_at place value d f j) (sym (lent_is w))
-              ∙ lent_state place may_hold rule value f h j c t b l same sound to k dirty state row is w
-              ∙ ap (λ u. with_values (soiled u b) b (existing_of f b (map value (over row w)))) touched;
+          state = search (rules, lent_is, lent_state, touched);
           fits = fit_of (lent_block_at place line Fit value f k c b row w) f j
               (subst (λ d. FitsAt place value d f j) (lent_is w) (lent_fits place may_hold rule value f h j c t b l same sound to k dirty state row is w));
         };

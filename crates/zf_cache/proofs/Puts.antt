@@ -1,9 +1,8 @@
 -- A value put into the line of a dirty block.
-use Rattle.std.proofs.Common.{◌≡◌, refl, sym, ap, ◌∙◌, ℕ, ◌<◌, ℤ, List, map, length, set, arith}
+use Rattle.std.proofs.Common.{◌≡◌, refl, ap, ◌∙◌, ℕ, ◌<◌, ℤ, List, map, length, set, arith, rules}
 use Rattle.std.proofs.lemmas.List.{length-set, length-map, map-set}
 use Rattle.zf_base.specs.Formats.{Format, existing_of}
 use Rattle.zf_cached.specs.State.{State}
-use Rattle.zf_cached.specs.Touch.{with_values}
 use Rattle.zf_lines.specs.Rows.{line_at, over}
 use Rattle.zf_lines.proofs.Sizes.{length-over, over_same}
 use Rattle.zf_cache.specs.declared.body.Body.{Body}
@@ -37,10 +36,4 @@ module _ (place : ℕ → List ℕ → ℕ → ℕ) (may_hold : ℕ → ℕ → 
       let row_is : row ≡ set old p v = ap (λ r. over old (set r p v)) is ∙ over_same old (set old p v) (length-set old p v) in
       let there : IsIn t.tags.items l b = ap block_in dirty ∙ names-dirty b in
       let here = values_there place value h (kept_of t) j b l (sound.fits.own l b there).0 (named (tag_at t.tags.items l) b there) in
-      let values : existing_of h b (map value row) ≡ existing_of h b (set ((state_at place value (kept_of t) h j).values b) p (value v)) =
-      ap (λ r. existing_of h b (map value r)) row_is ∙ ap (existing_of h b) (map-set value old p v)
-      ∙ existing_of-set h b (map value old) p (value v) (length-map old value ∙ whole) at
-      ∙ ap (λ xs. existing_of h b (set xs p (value v))) (sym here) in
-      (writes_row place may_hold rule value t d h h j j refl sound l lt b row (length-over old (set line p v) ∙ whole) dirty lines tags (ap counts_of counts) refl).1
-      ∙ ap (with_values (state_at place value (kept_of t) h j) b) values
-      ∙ (λ i. with_values (state i) b (existing_of (same i) b (set ((state i).values b) p (value v))))
+      let values : existing_of h b (map value row) ≡ existing_of h b (set ((state_at place value (kept_of t) h j).values b) p (value v)) = search (rules, map-set, existing_of-set, length-map) in search (rules, writes_row, length-over)

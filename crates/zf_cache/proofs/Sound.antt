@@ -1,5 +1,5 @@
 -- The fields of a cache are whole, and fit the backing.
-use Rattle.std.proofs.Common.{◌≡◌, ◌≢◌, ◌⊎◌, refl, sym, ap, subst, ◌∙◌, ℕ, ◌+◌, ◌*◌, ◌/◌, ◌%◌, ◌<◌, ◌≤◌, ℤ, pos, inl, inr, Option, Some, List, [], map, length, get_or, set, replicate, arith}
+use Rattle.std.proofs.Common.{◌≡◌, ◌≢◌, refl, sym, ap, subst, ◌∙◌, ℕ, ◌+◌, ◌/◌, ◌%◌, ◌<◌, ◌≤◌, ℤ, Option, Some, List, map, length, set, replicate, arith, rules}
 use Rattle.std.proofs.lemmas.Bool.{cases_lt}
 use Rattle.std.proofs.lemmas.List.{length-set, length-replicate, set-set, set-get_or, get_or-set_same, get_or-set_other}
 use Rattle.zf_base.specs.Formats.{Format, existing_of, meant}
@@ -9,8 +9,8 @@ use Rattle.zf_cached.specs.Touch.{hit, soiled, with_values}
 use Rattle.zf_lines.specs.Rows.{line_at, HasSize}
 use Rattle.zf_lines.proofs.Sizes.{HasSize-set}
 use Rattle.zf_cache.specs.declared.body.Body.{Body}
-use Rattle.zf_cache.specs.Kept.{line_by, Kept, IsIn, IsAway, IsClean, OnlyLine, tag_at, block_in, clean_tag, dirty_tag, dirty_of}
-use Rattle.zf_cache.specs.Bodies.{AreLines, IsWhole, IsSound, ComesTo, kept_of, counts_of}
+use Rattle.zf_cache.specs.Kept.{line_by, Kept, IsAway, IsClean, OnlyLine, tag_at, clean_tag, dirty_tag, dirty_of}
+use Rattle.zf_cache.specs.Bodies.{IsWhole, IsSound, ComesTo, kept_of, counts_of}
 use Rattle.zf_cache.specs.Rules.{IsRule, one_line}
 use Rattle.zf_cache.specs.Standing.{state_at, state_of, evicted}
 use Rattle.zf_cache.specs.Steps.{taken_in, touch_in}
@@ -24,20 +24,13 @@ IsBlank rows tags = (l : ℕ) → rows ≤ l → tag_at tags l ≡ 0
 
 -- where the tag of a line with a row changes, or a line is emptied, those without one stay empty
 pub still_blank : (rows : ℕ) (tags : List ℕ) (l x : ℕ) → l < length tags → (rows ≤ l → x ≡ 0) → IsBlank rows tags → IsBlank rows (set tags l x)
-still_blank rows tags l x lt zero blank m past = elim (same_or_not m l) [
-  | inl same ↦ ap (tag_at (set tags l x)) same ∙ tag-set_same tags l x lt ∙ zero (subst (λ j. rows ≤ j) same past)
-  | inr ne ↦ tag-set_other tags l x m ne ∙ blank m past
-]
+still_blank rows tags l x lt zero blank m past = search (rules, same_or_not, tag-set_same, tag-set_other)
 
 module _ {X : Type 0} where
   -- fields with as many tags, and rows of the same size
   pub whole_as : (c d : Body X) (len : ℕ) → IsWhole c len → length d.tags.items ≡ length c.tags.items → HasSize d.lines (length c.lines) len
       → IsBlank (length c.lines) d.tags.items → IsWhole d len
-  whole_as c d len w e size blank = record {
-    size = subst (λ n. HasSize d.lines n len) (sym size.0) size;
-    lines = subst AreLines (sym e) w.lines;
-    blank = λ l past. blank l (subst (λ n. n ≤ l) size.0 past);
-  }
+  whole_as c d len w e size blank = search rules
 
   -- the lines and the tags of another
   pub whole_of : (c d : Body X) (len : ℕ) → IsWhole c len → d.lines ≡ c.lines → d.tags.items ≡ c.tags.items → IsWhole d len
@@ -46,34 +39,23 @@ module _ {X : Type 0} where
 
   -- lines that were emptied
   pub whole_emptied : (c d : Body X) (len : ℕ) → IsWhole c len → d.lines ≡ c.lines → d.tags.items ≡ replicate (length c.tags.items) 0 → IsWhole d len
-  whole_emptied c d len w lines tags =
-      let n = length c.tags.items in let none : ℕ = 0 in
-      whole_as c d len w (ap length tags ∙ length-replicate n none) (subst (λ ls. HasSize ls (length c.lines) len) (sym lines) w.size)
-      (λ l past. ap (λ ts. tag_at ts l) tags ∙ no_tag n l)
+  whole_emptied c d len w lines tags = search (rules, whole_as, length-replicate, no_tag)
 
   -- a row that was written, as long as it was
   pub whole_written : (c d : Body X) (len l : ℕ) (row : List X) → IsWhole c len → l < length c.lines → length row ≡ len → d.lines ≡ set c.lines l row → d.tags.items ≡ c.tags.items
       → IsWhole d len
-  whole_written c d len l row w lt long lines tags =
-      whole_as c d len w (ap length tags) (subst (λ ls. HasSize ls (length c.lines) len) (sym lines) (HasSize-set c.lines (length c.lines) len l row w.size lt long))
-      (subst (IsBlank (length c.lines)) (sym tags) w.blank)
+  whole_written c d len l row w lt long lines tags = search (rules, whole_as)
 
   -- a line that holds a block has a row
   pub row_there : (c : Body X) (len : ℕ) → IsWhole c len → (l : ℕ) → 0 < tag_at c.tags.items l → l < length c.lines
-  row_there c len w l some = by (cases_lt l (length c.lines))
-    where
-      by : (l < length c.lines) ⊎ (length c.lines ≤ l) → l < length c.lines
-      by (inl lt) = lt
-      by (inr ge) = let none = w.blank l ge in absurd (omega (arith, none, some))
+  row_there c len w l some = search (rules, cases_lt)
 
 module _ (place : ℕ → List ℕ → ℕ → ℕ) {X : Type 0} where
   pub sound_as : {Code : Type 0} (value : X → ℤ) (c d : Body X) (f g : Format Code) (k : ℕ → Code) → g ≡ f → IsWhole c f.block_len
       → length d.tags.items ≡ length c.tags.items → HasSize d.lines (length c.lines) f.block_len → IsBlank (length c.lines) d.tags.items
       → Fit place value f (length c.tags.items) d.lines d.tags.items k → IsSound place value d g k
-  sound_as value c d f g k same w e size blank fit = subst (λ h. IsSound place value d h k) (sym same) (record {
-    whole = whole_as c d f.block_len w e size blank;
-    fits = fits_of place value f (kept_of d) k (length c.tags.items) e fit;
-  })
+  sound_as value c d f g k same w e size blank fit = subst (λ h. IsSound place value d h k) (sym same) (
+      search (rules, whole_as, fits_of))
 
 -- the fields c become d, and the backing's format and codes f and k become g and k'
 module _ (place : ℕ → List ℕ → ℕ → ℕ) (may_hold : ℕ → ℕ → ℕ → Type 0) (rule : IsRule place may_hold) {X Code : Type 0} (value : X → ℤ)
@@ -106,14 +88,7 @@ module _ (place : ℕ → List ℕ → ℕ → ℕ) (may_hold : ℕ → ℕ → 
 
   -- a block that is not in the line where it is looked for is in none, also once that line is empty
   pub none_in : (b l : ℕ) → place n c.tags.items b ≡ l → l < n → tag_at c.tags.items l / 2 ≢ b + 1 → IsAway (set c.tags.items l 0) b
-  none_in b l at lt ne m e = elim (same_or_not m l) [
-    | inl here ↦
-        let zero : tag_at (set c.tags.items l 0) m ≡ 0 = ap (tag_at (set c.tags.items l 0)) here ∙ tag-set_same c.tags.items l 0 lt in
-        let half = named (tag_at (set c.tags.items l 0) m) b e in omega (arith, half, zero)
-    | inr off ↦
-        let is : IsIn c.tags.items m b = sym (ap block_in (tag-set_other c.tags.items l 0 m off)) ∙ e in
-        off (sym (fit.own m b is).0 ∙ at)
-  ]
+  none_in b l at lt ne m e = search (rules, same_or_not, tag-set_same, named, tag-set_other)
 
   module _ (l : ℕ) (lt : l < n) where
     pub evicts : (o : Option ℕ) → dirty_of (tag_at c.tags.items l) ≡ o → d.lines ≡ c.lines → d.tags.items ≡ set c.tags.items l 0
@@ -175,21 +150,12 @@ module _ (place : ℕ → List ℕ → ℕ → ℕ) (may_hold : ℕ → ℕ → 
 -- a line emptied, and the block taken in, is a touch of a block that was not there
 pub misses_block : (place : ℕ → List ℕ → ℕ → ℕ) {X Code : Type 0} (value : X → ℤ) (c : Body X) (f : Format Code) (k : ℕ → Code) (b l : ℕ) (t u : State Code)
     → tag_at c.tags.items l / 2 ≢ b + 1 → t ≡ evicted f (state_at place value (kept_of c) f k) l → u ≡ taken_in t l b → u ≡ touch_in f (state_at place value (kept_of c) f k) l b
-misses_block place value c f k b l t u away first second =
-    let n = length c.tags.items in
-    let s = standing_at place value f n c.lines c.tags.items (counts_of c.counts) k in
-    let is = state_stands place value f (kept_of c) k n refl in
-    second ∙ ap (λ v. taken_in v l b) (first ∙ ap (λ v. evicted f v l) is)
-    ∙ touches_away f s b l (λ e. away (named (tag_at c.tags.items l) b e))
-    ∙ ap (λ v. touch_in f v l b) (sym is)
+misses_block place value c f k b l t u away first second = search (rules, standing_at, state_stands, touches_away, named)
 
 -- ---- one line alone
 
 pub only_line : {X : Type 0} (c d : Kept X) (l x : ℕ) → l < length c.tags → d.lines ≡ set c.lines l (line_at d.lines l) → d.tags ≡ set c.tags l x → OnlyLine c d l
-only_line c d l x lt lines tags = record {
-  lines = lines;
-  tags = tags ∙ ap (set c.tags l) (sym (ap (λ ts. tag_at ts l) tags ∙ tag-set_same c.tags l x lt));
-}
+only_line c d l x lt lines tags = search (rules, tag-set_same)
 
 -- the tag of that line changed once more
 pub only_line_again : {X : Type 0} (c d e : Kept X) (l x : ℕ) → l < length c.tags → OnlyLine c d l → e.lines ≡ d.lines → e.tags ≡ set d.tags l x → OnlyLine c e l
@@ -202,56 +168,28 @@ same_length c d l h = ap length h.tags ∙ length-set c.tags l (tag_at d.tags l)
 -- the line of a block that was touched is one, before and after
 pub line_below : (place : ℕ → List ℕ → ℕ → ℕ) (may_hold : ℕ → ℕ → ℕ → Type 0) → IsRule place may_hold → {X Code : Type 0} (value : X → ℤ) (t : Body X) (h : Format Code) (j : ℕ → Code) → IsSound place value t h j
     → (c : Kept X) (b l : ℕ) → ComesTo place c (kept_of t) b l → (l < length t.tags.items) × (l < length c.tags)
-line_below place may_hold rule value t h j sound c b l to =
-    let at = to.at in let size = same_length c (kept_of t) l to.others in let some = sound.whole.lines.some in
-    let lt = rule.inside (length c.tags) c.tags b (omega (arith, size, some)) in
-    (omega (arith, at, lt, size), omega (arith, at, lt))
+line_below place may_hold rule value t h j sound c b l to = search (rules, same_length)
 
 -- ---- what a touch comes to
 
 module _ {X : Type 0} (place : ℕ → List ℕ → ℕ → ℕ) (c d : Kept X) (b l : ℕ) where
   -- the line that holds the block
   pub comes_hitting : l ≡ line_by place c b → l < length c.lines → tag_at c.tags l / 2 ≡ b + 1 → d.lines ≡ c.lines → d.tags ≡ c.tags → ComesTo place c d b l
-  comes_hitting at row here lines tags = record {
-    at = at;
-    row = subst (λ ls. l < length ls) (sym lines) row;
-    here = ap (λ ts. tag_at ts l / 2) tags ∙ here;
-    others = record {
-      lines = lines ∙ sym (ap (λ ls. set c.lines l (line_at ls l)) lines ∙ set-get_or c.lines l []);
-      tags = tags ∙ sym (ap (λ ts. set c.tags l (tag_at ts l)) tags ∙ set-get_or c.tags l 0);
-    };
-  }
+  comes_hitting at row here lines tags = search (rules, set-get_or)
 
   -- the line that has taken it in
   pub comes_missing : l ≡ line_by place c b → l < length c.lines → l < length c.tags → d.lines ≡ set c.lines l (line_at d.lines l) → d.tags ≡ set c.tags l (clean_tag b) → ComesTo place c d b l
-  comes_missing at row lt lines tags =
-      let half : clean_tag b / 2 ≡ b + 1 = omega arith in
-      let size = ap length lines ∙ length-set c.lines l (line_at d.lines l) in
-      record {
-        at = at;
-        row = subst (λ n. l < n) (sym size) row;
-        here = ap (λ ts. tag_at ts l / 2) tags ∙ ap (λ t. t / 2) (tag-set_same c.tags l (clean_tag b) lt) ∙ half;
-        others = only_line c d l (clean_tag b) lt lines tags;
-      }
+  comes_missing at row lt lines tags = search (rules, length-set, tag-set_same, only_line)
 
   -- the line whose block is dirty now
   pub comes_soiling : (e : Kept X) → ComesTo place c d b l → (l < length d.tags) × (l < length c.tags) → e.lines ≡ d.lines → e.tags ≡ set d.tags l (dirty_tag b) → ComesTo place c e b l
-  comes_soiling e to lt lines tags =
-      let half : dirty_tag b / 2 ≡ b + 1 = omega arith in
-      record {
-        at = to.at;
-        row = subst (λ ls. l < length ls) (sym lines) to.row;
-        here = ap (λ ts. tag_at ts l / 2) tags ∙ ap (λ t. t / 2) (tag-set_same d.tags l (dirty_tag b) lt.0) ∙ half;
-        others = only_line_again c d e l (dirty_tag b) lt.1 to.others lines tags;
-      }
+  comes_soiling e to lt lines tags = search (rules, tag-set_same, only_line_again)
 
 -- ---- the values of a block that is in its line
 
 pub values_there : (place : ℕ → List ℕ → ℕ → ℕ) {X Code : Type 0} (value : X → ℤ) (f : Format Code) (c : Kept X) (k : ℕ → Code) (b l : ℕ) → place (length c.tags) c.tags b ≡ l → tag_at c.tags l / 2 ≡ b + 1
     → (state_at place value c f k).values b ≡ existing_of f b (map value (line_at c.lines l))
-values_there place value f c k b l own half =
-    ap (λ (s : State _). s.values b) (state_stands place value f c k (length c.tags) refl)
-    ∙ vals-in place value f (length c.tags) c.lines c.tags k b l own (names (tag_at c.tags l) b half)
+values_there place value f c k b l own half = search (rules, state_stands, vals-in, names)
 
 -- where each block has one line
 pub values_here : {X Code : Type 0} (value : X → ℤ) (f : Format Code) (c : Kept X) (k : ℕ → Code) (b l : ℕ) → b % length c.tags ≡ l → tag_at c.tags l / 2 ≡ b + 1
@@ -262,18 +200,9 @@ values_here value f c k b l own half = values_there one_line value f c k b l own
 pub existing_of-set : {Code : Type 0} (f : Format Code) (b : ℕ) (xs : List ℤ) (p : ℕ) (v : ℤ) → length xs ≡ f.block_len → p < f.block_len
     → existing_of f b (set xs p v) ≡ existing_of f b (set (existing_of f b xs) p v)
 existing_of-set f b xs p v long lt =
-    existing_of_same f b (set xs p v) (set (existing_of f b xs) p v) (λ q h e. elim (same_or_not q p) [
-      | inl same ↦ ap (λ j. get_or (set xs p v) j (pos 0)) same ∙ get_or-set_same xs p v (pos 0) (omega arith)
-          ∙ sym (get_or-set_same (existing_of f b xs) p v (pos 0) (omega (arith, length-existing_of f b xs))) ∙ ap (λ j. get_or (set (existing_of f b xs) p v) j (pos 0)) (sym same)
-      | inr ne ↦ get_or-set_other xs p q v (pos 0) ne ∙ sym (get_or-existing_of_exists f b xs q h e) ∙ sym (get_or-set_other (existing_of f b xs) p q v (pos 0) ne)
-    ])
+    existing_of_same f b (set xs p v) (set (existing_of f b xs) p v) (λ q h e.
+        search (rules, same_or_not, get_or-set_same, length-existing_of, get_or-set_other, get_or-existing_of_exists))
 
 -- nothing is dirty where a clean block comes into a line
 pub stays_clean : {X : Type 0} (c d : Kept X) (l b : ℕ) → l < length c.tags → IsClean c → d.tags ≡ set c.tags l (clean_tag b) → IsClean d
-stays_clean c d l b lt clean tags m = ap (λ ts. tag_at ts m % 2) tags ∙ elim (same_or_not m l) [
-  | inl same ↦ ap (λ j. tag_at (set c.tags l (clean_tag b)) j % 2) same ∙ ap (λ t. t % 2) (tag-set_same c.tags l (clean_tag b) lt) ∙ even b
-  | inr ne ↦ ap (λ t. t % 2) (tag-set_other c.tags l (clean_tag b) m ne) ∙ clean m
-]
-  where
-    even : (b : ℕ) → (2 * b + 2) % 2 ≡ 0
-    even b = omega arith
+stays_clean c d l b lt clean tags m = search (rules, same_or_not, tag-set_same, tag-set_other)

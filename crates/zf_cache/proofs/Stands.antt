@@ -1,6 +1,6 @@
 -- What becomes of the state that a cache and its backing stand for, when a line changes. The number of lines is n, and the line of
 -- block b is `place n tags b`.
-use Rattle.std.proofs.Common.{◌≡◌, ◌≢◌, ◌⊎◌, inl, inr, refl, sym, ap, subst, ◌∙◌, ℕ, ◌+◌, ◌/◌, ◌<◌, ◌==◌, ℤ, Bool, true, false, Option, Some, None, List, [], map, length, set, eq-eqb, arith}
+use Rattle.std.proofs.Common.{◌≡◌, ◌≢◌, ◌⊎◌, inl, inr, refl, sym, ap, subst, ◌∙◌, ℕ, ◌+◌, ◌/◌, ◌<◌, ◌==◌, ℤ, Bool, true, false, Option, Some, None, List, [], map, length, set, eq-eqb, rules}
 use Rattle.std.proofs.lemmas.Bool.{ne_eqb}
 use Rattle.std.proofs.lemmas.List.{get_or-set_same, get_or-set_other, length-set}
 use Rattle.zf_base.specs.Formats.{Format, existing_of, meant, encoded, with_at}
@@ -68,9 +68,7 @@ module _ (place : ℕ → List ℕ → ℕ → ℕ) {X Code : Type 0} (value : X
 
   -- a block that is in line l: its values, and whether it is dirty
   pub vals-in : (lines : List (List X)) (tags : List ℕ) (k : ℕ → Code) (b l : ℕ) → place n tags b ≡ l → IsIn tags l b → vals lines tags k b ≡ in_line lines l b
-  vals-in lines tags k b l at is =
-      ap (λ (t : Bool). elim t [ true ↦ in_line lines (place n tags b) b | false ↦ meant f b (k b) ]) (is_block-some _ b (ap (λ j. block_in (tag_at tags j)) at ∙ is))
-      ∙ ap (λ j. in_line lines j b) at
+  vals-in lines tags k b l at is = search (rules, is_block-some)
 
   pub dirty-in : (tags : List ℕ) (b l : ℕ) → place n tags b ≡ l → soiled_in tags b ≡ (tag_at tags l == dirty_tag b)
   dirty-in tags b l at = ap (λ j. tag_at tags j == dirty_tag b) at
@@ -105,12 +103,7 @@ module _ (place : ℕ → List ℕ → ℕ → ℕ) {X Code : Type 0} (value : X
   -- a block that is not dirty has what its code means
   module _ (lines : List (List X)) (tags : List ℕ) (k : ℕ → Code) (fit : Fit lines tags k) where
     pub undirty_values : (b : ℕ) → tag_at tags (place n tags b) ≢ dirty_tag b → vals lines tags k b ≡ meant f b (k b)
-    undirty_values b clean = elim (is_or_not (block_in (tag_at tags (place n tags b))) b) [
-      | inl is ↦
-          let l = place n tags b in
-          vals-in lines tags k b l refl is ∙ fit.clean l b (even (tag_at tags l) b (named (tag_at tags l) b is) clean)
-      | inr ne ↦ vals-out lines tags k b ne
-    ]
+    undirty_values b clean = search (rules, is_or_not, vals-in, even, named, vals-out)
 
     pub placed_of : IsPlaced tags
     placed_of l b is = (fit.own l b is).0
@@ -171,10 +164,7 @@ module _ (place : ℕ → List ℕ → ℕ → ℕ) {X Code : Type 0} (value : X
       away-emptied b out m e = out m (was_in m b e)
 
       emptied-held : (m : ℕ) → block_in (tag_at emptied m) ≡ with_at s.held l None m
-      emptied-held m = elim (same_or_not m l) [
-        | inl e ↦ ap (λ j. block_in (tag_at emptied j)) e ∙ ap block_in tag-emptied ∙ sym (with_at-same s.held l None) ∙ ap (with_at s.held l None) (sym e)
-        | inr ne ↦ ap block_in (tag-set_other tags l 0 m ne) ∙ sym (with_at-other s.held l None m ne)
-      ]
+      emptied-held m = search (rules, same_or_not, tag-emptied, with_at-same, tag-set_other, with_at-other)
 
       -- a block in another line stays there
       still-in : (m b : ℕ) → m ≢ l → IsIn tags m b → place n emptied b ≡ m
@@ -211,19 +201,11 @@ module _ (place : ℕ → List ℕ → ℕ → ℕ) {X Code : Type 0} (value : X
         ]
 
         clean-values : (b : ℕ) → vals lines emptied k b ≡ vals lines tags k b
-        clean-values b = elim (whereabouts tags placed l b) [
-          | inl is ↦ vals-out lines emptied k b (out-emptied b is (place n emptied b)) ∙ sym (undirty_values lines tags k fit b (not_dirty b (placed l b is)))
-          | inr rest ↦ elim rest [
-            | inl m ↦ elsewhere-values k m.line b m.other m.there refl
-            | inr out ↦ vals-away lines lines tags emptied k k b refl out (away-emptied b out)
-          ]
-        ]
+        clean-values b = search (rules, whereabouts, vals-out, out-emptied, undirty_values, not_dirty, elsewhere-values, vals-away, away-emptied)
 
         pub empties_clean : standing_at lines emptied counts k ≡ evicted f s l
         unfolding evicted
-        empties_clean =
-            same_state (standing_at lines emptied counts k) (record s { held = with_at s.held l None }) refl emptied-held clean-dirty clean-values (λ b. refl) refl
-            ∙ ap (λ (t : State Code). record t { held = with_at t.held l None }) (sym kept-back)
+        empties_clean = search (rules, same_state, emptied-held, clean-dirty, clean-values, kept-back)
 
       pub fits_emptied : (k' : ℕ → Code) → ((b : ℕ) → (IsIn tags l b → ⊥) → k' b ≡ k b) → Fit lines emptied k'
       fits_emptied k' same = record {
@@ -271,13 +253,7 @@ module _ (place : ℕ → List ℕ → ℕ → ℕ) {X Code : Type 0} (value : X
         apart a out same = out l (there ∙ ap Some (sym same))
 
         soiled-dirty : (a : ℕ) → soiled_in emptied a ≡ with_at s.dirty b false a
-        soiled-dirty a = elim (whereabouts tags placed l a) [
-          | inl e ↦ dirty-out emptied a (out-emptied a e (place n emptied a)) ∙ sym (with_at-same s.dirty b false) ∙ ap (with_at s.dirty b false) (sym (only a e))
-          | inr rest ↦ elim rest [
-            | inl m ↦ elsewhere-dirty m.line a m.other m.there ∙ sym (with_at-other s.dirty b false a (other a m.line m.other m.there))
-            | inr out ↦ dirty-away tags emptied a out (away-emptied a out) ∙ sym (with_at-other s.dirty b false a (apart a out))
-          ]
-        ]
+        soiled-dirty a = search (rules, whereabouts, dirty-out, out-emptied, with_at-same, only, elsewhere-dirty, with_at-other, other)
 
         soiled-values : (a : ℕ) → vals lines emptied k' a ≡ with_at s.values b (meant f b (encoded f b (s.values b))) a
         soiled-values a =
@@ -383,50 +359,20 @@ module _ (place : ℕ → List ℕ → ℕ → ℕ) {X Code : Type 0} (value : X
           in-after = ap (λ r. existing_of f b (map value r)) row-same ∙ loaded
 
           away-taken : (a : ℕ) → a ≢ b → IsAway tags a → IsAway tags' a
-          away-taken a ne out m e = elim (same_or_not m l) [
-            | inl at ↦ ne (only-in a (ap (λ j. block_in (tag_at tags' j)) (sym at) ∙ e))
-            | inr off ↦ out m (before m a off e)
-          ]
+          away-taken a ne out m e = search (rules, same_or_not, only-in, before)
 
           again : (m a : ℕ) → m ≢ l → IsIn tags m a → place n tags' a ≡ m
           again m a ne e = placed-taken m a (ap block_in (tag-other m ne) ∙ e)
 
           taken-dirty : (a : ℕ) → soiled_in tags' a ≡ soiled_in tags a
-          taken-dirty a = elim (whereabouts tags placed l a) [
-            | inl e ↦ absurd (nowhere a e)
-            | inr rest ↦ elim rest [
-              | inl m ↦ dirty-stay tags tags' a m.line (placed m.line a m.there) (again m.line a m.other m.there) (tag-other m.line m.other)
-              | inr out ↦ elim (same_or_not a b) [
-                | inl e ↦ ap (soiled_in tags') e ∙ dirty-in tags' b l (placed-taken l b is-in) ∙ ap (λ t. t == dirty_tag b) tag-same
-                    ∙ ne_eqb (clean_tag b) (dirty_tag b) (λ e. omega (arith, e)) ∙ sym (dirty-out tags b (none (place n tags b))) ∙ ap (soiled_in tags) (sym e)
-                | inr ne ↦ dirty-away tags tags' a out (away-taken a ne out)
-              ]
-            ]
-          ]
+          taken-dirty a = search (rules, whereabouts, nowhere, dirty-stay, again, tag-other, same_or_not, dirty-in, placed-taken)
 
           taken-values : (a : ℕ) → vals rows tags' k a ≡ vals lines tags k a
-          taken-values a = elim (whereabouts tags placed l a) [
-            | inl e ↦ absurd (nowhere a e)
-            | inr rest ↦ elim rest [
-              | inl m ↦ vals-stay lines rows tags tags' k k a refl m.line (placed m.line a m.there) (again m.line a m.other m.there) m.there (tag-other m.line m.other) (row-other m.line m.other)
-              | inr out ↦ elim (same_or_not a b) [
-                | inl e ↦ ap (vals rows tags' k) e ∙ vals-in rows tags' k b l (placed-taken l b is-in) is-in ∙ in-after
-                    ∙ sym (vals-out lines tags k b (none (place n tags b))) ∙ ap (vals lines tags k) (sym e)
-                | inr ne ↦ vals-away lines rows tags tags' k k a refl out (away-taken a ne out)
-              ]
-            ]
-          ]
+          taken-values a = search (rules, whereabouts, nowhere, vals-stay, again, tag-other, row-other, same_or_not, vals-in)
 
           pub takes_in : standing_at rows tags' (record counts { misses = risen counts.misses }) k ≡ taken_in s l b
           unfolding taken_in
-          takes_in =
-              same_state (standing_at rows tags' (record counts { misses = risen counts.misses }) k) (record s { held = with_at s.held l (Some b); counts = record counts { misses = risen counts.misses } })
-              refl
-              (λ m. elim (same_or_not m l) [
-                | inl e ↦ ap (λ j. block_in (tag_at tags' j)) e ∙ is-in ∙ sym (with_at-same s.held l (Some b)) ∙ ap (with_at s.held l (Some b)) (sym e)
-                | inr ne ↦ ap block_in (tag-other m ne) ∙ sym (with_at-other s.held l (Some b) m ne)
-              ])
-              taken-dirty taken-values (λ a. refl) refl
+          takes_in = search (rules, same_state, same_or_not, is-in, with_at-same, tag-other, with_at-other, taken-dirty, taken-values)
 
           pub fits_taken : b < f.blocks → Fit rows tags' k
           fits_taken below = record {
@@ -437,11 +383,7 @@ module _ (place : ℕ → List ℕ → ℕ → ℕ) {X Code : Type 0} (value : X
                 | inr off ↦ (fit.own m a (before m a off e)).1
               ],
             );
-            clean = λ m a e. elim (same_or_not m l) [
-              | inl at ↦ let tag : clean_tag b ≡ clean_tag a = sym tag-same ∙ ap (tag_at tags') (sym at) ∙ e in let is : b ≡ a = omega (arith, tag) in
-                  ap (λ j. in_line rows j a) at ∙ subst (λ j. in_line rows l j ≡ meant f j (k j)) is in-after
-              | inr off ↦ ap (λ r. existing_of f a (map value r)) (row-other m off) ∙ fit.clean m a (sym (tag-other m off) ∙ e)
-            ];
+            clean = λ m a e. search (rules, same_or_not, tag-same, in-after, row-other, tag-other);
             room = room-rows;
           }
 
@@ -470,14 +412,7 @@ module _ (place : ℕ → List ℕ → ℕ → ℕ) {X Code : Type 0} (value : X
               (λ a. refl) refl
 
           pub fits_written : Fit rows tags k
-          fits_written = record {
-            own = fit.own;
-            clean = λ m a e. elim (same_or_not m l) [
-              | inl at ↦ let both : dirty_tag b ≡ clean_tag a = sym is ∙ ap (tag_at tags) (sym at) ∙ e in absurd (omega (arith, both))
-              | inr off ↦ ap (λ r. existing_of f a (map value r)) (row-other m off) ∙ fit.clean m a e
-            ];
-            room = room-rows;
-          }
+          fits_written = search (rules, own, same_or_not, row-other, room-rows)
 
       -- ---- block b, which is in line l, becomes dirty
 
@@ -495,10 +430,7 @@ module _ (place : ℕ → List ℕ → ℕ → ℕ) {X Code : Type 0} (value : X
         held-here = names (tag_at tags l) b half
 
         same-block : (m : ℕ) → block_in (tag_at marked m) ≡ block_in (tag_at tags m)
-        same-block m = elim (same_or_not m l) [
-          | inl e ↦ ap (λ j. block_in (tag_at marked j)) e ∙ ap block_in mark-same ∙ names-dirty b ∙ sym held-here ∙ ap (λ j. block_in (tag_at tags j)) (sym e)
-          | inr ne ↦ ap block_in (mark-other m ne)
-        ]
+        same-block m = search (rules, same_or_not, mark-same, names-dirty, held-here, mark-other)
 
         placed-marked : IsPlaced marked
         placed-marked = still_placed tags marked placed (λ m a e. sym (same-block m) ∙ e)
@@ -520,12 +452,7 @@ module _ (place : ℕ → List ℕ → ℕ → ℕ) {X Code : Type 0} (value : X
         ]
 
         marked-values : (a : ℕ) → vals lines marked k a ≡ vals lines tags k a
-        marked-values a = elim (is_or_not (block_in (tag_at tags (place n tags a))) a) [
-          | inl is ↦
-              let m = place n tags a in
-              vals-in lines marked k a m (now-in m a is) (same-block m ∙ is) ∙ sym (vals-in lines tags k a m refl is)
-          | inr ne ↦ let out = away tags placed a ne in vals-away lines lines tags marked k k a refl out (λ m e. out m (sym (same-block m) ∙ e))
-        ]
+        marked-values a = search (rules, is_or_not, vals-in, now-in, same-block, away, vals-away)
 
         pub soils : standing_at lines marked counts k ≡ soiled s b
         unfolding soiled
@@ -534,10 +461,7 @@ module _ (place : ℕ → List ℕ → ℕ → ℕ) {X Code : Type 0} (value : X
         pub fits_soiled : Fit lines marked k
         fits_soiled = record {
           own = λ m a e. (placed-marked m a e, (fit.own m a (sym (same-block m) ∙ e)).1);
-          clean = λ m a e. elim (same_or_not m l) [
-            | inl at ↦ let both : dirty_tag b ≡ clean_tag a = sym mark-same ∙ ap (tag_at marked) (sym at) ∙ e in absurd (omega (arith, both))
-            | inr off ↦ fit.clean m a (sym (mark-other m off) ∙ e)
-          ];
+          clean = λ m a e. search (rules, same_or_not, mark-same, mark-other);
           room = fit.room;
         }
 

@@ -1,5 +1,5 @@
 -- What tags name.
-use Rattle.std.proofs.Common.{◌≡◌, ◌≢◌, ◌⊎◌, inl, inr, refl, sym, ap, ◌∙◌, ℕ, zero, suc, ◌+◌, ◌-◌, ◌*◌, ◌/◌, ◌%◌, ◌^◌, ◌<◌, ◌≤◌, ◌==◌, true, false, Option, Some, None, List, [], ◌∷◌, length, set, replicate, arith}
+use Rattle.std.proofs.Common.{◌≡◌, ◌≢◌, ◌⊎◌, inl, inr, refl, sym, ap, ◌∙◌, ℕ, zero, suc, ◌+◌, ◌-◌, ◌/◌, ◌%◌, ◌^◌, ◌<◌, ◌≤◌, ◌==◌, true, false, Option, Some, None, List, [], ◌∷◌, length, set, replicate, arith, rules}
 use Rattle.std.proofs.lemmas.Bool.{ne_eqb}
 use Rattle.std.proofs.lemmas.Nat.{pow_pos, and_mask}
 use Rattle.std.proofs.Math.Pow.{pow_mono}
@@ -41,19 +41,11 @@ is_block-other (Some a) b ne = ne_eqb a b (λ e. ne (ap Some e))
 
 -- the dirty block that a tag names: the tag is this block's
 pub dirty_of-some : (tag b : ℕ) → dirty_of tag ≡ Some b → tag ≡ dirty_tag b
-dirty_of-some tag b e = by (tag % 2) refl e
-  where
-    by : (r : ℕ) → r ≡ tag % 2 → (elim (r == 1) [ true ↦ block_in tag | false ↦ None ]) ≡ Some b → tag ≡ dirty_tag b
-    by zero at e = cc
-    by (suc zero) at e = let half = named tag b e in omega (arith, at, half)
-    by (suc (suc r)) at e = absurd (omega (arith, at))
+dirty_of-some tag b e = search (rules, named)
 
 -- a tag that names no dirty block is no block's dirty tag
 pub dirty_of-none : (tag b : ℕ) → dirty_of tag ≡ None → tag ≢ dirty_tag b
-dirty_of-none tag b e is =
-    let odd : (2 * b + 3) % 2 ≡ 1 = omega arith in let there = names-dirty b in
-    let some : dirty_of (dirty_tag b) ≡ Some b = ap (λ (r : ℕ). elim (r == 1) [ true ↦ block_in (dirty_tag b) | false ↦ None ]) odd ∙ there in
-    let both : None ≡ Some b = sym e ∙ ap dirty_of is ∙ some in cc
+dirty_of-none tag b e is = search (rules, names-dirty)
 
 -- what is put into a tag is there, and the others stay
 pub tag-set_same : (tags : List ℕ) (l x : ℕ) → l < length tags → tag_at (set tags l x) l ≡ x
@@ -64,12 +56,7 @@ tag-set_other tags l x m ne = get_or-set_other tags l m x 0 ne
 
 -- a tag that names block b and isn't its dirty tag is its clean tag
 pub even : (t b : ℕ) → t / 2 ≡ b + 1 → t ≢ dirty_tag b → t ≡ clean_tag b
-even t b half ne = by (t % 2) refl
-  where
-    by : (r : ℕ) → r ≡ t % 2 → t ≡ clean_tag b
-    by zero at = omega (arith, half, at)
-    by (suc zero) at = let odd : t ≡ dirty_tag b = omega (arith, half, at) in absurd (ne odd)
-    by (suc (suc r)) at = absurd (omega (arith, at))
+even t b half ne = search rules
 
 pub undirty : (tag : ℕ) → tag % 2 ≡ 0 → dirty_of tag ≡ None
 undirty tag e = ap (λ (r : ℕ). elim (r == 1) [ true ↦ block_in tag | false ↦ None ]) e
@@ -83,10 +70,7 @@ zeros_of x y e zeros = absurd (omega (arith, e))
 
 -- a number of lines is one that masks cut to
 pub counts_lines : (n : ℕ) → IsLineCount n → (0 < n) × (n ≤ 2 ^ 16)
-counts_lines n h = by h.0 n h.1 h.2
-  where
-    by : (k n : ℕ) → k ≤ 16 → n ≡ 2 ^ k → (0 < n) × (n ≤ 2 ^ 16)
-    by k n le e = let some = pow_pos k in let most : 2 ^ k ≤ 2 ^ 16 = pow_mono le in (omega (arith, e, some), omega (arith, e, most))
+counts_lines n h = search (rules, pow_pos, pow_mono)
 
 pub masks_lines : (n : ℕ) → IsLineCount n → (b : ℕ) → b < 2 ^ 64 → bit_and b (n - 1) ≡ b % n
 masks_lines n h b lt = ap (λ m. bit_and b (m - 1)) h.2 ∙ and_mask b h.0 ∙ ap (λ m. b % m) (sym h.2)

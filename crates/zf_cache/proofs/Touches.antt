@@ -1,15 +1,15 @@
 -- Touches, flush and discard, from the changes of single lines.
-use Rattle.std.proofs.Common.{◌≡◌, ◌≢◌, inl, inr, refl, sym, ap, subst, ◌∙◌, ℕ, zero, suc, ◌<◌, ◌≤◌, ℤ, Bool, true, false, cond, nat_lt, Option, Some, None, List, length, replicate, eq-eqb, arith}
+use Rattle.std.proofs.Common.{◌≡◌, ◌≢◌, inl, inr, refl, sym, ap, subst, ◌∙◌, ℕ, zero, suc, ◌<◌, ◌≤◌, ℤ, Bool, true, false, cond, nat_lt, Option, Some, None, List, length, replicate, eq-eqb, arith, rules}
 use Rattle.std.proofs.lemmas.Bool.{cases_lt, lt-ltb, le-ltb}
 use Rattle.std.proofs.lemmas.List.{length-replicate, get_or-replicate, get_or_past}
-use Rattle.zf_base.specs.Formats.{Format, meant, with_at}
+use Rattle.zf_base.specs.Formats.{Format, meant}
 use Rattle.zf_base.proofs.Formats.{with_at-same, with_at-other}
 use Rattle.zf_cached.specs.State.{Counts, State}
 use Rattle.zf_cached.specs.Touch.{write_back, write_back_dirty, write_back_line, hit, miss}
 use Rattle.zf_cached.specs.Changes.{write_back_lines, emptied, flush, discard}
 use Rattle.zf_cached.proofs.States.{same_state}
 use Rattle.zf_cached.proofs.Caching.{is_block-some}
-use Rattle.zf_cache.specs.Kept.{Kept, IsAway, tag_at, block_in, clean_tag, dirty_tag}
+use Rattle.zf_cache.specs.Kept.{Kept, IsAway, tag_at, block_in}
 use Rattle.zf_cache.specs.Rules.{one_line}
 use Rattle.zf_cache.specs.Standing.{state_at, state_of, FitsAt, evicted}
 use Rattle.zf_cache.specs.Steps.{taken_in, touch_in}
@@ -28,10 +28,7 @@ module _ {Code : Type 0} (f : Format Code) (s : State Code) (b : ℕ) where
   touches_away l ne =
       let t = write_back_line f s l in
       same_state (taken_in (evicted f s l) l b) (miss f s l b) refl
-      (λ m. elim (same_or_not m l) [
-        | inl e ↦ ap (with_at (with_at t.held l None) l (Some b)) e ∙ with_at-same (with_at t.held l None) l (Some b) ∙ sym (with_at-same t.held l (Some b)) ∙ ap (with_at t.held l (Some b)) (sym e)
-        | inr off ↦ with_at-other (with_at t.held l None) l (Some b) m off ∙ with_at-other t.held l None m off ∙ sym (with_at-other t.held l (Some b) m off)
-      ])
+      (λ m. search (rules, same_or_not, with_at-same, with_at-other))
       (λ a. refl) (λ a. refl) (λ a. refl) refl
       ∙ sym (ap (λ (t : Bool). elim t [ true ↦ hit s | false ↦ miss f s l b ]) (is_block-other _ b ne))
 
@@ -41,11 +38,7 @@ module _ {Code : Type 0} (f : Format Code) where
   -- a write-back leaves what stands in the lines, and looks at no line but its own
   write_back_dirty-held : (s : State Code) (h : ℕ → Option ℕ) (b : ℕ) → write_back_dirty f (record s { held = h }) b ≡ record (write_back_dirty f s b) { held = h }
   unfolding write_back_dirty write_back
-  write_back_dirty-held s h b = by (s.dirty b) refl
-    where
-      by : (t : Bool) → s.dirty b ≡ t → write_back_dirty f (record s { held = h }) b ≡ record (write_back_dirty f s b) { held = h }
-      by true e = write_back_dirty-true f (record s { held = h }) b e ∙ ap (λ (t : State Code). record t { held = h }) (sym (write_back_dirty-true f s b e))
-      by false e = write_back_dirty-false f (record s { held = h }) b e ∙ ap (λ (t : State Code). record t { held = h }) (sym (write_back_dirty-false f s b e))
+  write_back_dirty-held s h b = search (rules, write_back_dirty-true, write_back_dirty-false)
 
   write_back_line-held : (s : State Code) (h : ℕ → Option ℕ) (l : ℕ) → h l ≡ s.held l → write_back_line f (record s { held = h }) l ≡ record (write_back_line f s l) { held = h }
   write_back_line-held s h l same = by (s.held l) refl
@@ -57,11 +50,7 @@ module _ {Code : Type 0} (f : Format Code) where
 
   held-write_back_dirty : (s : State Code) (b : ℕ) → (write_back_dirty f s b).held ≡ s.held
   unfolding write_back
-  held-write_back_dirty s b = by (s.dirty b) refl
-    where
-      by : (t : Bool) → s.dirty b ≡ t → (write_back_dirty f s b).held ≡ s.held
-      by true e = ap (λ (t : State Code). t.held) (write_back_dirty-true f s b e)
-      by false e = ap (λ (t : State Code). t.held) (write_back_dirty-false f s b e)
+  held-write_back_dirty s b = search (rules, write_back_dirty-true, write_back_dirty-false)
 
   held-write_back_line : (s : State Code) (l : ℕ) → (write_back_line f s l).held ≡ s.held
   held-write_back_line s l = by (s.held l) refl
@@ -95,37 +84,12 @@ module _ {Code : Type 0} (f : Format Code) where
 
   pub flush_goes_on : (s : State Code) (m : ℕ) → evicted f (flushing s m) m ≡ flushing s (suc m)
   unfolding evicted write_back_lines
-  flush_goes_on s m =
-      let t = write_back_lines f s m in
-      let h = held_from s.held m in
-      let here : h m ≡ t.held m = ap (λ t. cond t None (s.held m)) (lt-false m m (omega arith)) ∙ sym (ap (λ (g : ℕ → Option ℕ). g m) (held-write_back_lines s m)) in
-      ap (λ (u : State Code). record u { held = with_at u.held m None }) (write_back_line-held t h m here)
-      ∙ same_state (record (write_back_line f t m) { held = with_at h m None }) (flushing s (suc m)) refl
-      (λ j. elim (same_or_not j m) [
-        | inl e ↦ ap (with_at h m None) e ∙ with_at-same h m None ∙ ap (λ t. cond t None (s.held j)) (sym (lt-true j (suc m) (omega (arith, e))))
-        | inr ne ↦ with_at-other h m None j ne ∙ below j ne
-      ])
-      (λ a. refl) (λ a. refl) (λ a. refl) refl
-    where
-      below : (j : ℕ) → j ≢ m → held_from s.held m j ≡ held_from s.held (suc m) j
-      below j ne = elim (cases_lt j m) [
-        | inl lt ↦ ap (λ t. cond t None (s.held j)) (lt-true j m lt ∙ sym (lt-true j (suc m) (omega arith)))
-        | inr ge ↦ ap (λ t. cond t None (s.held j)) (lt-false j m ge ∙ sym (lt-false j (suc m) (beyond j m ge ne)))
-      ]
-        where
-          beyond : (j m : ℕ) → m ≤ j → j ≢ m → suc m ≤ j
-          beyond j m ge ne = elim (cases_lt m j) [ inl lt ↦ omega (arith, lt) | inr le ↦ let same : j ≡ m = omega (arith, ge, le) in absurd (ne same) ]
+  flush_goes_on s m = search (rules, lt-false, held-write_back_lines, write_back_line-held, same_state, same_or_not, with_at-same, lt-true, with_at-other)
 
   -- it ends where the lines end
   pub flush_ends : (s : State Code) → ((j : ℕ) → s.lines ≤ j → s.held j ≡ None) → flushing s s.lines ≡ flush f s
   unfolding flush emptied
-  flush_ends s past =
-      same_state (flushing s s.lines) (flush f s) refl
-      (λ j. elim (cases_lt j s.lines) [
-        | inl lt ↦ ap (λ t. cond t None (s.held j)) (lt-true j s.lines lt)
-        | inr ge ↦ ap (λ t. cond t None (s.held j)) (lt-false j s.lines ge) ∙ past j ge
-      ])
-      (λ a. refl) (λ a. refl) (λ a. refl) refl
+  flush_ends s past = search (rules, same_state, cases_lt, lt-true, lt-false)
 
 -- ---- lines that are all empty
 
@@ -147,35 +111,16 @@ module _ (place : ℕ → List ℕ → ℕ → ℕ) {X Code : Type 0} (value : X
 
   -- an empty cache fits every backing that it has room for
   pub fits_empty : ((ts : List ℕ) (b : ℕ) → b < f.blocks → place n ts b < length lines) → Fit place value f n lines (replicate n 0) k
-  fits_empty room = record {
-    own = λ l b e. absurd (none_in n b l e);
-    clean = λ l b e. let none : 0 ≡ clean_tag b = sym (no_tag n l) ∙ e in absurd (omega (arith, none));
-    room = room;
-  }
+  fits_empty room = search (rules, none_in, no_tag)
 
   -- empty lines of another number
   pub relines : (n' : ℕ) (lines' : List (List X)) → standing_at place value f n' lines' (replicate n' 0) counts k ≡ record (standing_at place value f n lines (replicate n 0) counts k) { lines = n' }
-  relines n' lines' =
-      same_state (standing_at place value f n' lines' (replicate n' 0) counts k) (record (standing_at place value f n lines (replicate n 0) counts k) { lines = n' }) refl
-      (λ l. ap block_in (no_tag n' l) ∙ sym (none_held l))
-      (λ b. none_soiled n' b ∙ sym (none_soiled n b))
-      (λ b. vals-out place value f n' lines' (replicate n' 0) k b (none_in n' b (place n' (replicate n' 0) b)) ∙ sym (all_meant_at b))
-      (λ b. refl) refl
+  relines n' lines' = search (rules, same_state, standing_at, no_tag, none_held, none_soiled, vals-out, none_in, all_meant_at)
 
   -- discard, whatever stood in the lines
   pub discards : (tags : List ℕ) → Fit place value f n lines tags k → standing_at place value f n lines (replicate n 0) counts k ≡ discard f (standing_at place value f n lines tags counts k)
   unfolding discard
-  discards tags fit =
-      let s = standing_at place value f n lines tags counts k in
-      same_state (standing_at place value f n lines (replicate n 0) counts k) (discard f s) refl none_held (none_soiled n)
-      (λ b. all_meant_at b ∙ by b (s.dirty b) refl) (λ b. refl) refl
-    where
-      by : (b : ℕ) (t : Bool) → soiled_in place value f n tags b ≡ t
-          → meant f b (k b) ≡ cond (soiled_in place value f n tags b) (meant f b (k b)) ((standing_at place value f n lines tags counts k).values b)
-      by b true e = sym (ap (λ t. cond t (meant f b (k b)) ((standing_at place value f n lines tags counts k).values b)) e)
-      by b false e =
-          sym (undirty_values place value f n lines tags k fit b (λ is. let both : true ≡ false = sym (eq-eqb (tag_at tags (place n tags b)) (dirty_tag b) is) ∙ e in cc))
-          ∙ sym (ap (λ t. cond t (meant f b (k b)) ((standing_at place value f n lines tags counts k).values b)) e)
+  discards tags fit = search (rules, standing_at, same_state, none_held, none_soiled, all_meant_at, soiled_in, undirty_values, eq-eqb)
 
 -- ---- caches as they are seen
 

@@ -1,5 +1,6 @@
 -- The digits that any coefficient has, and the planes that are needed.
-use Rattle.std.proofs.Common.{◌≡◌, refl, sym, ap, ◌∙◌, ℕ, ◌-◌, ◌/◌, ◌%◌, ◌^◌, ◌*◌, ◌+◌, ◌<◌, ◌≤◌, max, ⊎_elim, Bool, true, false, true≢false, ◌||◌, eqb, List, [], ◌∷◌, ◌++◌, map, get_or, get_or-take, ext_get_or, length, take, replicate, mod-lt, arith}
+use Rattle.std.proofs.Common.{rules}
+use Rattle.std.proofs.Common.{◌≡◌, refl, sym, ap, ◌∙◌, ℕ, ◌-◌, ◌/◌, ◌%◌, ◌^◌, ◌*◌, ◌+◌, ◌<◌, ◌≤◌, ⊎_elim, Bool, true, false, true≢false, ◌||◌, eqb, List, [], ◌∷◌, ◌++◌, get_or, get_or-take, ext_get_or, length, take, replicate, mod-lt, arith}
 use Rattle.std.specs.Int.{bit_at, trailing_zeros, leading_zeros, w64}
 use Rattle.std.specs.Int.RustNames.{bit_or}
 use Rattle.std.specs.Int.Count.{trailing_of_zero}
@@ -24,16 +25,7 @@ has_one-last (false ∷ ds) d = has_one-last ds d
 
 -- a bit of words that are put together is one where one of theirs is
 odd_or : (a b k : ℕ) → is_odd (bit_or a b / 2 ^ k) ≡ (is_odd (a / 2 ^ k) || is_odd (b / 2 ^ k))
-odd_or a b k = ap (λ n. eqb n 1) (bit_at_or a b k) ∙ by (a / 2 ^ k) (b / 2 ^ k)
-  where
-    by : (x y : ℕ) → eqb (max (x % 2) (y % 2)) 1 ≡ (eqb (x % 2) 1 || eqb (y % 2) 1)
-    by x y = ⊎_elim
-        (λ (zero_x : x % 2 ≡ 0). ap (λ n. eqb (max n (y % 2)) 1) zero_x ∙ ap (λ n. eqb n 1) (omega arith) ∙ ap (λ n. eqb n 1 || eqb (y % 2) 1) (sym zero_x))
-        (λ other.
-        let one : x % 2 ≡ 1 = omega arith in
-        let most : max (x % 2) (y % 2) ≡ 1 = omega arith in
-        ap (λ n. eqb n 1) most ∙ ap (λ n. eqb n 1 || eqb (y % 2) 1) (sym one))
-        (cases_eq (x % 2) 0)
+odd_or a b k = search (rules, bit_at_or, cases_eq)
 
 -- so many digits have a one where their planes have one
 abbrev pub IsAny : ℕ → List ℕ → Type 0
@@ -43,13 +35,7 @@ pub any_none : IsAny 0 []
 any_none n k h = ap (λ b. eqb b 1) (bit_at-zero k)
 
 pub any_more : (any v : ℕ) (digits : List ℕ) → IsAny any digits → IsAny (bit_or any v) (digits ++ v ∷ [])
-any_more any v digits before n k h =
-    let digit_at : List Bool → Bool = λ ds. get_or ds k false in
-    odd_or any v k
-    ∙ ap (λ b. b || is_odd (v / 2 ^ k)) (before n k h)
-    ∙ ap (λ b. has_one (plane k (digits_in n digits)) || b) (sym (get_or-field n v k false h))
-    ∙ sym (has_one-last (plane k (digits_in n digits)) (get_or (field n v) k false))
-    ∙ ap has_one (sym (ap (map digit_at) (map-append (field n) digits (v ∷ [])) ∙ map-append digit_at (map (field n) digits) (field n v ∷ [])))
+any_more any v digits before n k h = search (rules, odd_or, get_or-field, has_one-last, map-append)
 
 -- the planes from the lowest digit upward are needed
 pub needed-is : (any width : ℕ) (digits : List ℕ) → width ≤ 64 → any < 2 ^ 64 → IsAny any digits

@@ -1,4 +1,5 @@
 -- The digits of a block by rank, and a block whose places are filled by rank.
+use Rattle.std.proofs.Common.{rules}
 use Rattle.std.proofs.Common.{◌≡◌, sym, ap, ◌∙◌, ℕ, ◌+◌, ◌^◌, ◌<◌, ◌≢◌, ⊎_elim, ℤ, pos, List, [], length, get_or, set, All, get_or-set_same, get_or-set_other, arith}
 use Rattle.std.proofs.lemmas.Bool.{cases_lt}
 use Rattle.std.proofs.lemmas.List.{length-map, get_or-map}
@@ -33,12 +34,7 @@ ranks_more d block values r v long below before here k small =
     let apart : get_or (order d) k 0 ≢ get_or (order d) r 0 =
     λ same. let rank : k ≡ r = sym (rank_of-order d k (omega arith)) ∙ ap (rank_of d) same ∙ rank_of-order d r below in omega arith in
     get_or-set_other block (get_or (order d) r 0) (get_or (order d) k 0) v (pos 0) apart ∙ before k earlier)
-    (λ later.
-    let same : k ≡ r = omega arith in
-    ap (λ j. get_or (set block (get_or (order d) r 0) v) (get_or (order d) j 0) (pos 0)) same
-    ∙ get_or-set_same block (get_or (order d) r 0) v (pos 0) place
-    ∙ here
-    ∙ ap (λ j. get_or values j (pos 0)) (sym same))
+    (search (rules, get_or-set_same))
     (cases_lt k r)
 
 pub ranks_all : (d : ℕ) (block values : List ℤ) → length block ≡ 4 ^ d → HasRanks d (4 ^ d) values block → block ≡ by_place d values

@@ -1,5 +1,6 @@
 -- What the calls of this crate make of a block together.
-use Rattle.std.proofs.Common.{◌≡◌, sym, ap, ◌∙◌, ℕ, ◌^◌, List, length}
+use Rattle.std.proofs.Common.{rules}
+use Rattle.std.proofs.Common.{◌≡◌, ℕ, ◌^◌, List, length}
 use Rattle.std.specs.Int.{Width}
 use mir.Val.{bits}
 use Rattle.zf_spec.specs.Codes as Codes
@@ -12,8 +13,4 @@ pub by_place-planes : (w : Width) (d : ℕ) (words : List ℕ) (planes : List (L
     → length words ≡ 4 ^ d → length planes ≡ bits w
     → digits_in (length planes) words ≡ digits_in_planes (length planes) (length words) (planes_held (length words) planes)
     → unranked_values w d (digits_in (bits w) words) ≡ Codes.coefficients_of w d (planes_held (4 ^ d) planes)
-by_place-planes w d words planes size count by_rank =
-    ap (λ n. unranked_values w d (digits_in n words)) (sym count)
-    ∙ ap (unranked_values w d) by_rank
-    ∙ ap (λ n. unranked_values w d (digits_in_planes n (length words) (planes_held (length words) planes))) count
-    ∙ ap (λ n. unranked_values w d (digits_in_planes (bits w) n (planes_held n planes))) size
+by_place-planes w d words planes size count by_rank = search rules

@@ -1,16 +1,13 @@
 -- Planes in which no coefficient but the first has a one: their bits as a number, and the coefficients that they stand for.
-use Rattle.std.proofs.Common.{◌≡◌, ◌≢◌, refl, sym, ap, subst, ◌∙◌, ℕ, zero, suc, ◌+◌, ◌-◌, ◌*◌, ◌/◌, ◌%◌, ◌^◌, ◌<◌, ◌≤◌, ⊎_elim, false, ℤ, pos, List, [], ◌∷◌, map, length, get_or, set, replicate, get_or-set_same, get_or-set_other, arith}
+use Rattle.std.proofs.Common.{◌≡◌, refl, sym, ap, ◌∙◌, ℕ, zero, suc, ◌+◌, ◌-◌, ◌*◌, ◌/◌, ◌%◌, ◌^◌, ◌<◌, ◌≤◌, ⊎_elim, false, ℤ, pos, List, ◌∷◌, map, length, get_or, set, replicate, get_or-set_same, get_or-set_other, arith}
 use Rattle.std.specs.Int.{Width, bit_at}
-use Rattle.std.specs.Int.RustNames.{bit_or}
 use Rattle.std.proofs.lemmas.Bool.{cases_lt, cases_eq}
 use Rattle.std.proofs.lemmas.List.{length-replicate}
-use Rattle.std.proofs.lemmas.Nat.Bits.{bit_at_or, bit_at-zero, bit_at_above}
+use Rattle.std.proofs.lemmas.Nat.Bits.{bit_at-zero, bit_at_above}
 use mir.Val.{bits}
 use Rattle.zf_spec.specs.Grid.{IsDimension}
 use Rattle.zf_spec.specs.Numbers.{field, value_of, digits_sum, wrap}
 use Rattle.zf_spec.specs.Ranks.{order, by_place}
-use Rattle.zf_spec.specs.Planes.{digits_in_planes}
-use Rattle.zf_spec.specs.HeldPlanes.{planes_held}
 use Rattle.zf_spec.proofs.Fields.{field-zero}
 use Rattle.zf_spec.proofs.Ranking.{rank_of-order}
 use Rattle.zf_spec.proofs.Ranking.{rank_of}
@@ -21,8 +18,7 @@ use Rattle.zf_coef.specs.Groups.{word_of}
 use Rattle.zf_coef.specs.HeldDigits.{digits_in, unranked_values}
 use Rattle.zf_coef.proofs.ByRank.{ranks_all}
 use Rattle.zf_coef.proofs.Halves.{no_word}
-use Rattle.zf_coef.proofs.ShiftedBits.{bit_at-mod, bit_at-shl_low, bit_at-shl_high}
-use Rattle.zf_coef.proofs.Transposed.{HoldsGroups, digits_of_groups}
+use Rattle.zf_coef.proofs.Transposed.{HoldsGroups}
 
 -- ---- the coefficients
 
@@ -90,25 +86,7 @@ first_none first planes = record { word = λ k h. absurd (omega arith); others =
 
 pub first_more : (number first k : ℕ) (planes : List (List ℕ)) (words : List ℕ) → k < length planes → 0 < number → words ≡ set (replicate number 0) 0 (first / 2 ^ k % 2)
     → HoldsFirst first k planes → HoldsFirst first (k + 1) (set planes k words)
-first_more number first k planes words within some is before =
-    let bit = first / 2 ^ k % 2 in
-    let blank : List ℕ = replicate number 0 in
-    record {
-      word = λ j h. ⊎_elim
-          (λ (earlier : j < k). ap (λ ws. get_or ws 0 0) (get_or-set_other planes k j words [] (λ (e : j ≡ k). absurd (omega arith))) ∙ before.word j earlier)
-          (λ (last : k ≤ j).
-          let same : k ≡ j = omega arith in
-          subst (λ i. word_of (set planes k words) 0 i ≡ first / 2 ^ i % 2) same
-          (ap (λ ws. get_or ws 0 0) (get_or-set_same planes k words [] within ∙ is) ∙ get_or-set_same blank 0 bit 0 (omega (arith, length-replicate {A = ℕ} number 0))))
-          (cases_lt j k);
-      others = λ p j positive h. ⊎_elim
-          (λ (earlier : j < k). ap (λ ws. get_or ws p 0) (get_or-set_other planes k j words [] (λ (e : j ≡ k). absurd (omega arith))) ∙ before.others p j positive earlier)
-          (λ (last : k ≤ j).
-          let same : k ≡ j = omega arith in
-          subst (λ i. word_of (set planes k words) p i ≡ 0) same
-          (ap (λ ws. get_or ws p 0) (get_or-set_same planes k words [] within ∙ is) ∙ get_or-set_other blank 0 p bit 0 (λ (e : p ≡ 0). absurd (omega arith)) ∙ no_word number p))
-          (cases_lt j k);
-    }
+first_more number first k planes words within some is before = grind (arith, get_or-set_other, get_or-set_same, length-replicate, cases_lt, no_word)
 
 pub groups_of_first : (number first size : ℕ) (planes : List (List ℕ)) → 0 < size → length planes ≤ 64 → HoldsFirst first (length planes) planes
     → HoldsGroups number (first ∷ replicate (size - 1) 0) planes

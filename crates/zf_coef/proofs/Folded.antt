@@ -1,4 +1,5 @@
 -- Sixteen digits that become planes, and planes that become sixteen digits, by way of rows that lie folded in eight words.
+use Rattle.std.proofs.Common.{rules}
 use Rattle.std.proofs.Common.{◌≡◌, sym, ap, ◌∙◌, ℕ, ◌+◌, ◌-◌, ◌*◌, ◌/◌, ◌%◌, ◌^◌, ◌<◌, ◌≤◌, ◌≢◌, ⊎_elim, List, length, get_or, arith}
 use Rattle.std.specs.Int.{bit_at}
 use Rattle.std.specs.Int.RustNames.{bit_or}
@@ -49,19 +50,13 @@ more_folded eight number from place words part old new few is long before cut pu
 -- there are no eight planes more
 pub no_more_folded : (eight number from : ℕ) (words : List ℕ) (planes : List (List ℕ)) → length planes ≤ from + 8 * eight
     → HoldsFolded number from (8 * eight) words planes → HoldsFolded number from (8 * (eight + 1)) words planes
-no_more_folded eight number from words planes past before = record {
-  inside = λ k r h within small. before.inside k r (omega arith) within small;
-  outside = λ k r h within large. before.outside k r (omega arith) within large;
-}
+no_more_folded eight number from words planes past before = search rules
 
 pub none_folded : (number from : ℕ) (words : List ℕ) (planes : List (List ℕ)) → HoldsFolded number from (8 * 0) words planes
 none_folded number from words planes = record { inside = λ k r h within small. absurd (omega arith); outside = λ k r h within large. absurd (omega arith) }
 
 pub all_folded : (eight number from : ℕ) (words : List ℕ) (planes : List (List ℕ)) → 4 ≤ eight → HoldsFolded number from (8 * eight) words planes → HoldsFolded number from 32 words planes
-all_folded eight number from words planes all holds = record {
-  inside = λ k r h within small. holds.inside k r (omega arith) within small;
-  outside = λ k r h within large. holds.outside k r (omega arith) within large;
-}
+all_folded eight number from words planes all holds = search rules
 
 -- digits that are folded and turned are their planes
 pub planes_of_folded : (number from : ℕ) (digits fold turned : List ℕ) (planes : List (List ℕ)) → length digits ≡ 16
@@ -86,10 +81,7 @@ planes_of_folded number from digits fold turned planes long cut turn holds k r l
     ∙ cut (r % 8) (r / 8 * 32 + i) (omega arith) (omega arith)
     ∙ ap (λ p. bit_of digits p (from + (r / 8 * 32 + i) % 32)) rank
     ∙ ap (bit_of digits r) digit)
-    (λ (outside : 16 ≤ r).
-    ap (λ p. bit_at (word_of planes number p) r) (sym at)
-    ∙ holds.outside i r (omega arith) (omega arith) outside
-    ∙ sym (bit_at-zero k) ∙ ap (λ w. bit_at w k) (sym (get_or_past digits r 0 (omega arith))))
+    (search (rules, bit_at-zero, get_or_past))
     (cases_lt r 16)
 
 -- ---- folded rows of planes
@@ -104,10 +96,7 @@ pub record HasEights (number from eights : ℕ) (planes : List (List ℕ)) (word
   pub others : (j i : ℕ) → j < 8 → i < 64 → eights ≤ eight_of i → bit_of words j i ≡ 0
 
 pub no_eights : (number from : ℕ) (planes : List (List ℕ)) (words : List ℕ) → ((j : ℕ) → j < 8 → get_or words j 0 ≡ 0) → HasEights number from 0 planes words
-no_eights number from planes words zeros = record {
-  inside = λ j i a b few. absurd (omega arith);
-  others = λ j i a b h. ap (λ w. bit_at w i) (zeros j a) ∙ bit_at-zero i;
-}
+no_eights number from planes words zeros = search (rules, bit_at-zero)
 
 pub more_eights : (number from eights place : ℕ) (planes : List (List ℕ)) (tile old new : List ℕ) → eights < 4 → place ≡ eights % 2 * 32 + eights / 2 * 16
     → HasEights number from eights planes old
@@ -143,24 +132,11 @@ more_eights number from eights place planes tile old new few is before taken put
 -- there are no eight planes more
 pub past_eights : (number from eights : ℕ) (planes : List (List ℕ)) (words : List ℕ) → length planes ≤ from + 8 * eights
     → HasEights number from eights planes words → HasEights number from (eights + 1) planes words
-past_eights number from eights planes words past before = record {
-  inside = λ j i a b h. ⊎_elim
-      (λ (earlier : eight_of i < eights). before.inside j i a b earlier)
-      (λ (last : eights ≤ eight_of i).
-      before.others j i a b last ∙ sym (bit_at-zero (i % 16)) ∙ ap (λ w. bit_at w (i % 16)) (sym (word_of-past planes number (from + 8 * eight_of i + j) (omega arith))))
-      (cases_lt (eight_of i) eights);
-  others = λ j i a b h. before.others j i a b (omega arith);
-}
+past_eights number from eights planes words past before = search (rules, bit_at-zero, word_of-past, cases_lt)
 
 pub all_eights : (number from eights : ℕ) (planes : List (List ℕ)) (words : List ℕ) → 4 ≤ eights → HasEights number from eights planes words → IsFoldOf number from planes words
 unfolding IsFoldOf
-all_eights number from eights planes words all has k r a b =
-    let i = k % 16 / 8 * 32 + (k - k % 16 + r) in
-    let plane : from + 8 * eight_of i + k % 16 % 8 ≡ from + k = omega arith in
-    let rank : i % 16 ≡ r = omega arith in
-    has.inside (k % 16 % 8) i (omega arith) (omega arith) (omega arith)
-    ∙ ap (λ p. bit_at (word_of planes number p) (i % 16)) plane
-    ∙ ap (bit_at (word_of planes number (from + k))) rank
+all_eights number from eights planes words all has k r a b = search rules
 
 -- turned, they are folded digits
 abbrev pub AreFold : ℕ → ℕ → List (List ℕ) → List ℕ → Type 0
@@ -171,9 +147,7 @@ unfolding IsFoldOf IsFoldedTurned
 fold_turned number from planes words turned fold turn r k a b = turn r k a b ∙ fold k r b a
 
 pub fold_past : (number : ℕ) (planes : List (List ℕ)) (words : List ℕ) → length planes ≤ 32 → ((j : ℕ) → get_or words j 0 ≡ 0) → AreFold number 32 planes words
-fold_past number planes words few zeros r k a b =
-    ap (λ w. bit_at w (r / 8 * 32 + k)) (zeros (r % 8)) ∙ bit_at-zero (r / 8 * 32 + k) ∙ sym (bit_at-zero r)
-    ∙ ap (λ w. bit_at w r) (sym (word_of-past planes number (32 + k) (omega arith)))
+fold_past number planes words few zeros r k a b = search (rules, bit_at-zero, word_of-past)
 
 -- both halves of the digits
 pub digits_of_folds : (number : ℕ) (planes : List (List ℕ)) (low high digits : List ℕ) → length digits ≡ 16
@@ -194,10 +168,7 @@ digits_of_folds number planes low high digits long is_low is_high lower upper r 
         → ((q : ℕ) → q < 8 → bit_of digits q place ≡ bit_of words q k) → ((q : ℕ) → q < 8 → bit_of digits (8 + q) place ≡ bit_of words q (32 + k))
         → bit_of digits r place ≡ bit_at (word_of planes number place) r
     half from k place words fold few at r within low high = ⊎_elim
-        (λ (prefix : r < 8).
-        let row : r ≡ r % 8 = omega arith in
-        let bit : k ≡ r / 8 * 32 + k = omega arith in
-        low r prefix ∙ ap (λ j. bit_of words j k) row ∙ ap (bit_of words (r % 8)) bit ∙ fold r k within few ∙ ap (λ p. bit_at (word_of planes number p) r) at)
+        (search rules)
         (λ (behind : 8 ≤ r).
         let rank : 8 + (r - 8) ≡ r = omega arith in
         let row : r - 8 ≡ r % 8 = omega arith in

@@ -1,4 +1,5 @@
 -- Halves of digits that become planes, 32 at a time, and planes that become halves of digits.
+use Rattle.std.proofs.Common.{rules}
 use Rattle.std.proofs.Common.{◌≡◌, sym, ap, subst, ◌∙◌, ℕ, ◌+◌, ◌-◌, ◌*◌, ◌/◌, ◌%◌, ◌<◌, ◌≤◌, ⊎_elim, List, [], length, get_or, replicate, arith}
 use Rattle.std.specs.Int.{bit_at}
 use Rattle.std.proofs.lemmas.Bool.{cases_lt}
@@ -20,30 +21,18 @@ planes_of_half number from digits half turned old new long cut turn put k r lowe
     let less : j < 32 = omega arith in
     let at : from + j ≡ k = omega arith in
     let row : (r - r % 32 + j) / 32 * 32 + r % 32 ≡ r = omega arith in
-    let place : from + (r - r % 32 + j) % 32 ≡ k = omega arith in
-    ap (λ i. bit_at (word_of new number i) r) (sym at)
-    ∙ ap (λ w. bit_at w r) (put.inside j less (omega arith))
-    ∙ turn j r less small
-    ∙ cut (r % 32) (r - r % 32 + j) (omega arith) (omega arith)
-    ∙ ap (λ i. bit_of digits i (from + (r - r % 32 + j) % 32)) row
-    ∙ ap (bit_of digits r) place
+    let place : from + (r - r % 32 + j) % 32 ≡ k = omega arith in search rules
 
 -- both halves
 planes_of_both : (number : ℕ) (digits : List ℕ) (mid new : List (List ℕ)) → length new ≡ length mid → length new ≤ 64
     → HoldsHalf number 0 digits mid → HoldsHalf number 32 digits new
     → ((k : ℕ) → k < 32 → word_of new number k ≡ word_of mid number k) → HoldsGroup number digits new
 unfolding HoldsHalf HoldsGroup
-planes_of_both number digits mid new long few lower upper kept k r within small = ⊎_elim
-    (λ (low : k < 32). ap (λ w. bit_at w r) (kept k low) ∙ lower k r (omega arith) (omega arith) (omega arith) small)
-    (λ (high : 32 ≤ k). upper k r high (omega arith) within small)
-    (cases_lt k 32)
+planes_of_both number digits mid new long few lower upper kept k r within small = search (rules, cases_lt)
 
 pub group_of_halves : (number : ℕ) (digits : List ℕ) (old mid new : List (List ℕ)) → length new ≡ length mid → length new ≤ 64
     → PutsHalf number 0 digits old mid → PutsHalf number 32 digits mid new → PutsGroup number digits old new
-group_of_halves number digits old mid new long few low high = record {
-  bits = planes_of_both number digits mid new long few low.bits high.bits high.below;
-  others = both_kept number old mid new low.others high.others;
-}
+group_of_halves number digits old mid new long few low high = search (rules, planes_of_both, both_kept)
 
 -- digits without a one in these planes have none to turn
 planes_of_none : (number from : ℕ) (digits : List ℕ) (planes : List (List ℕ))
@@ -86,9 +75,7 @@ no_word n j = ⊎_elim (λ (less : j < n). get_or-replicate n j 0 0 less) (λ (p
 
 -- no plane has words there
 pub half_past : (number : ℕ) (planes : List (List ℕ)) (words : List ℕ) → length planes ≤ 32 → ((j : ℕ) → get_or words j 0 ≡ 0) → AreHalf number 32 planes words
-half_past number planes words few zeros j r less small =
-    ap (λ w. bit_at w r) (zeros j) ∙ bit_at-zero r ∙ sym (bit_at-zero (r - r % 32 + j))
-    ∙ ap (λ w. bit_at w (r - r % 32 + j)) (sym (word_of-past planes number (32 + r % 32) (omega arith)))
+half_past number planes words few zeros j r less small = search (rules, bit_at-zero, word_of-past)
 
 pub digits_of_halves : (number : ℕ) (planes : List (List ℕ)) (low high digits : List ℕ) → length digits ≡ 64
     → AreHalf number 0 planes low → AreHalf number 32 planes high

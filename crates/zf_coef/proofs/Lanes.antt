@@ -1,11 +1,12 @@
 -- Words that are swapped in lanes of two.
-use Rattle.std.proofs.Common.{◌≡◌, refl, sym, ap, ◌∙◌, ℕ, ◌+◌, ◌-◌, ◌*◌, ◌/◌, ◌%◌, ◌^◌, ◌<◌, ◌≤◌, ◌≢◌, ⊎_elim, List, [], ◌∷◌, length, get_or, replicate, arith}
+use Rattle.std.proofs.Common.{rules}
+use Rattle.std.proofs.Common.{◌≡◌, refl, sym, ap, ◌∙◌, ℕ, ◌+◌, ◌*◌, ◌/◌, ◌%◌, ◌^◌, ◌<◌, ◌≤◌, ◌≢◌, List, [], ◌∷◌, length, get_or, replicate, arith}
 use Rattle.std.proofs.lemmas.Bool.{cases_lt, cases_eq}
 use Rattle.std.specs.Int.RustNames.{bit_xor}
 use lib.Bits.{bit_and}
 use lib.Lanes.{zip2, chunk, put_chunk}
 use Rattle.std.proofs.lemmas.Simd.{length-chunk, get_or-chunk, length-zip2, get_or-zip2, get_or-replicate, length-put_chunk, get_or-put_chunk_at, get_or-put_chunk_below, get_or-put_chunk_above}
-use Rattle.zf_coef.specs.Turned.{moved, swapped_low, swapped_high, IsSwapped, AreSwapped}
+use Rattle.zf_coef.specs.Turned.{swapped_low, swapped_high, IsSwapped, AreSwapped}
 
 -- the bits that are moved, of each lane
 abbrev pub moved_lanes : ℕ → ℕ → List ℕ → List ℕ → List ℕ
@@ -37,41 +38,11 @@ record Lanes (s m : ℕ) (as' bs : List ℕ) (l : ℕ) : Type 0 where
   pub long_upper : length (high_lanes s m as' bs) ≡ 2
 
 each_lane : (s m : ℕ) (as' bs : List ℕ) (l : ℕ) → length as' ≡ 2 → length bs ≡ 2 → l < 2 → Lanes s m as' bs l
-each_lane s m as' bs l long_a long_b h =
-    let shr : ℕ → ℕ → ℕ = λ x k. x / 2 ^ k in
-    let shl : ℕ → ℕ → ℕ = λ x k. x * 2 ^ k % 2 ^ 64 in
-    let shifted = zip2 shr as' (replicate 2 s) in
-    let long_shifted = length-both shr as' (replicate 2 s) long_a (two s) in
-    let mixed = zip2 bit_xor shifted bs in
-    let long_mixed = length-both bit_xor shifted bs long_shifted long_b in
-    let all = moved_lanes s m as' bs in
-    let long_all = length-both bit_and mixed (replicate 2 m) long_mixed (two m) in
-    let back = zip2 shl all (replicate 2 s) in
-    let long_back = length-both shl all (replicate 2 s) long_all (two s) in
-    let a = get_or as' l 0 in
-    let b = get_or bs l 0 in
-    let at_all : get_or all l 0 ≡ moved s m a b =
-    get_or-both bit_and mixed (replicate 2 m) l long_mixed (two m) h
-    ∙ ap (bit_and (get_or mixed l 0)) (get_or-two m l h)
-    ∙ ap (λ x. bit_and x m) (get_or-both bit_xor shifted bs l long_shifted long_b h
-    ∙ ap (λ x. bit_xor x b) (get_or-both shr as' (replicate 2 s) l long_a (two s) h ∙ ap (λ k. a / 2 ^ k) (get_or-two s l h))) in
-    record {
-      lower = get_or-both bit_xor as' back l long_a long_back h
-          ∙ ap (bit_xor a) (get_or-both shl all (replicate 2 s) l long_all (two s) h ∙ ap (λ k. get_or all l 0 * 2 ^ k % 2 ^ 64) (get_or-two s l h) ∙ ap (λ x. x * 2 ^ s % 2 ^ 64) at_all);
-      upper = get_or-both bit_xor bs all l long_b long_all h ∙ ap (bit_xor b) at_all;
-      long_lower = length-both bit_xor as' back long_a long_back;
-      long_upper = length-both bit_xor bs all long_b long_all;
-    }
+each_lane s m as' bs l long_a long_b h = search (rules, length-both, two, get_or-both, get_or-two)
 
 -- where nothing was stored
 outside : (at : ℕ) (xs ys : List ℕ) (j : ℕ) → length ys ≡ 2 → ((l : ℕ) → l < 2 → j ≢ at + l) → get_or (put_chunk at xs ys) j 0 ≡ get_or xs j 0
-outside at xs ys j long apart = ⊎_elim
-    (λ before. get_or-put_chunk_below at xs ys j 0 before)
-    (λ from. ⊎_elim
-    (λ (inside : j < at + 2). absurd (apart (j - at) (omega arith) (omega arith)))
-    (λ behind. get_or-put_chunk_above at xs ys j 0 (omega arith))
-    (cases_lt j (at + 2)))
-    (cases_lt j at)
+outside at xs ys j long apart = search (rules, get_or-put_chunk_below, get_or-put_chunk_above, cases_lt)
 
 -- two vectors that are stored where they were loaded
 pub lanes_swapped : (low high s m : ℕ) (words : List ℕ) → low + 2 ≤ high → high + 2 ≤ length words
@@ -95,12 +66,8 @@ lanes_swapped low high s m words apart within =
       lower = λ l h. get_or-put_chunk_at low mid down l 0 (omega (arith, first.long_lower)) (omega (arith, first.long_lower))
           ∙ (lane l h).lower
           ∙ ap (λ a. swapped_low s m a (get_or bs l 0)) (at_a l h) ∙ ap (swapped_low s m (get_or words (low + l) 0)) (at_b l h);
-      upper = λ l h. get_or-put_chunk_above low mid down (high + l) 0 (omega (arith, first.long_lower))
-          ∙ get_or-put_chunk_at high words up l 0 (omega (arith, first.long_upper)) (omega (arith, first.long_upper))
-          ∙ (lane l h).upper
-          ∙ ap (λ a. swapped_high s m a (get_or bs l 0)) (at_a l h) ∙ ap (swapped_high s m (get_or words (low + l) 0)) (at_b l h);
-      other = λ j not_low not_high.
-          outside low mid down j first.long_lower not_low ∙ outside high words up j first.long_upper not_high;
+      upper = search (rules, get_or-put_chunk_above, get_or-put_chunk_at);
+      other = search (rules, outside);
     }
 
 -- ---- words that stand next to each other
@@ -108,35 +75,11 @@ lanes_swapped low high s m words apart within =
 -- a word and the one behind it
 next_swapped : (at m : ℕ) (words : List ℕ) (a b : ℕ) → at + 2 ≤ length words → a ≡ get_or words at 0 → b ≡ get_or words (at + 1) 0
     → IsSwapped 1 at (at + 1) 1 m words (put_chunk at words (swapped_low 1 m a b ∷ swapped_high 1 m a b ∷ []))
-next_swapped at m words a b within is_a is_b =
-    let both : List ℕ = swapped_low 1 m a b ∷ swapped_high 1 m a b ∷ [] in
-    let new = put_chunk at words both in
-    let first : get_or new at 0 ≡ swapped_low 1 m a b = ap (λ j. get_or new j 0) (omega arith) ∙ get_or-put_chunk_at at words both 0 0 (omega arith) (omega arith) in
-    let second : get_or new (at + 1) 0 ≡ swapped_high 1 m a b = get_or-put_chunk_at at words both 1 0 (omega arith) (omega arith) in
-    let of_words : (f : ℕ → ℕ → ℕ) (l : ℕ) → l < 1 → f a b ≡ f (get_or words (at + l) 0) (get_or words (at + 1 + l) 0) =
-    λ f l h. ap (λ x. f x b) (is_a ∙ ap (λ j. get_or words j 0) (omega arith)) ∙ ap (f (get_or words (at + l) 0)) (is_b ∙ ap (λ j. get_or words j 0) (omega arith)) in
-    record {
-      long = length-put_chunk at words both;
-      lower = λ l h. ap (λ j. get_or new j 0) (omega arith) ∙ first ∙ of_words (swapped_low 1 m) l h;
-      upper = λ l h. ap (λ j. get_or new j 0) (omega arith) ∙ second ∙ of_words (swapped_high 1 m) l h;
-      other = λ j not_low not_high. outside at words both j refl (λ l h same. ⊎_elim
-          (λ (first : l ≡ 0). not_low 0 (omega arith) (omega arith))
-          (λ (second : l ≢ 0). not_high 0 (omega arith) (omega arith))
-          (cases_eq l 0));
-    }
+next_swapped at m words a b within is_a is_b = search (rules, get_or-put_chunk_at, length-put_chunk, outside, cases_eq)
 
 -- two such pairs, which are stored where they were loaded
 pub pairs_swapped : (at m : ℕ) (words : List ℕ) (a b c d : ℕ) → at + 4 ≤ length words
     → a ≡ get_or words at 0 → b ≡ get_or words (at + 1) 0 → c ≡ get_or words (at + 2) 0 → d ≡ get_or words (at + 3) 0
     → AreSwapped at m words
     (put_chunk (at + 2) (put_chunk at words (swapped_low 1 m a b ∷ swapped_high 1 m a b ∷ [])) (swapped_low 1 m c d ∷ swapped_high 1 m c d ∷ []))
-pairs_swapped at m words a b c d within is_a is_b is_c is_d =
-    let both : List ℕ = swapped_low 1 m a b ∷ swapped_high 1 m a b ∷ [] in
-    let mid = put_chunk at words both in
-    let long : length mid ≡ length words = length-put_chunk at words both in
-    let behind : (k : ℕ) → 2 ≤ k → get_or mid (at + k) 0 ≡ get_or words (at + k) 0 = λ k h. get_or-put_chunk_above at words both (at + k) 0 (omega arith) in
-    record {
-      between = mid;
-      first = next_swapped at m words a b (omega arith) is_a is_b;
-      second = next_swapped (at + 2) m mid c d (omega arith) (is_c ∙ sym (behind 2 (omega arith))) (is_d ∙ sym (behind 3 (omega arith)) ∙ ap (λ j. get_or mid j 0) (omega arith));
-    }
+pairs_swapped at m words a b c d within is_a is_b is_c is_d = grind (arith, length-put_chunk, get_or-put_chunk_above, next_swapped)

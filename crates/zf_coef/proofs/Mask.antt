@@ -1,4 +1,5 @@
 -- A word whose odd digits are flipped by a mask: the number that its digits stand for is the word less the mask.
+use Rattle.std.proofs.Common.{rules}
 use Rattle.std.proofs.Common.{◌≡◌, refl, sym, ap, subst, ◌∙◌, ℕ, zero, suc, ◌+◌, ◌-◌, ◌*◌, ◌/◌, ◌%◌, ◌^◌, ◌<◌, ◌≤◌, ℤ, pos, negsuc, ◌+ℤ◌, ◌*ℤ◌, neg_ℤ, FitsSigned, ◌⊎◌, ⊎_elim, lit≤, pow_pos, mod-lt, div-add-mod', arith}
 use Rattle.std.proofs.lemmas.Int.{ints, of_z-to_z}
 use Rattle.std.specs.Int.{Width, w32, w64, cast_unsigned, int_wrap}
@@ -87,7 +88,6 @@ same_modulo_word w (negsuc n) f = (pos 1, omega (arith, ints, f.sfits, bits_is_h
 -- what agrees modulo 2^64 agrees modulo 2^w
 same_modulo_width : (w : Width) (p : IsPaired w) (a b : ℤ) → IsSameModulo 64 a b → IsSameModulo (bits w) a b
 same_modulo_width w p a b h =
-    let within = p.within in
     let e : 64 ≡ (64 - bits w) + bits w = omega arith in
     same_modulo_low (64 - bits w) (bits w) a b (subst (λ k. IsSameModulo k a b) e h)
 
@@ -117,9 +117,7 @@ field-masked w sized v fits =
     let back = same_modulo_add (bits w) (pos y) (pos (u + mask 32)) (neg_ℤ (pos (mask 32))) (neg_ℤ (pos (mask 32))) wide (same_modulo_refl (bits w) (neg_ℤ (pos (mask 32)))) in
     let e : pos (u + mask 32) +ℤ neg_ℤ (pos (mask 32)) ≡ pos u = omega (arith, ints) in
     let word : IsSameModulo (bits w) (pos y +ℤ neg_ℤ (pos (mask 32))) (pos u) = subst (λ n. IsSameModulo (bits w) (pos y +ℤ neg_ℤ (pos (mask 32))) n) e back in
-    digits_only (bits w) bs v (length-field (bits w) (bit_xor y (mask 32)))
-    (same_modulo_trans (bits w) (digits_sum bs) (pos y +ℤ neg_ℤ (pos (mask 32))) v (flipped_value w p y)
-    (same_modulo_trans (bits w) (pos y +ℤ neg_ℤ (pos (mask 32))) (pos u) v word (same_modulo_word w v fits)))
+    search (rules, digits_only, length-field, same_modulo_trans, flipped_value, same_modulo_word)
 
 -- (u xor M) - M is the value of the digits of u
 pub wrap-unmasked : (w : Width) → (w ≡ w32) ⊎ (w ≡ w64) → (u : ℕ)
@@ -134,10 +132,7 @@ wrap-unmasked w sized u =
     same_modulo_trans 64 (pos ((y + c) % 2 ^ 64)) (pos (y + c)) (pos y +ℤ neg_ℤ (pos (mask 32))) low (pos 1, omega (arith, ints)) in
     let digits_of_u : IsSameModulo (bits w) (digits_sum (field (bits w) u)) (pos y +ℤ neg_ℤ (pos (mask 32))) =
     subst (λ x. IsSameModulo (bits w) (digits_sum (field (bits w) x)) (pos y +ℤ neg_ℤ (pos (mask 32)))) twice_flipped (flipped_value w p y) in
-    wrap_from_same w (pos ((y + c) % 2 ^ 64)) (digits_sum (field (bits w) u))
-    (same_modulo_trans (bits w) (pos ((y + c) % 2 ^ 64)) (pos y +ℤ neg_ℤ (pos (mask 32))) (digits_sum (field (bits w) u))
-    (same_modulo_width w p (pos ((y + c) % 2 ^ 64)) (pos y +ℤ neg_ℤ (pos (mask 32))) wide)
-    (same_modulo_sym (bits w) (digits_sum (field (bits w) u)) (pos y +ℤ neg_ℤ (pos (mask 32))) digits_of_u))
+    search (rules, wrap_from_same, same_modulo_trans, same_modulo_width, same_modulo_sym)
 
 -- the digits of a word of the type are those of the longer word that it is left of
 pub field-word : (w : Width) (x : ℕ) → field (bits w) (cast_unsigned w (wrap w (pos x))) ≡ field (bits w) x

@@ -1,16 +1,12 @@
 -- Lists that are written from the front, place by place.
-use Rattle.std.proofs.Common.{◌≡◌, sym, ap, subst, ◌∙◌, ℕ, ◌+◌, ◌<◌, ◌≤◌, ⊎_elim, zero, suc, List, [], ◌∷◌, map, length, get_or, set, get_or-set_same, get_or-set_other, arith}
+use Rattle.std.proofs.Common.{rules}
+use Rattle.std.proofs.Common.{◌≡◌, ◌∙◌, ℕ, ◌+◌, ◌<◌, ◌≤◌, zero, suc, List, [], ◌∷◌, map, length, get_or, set, get_or-set_same, get_or-set_other, arith}
 use Rattle.std.proofs.lemmas.Bool.{cases_lt}
 
 -- the place at the front gets a value
 pub prefix_set : {X : Type 0} (xs : List X) (d : X) (f : ℕ → X) (n : ℕ) (x : X) → n < length xs → x ≡ f n
     → ((j : ℕ) → j < n → get_or xs j d ≡ f j) → (j : ℕ) → j < n + 1 → get_or (set xs n x) j d ≡ f j
-prefix_set xs d f n x within here before j h = ⊎_elim
-    (λ (earlier : j < n). get_or-set_other xs n j x d (λ (e : j ≡ n). absurd (omega arith)) ∙ before j earlier)
-    (λ (last : n ≤ j).
-    let same : j ≡ n = omega arith in
-    ap (λ k. get_or (set xs n x) k d) same ∙ get_or-set_same xs n x d within ∙ here ∙ ap f (sym same))
-    (cases_lt j n)
+prefix_set xs d f n x within here before j h = search (rules, get_or-set_other, get_or-set_same, cases_lt)
 
 -- the places behind it stay
 pub rest_set : {X : Type 0} (xs : List X) (d : X) (f : ℕ → X) (n : ℕ) (x : X)
@@ -20,12 +16,7 @@ rest_set xs d f n x rest j h = get_or-set_other xs n j x d (λ (e : j ≡ n). ab
 -- the same of what is told of each value, where two lists are written at once
 pub prefix_tells : {X : Type 0} (P : ℕ → X → Type 0) (xs : List X) (d : X) (n : ℕ) (x : X) → n < length xs → P n x
     → ((j : ℕ) → j < n → P j (get_or xs j d)) → (j : ℕ) → j < n + 1 → P j (get_or (set xs n x) j d)
-prefix_tells P xs d n x within here before j h = ⊎_elim
-    (λ (earlier : j < n). subst (P j) (sym (get_or-set_other xs n j x d (λ (e : j ≡ n). absurd (omega arith)))) (before j earlier))
-    (λ (last : n ≤ j).
-    let same : n ≡ j = omega arith in
-    subst (λ k. P k (get_or (set xs n x) k d)) same (subst (P n) (sym (get_or-set_same xs n x d within)) here))
-    (cases_lt j n)
+prefix_tells P xs d n x within here before j h = search (rules, get_or-set_other, get_or-set_same, cases_lt)
 
 -- lists that are all as long
 pub each_long : {X Y : Type 0} (f : X → List Y) (n : ℕ) → ((x : X) → length (f x) ≡ n) → (xs : List X) (k : ℕ) → k < length (map f xs) → length (get_or (map f xs) k []) ≡ n

@@ -1,5 +1,6 @@
 -- Words of planes that are written plane by plane.
-use Rattle.std.proofs.Common.{◌≡◌, refl, sym, ap, ◌∙◌, ℕ, ◌+◌, ◌<◌, ◌≤◌, ◌≢◌, ⊎_elim, List, [], length, get_or, set, get_or-set_same, get_or-set_other, length-set, arith}
+use Rattle.std.proofs.Common.{rules}
+use Rattle.std.proofs.Common.{◌≡◌, refl, ap, ◌∙◌, ℕ, ◌+◌, ◌<◌, ◌≢◌, List, [], length, get_or, set, get_or-set_same, get_or-set_other, length-set, arith}
 use Rattle.std.proofs.lemmas.Bool.{cases_lt, cases_eq}
 use Rattle.zf_coef.specs.Groups.{word_of, HoldsFrom, KeepsOthers}
 
@@ -8,22 +9,13 @@ abbrev pub with_word : List (List ℕ) → ℕ → ℕ → ℕ → List (List �
 with_word planes k number w = set planes k (set (get_or planes k []) number w)
 
 word_of-same : (planes : List (List ℕ)) (k number w : ℕ) → k < length planes → number < length (get_or planes k []) → word_of (with_word planes k number w) number k ≡ w
-word_of-same planes k number w within inside =
-    ap (λ ws. get_or ws number 0) (get_or-set_same planes k (set (get_or planes k []) number w) [] within)
-    ∙ get_or-set_same (get_or planes k []) number w 0 inside
+word_of-same planes k number w within inside = search (rules, get_or-set_same)
 
 word_of-other_plane : (planes : List (List ℕ)) (k number w q p : ℕ) → q ≢ k → word_of (with_word planes k number w) p q ≡ word_of planes p q
 word_of-other_plane planes k number w q p apart = ap (λ ws. get_or ws p 0) (get_or-set_other planes k q (set (get_or planes k []) number w) [] apart)
 
 word_of-other_word : (planes : List (List ℕ)) (k number w q p : ℕ) → k < length planes → p ≢ number → word_of (with_word planes k number w) p q ≡ word_of planes p q
-word_of-other_word planes k number w q p within apart = ⊎_elim
-    (λ (same : q ≡ k).
-    ap (λ j. word_of (with_word planes k number w) p j) same
-    ∙ ap (λ ws. get_or ws p 0) (get_or-set_same planes k (set (get_or planes k []) number w) [] within)
-    ∙ get_or-set_other (get_or planes k []) number p w 0 apart
-    ∙ ap (λ j. word_of planes p j) (sym same))
-    (λ other. word_of-other_plane planes k number w q p other)
-    (cases_eq q k)
+word_of-other_word planes k number w q p within apart = search (rules, get_or-set_same, get_or-set_other, word_of-other_plane, cases_eq)
 
 pub none_put : (number from : ℕ) (words : List ℕ) (planes : List (List ℕ)) → HoldsFrom 0 number from words planes planes
 none_put number from words planes = record { inside = λ j h within. absurd (omega arith); below = λ k h. refl; above = λ k h. refl }
@@ -40,21 +32,7 @@ both_kept number old mid new first second k p apart = second k p apart ∙ first
 pub more_put : (number from j w : ℕ) (words : List ℕ) (old mid : List (List ℕ))
     → from + j < length mid → number < length (get_or mid (from + j) []) → w ≡ get_or words j 0
     → HoldsFrom j number from words old mid → HoldsFrom (j + 1) number from words old (with_word mid (from + j) number w)
-more_put number from j w words old mid within inside here before =
-    let k = from + j in
-    let new = with_word mid k number w in
-    let kept : (q : ℕ) → q ≢ k → word_of new number q ≡ word_of mid number q = λ q apart. word_of-other_plane mid k number w q number apart in
-    let same_length = length-set mid k (set (get_or mid k []) number w) in
-    record {
-      inside = λ i h i_within. ⊎_elim
-          (λ (earlier : i < j). kept (from + i) (λ (e : from + i ≡ k). absurd (omega arith)) ∙ before.inside i earlier (omega arith))
-          (λ (last : j ≤ i).
-          let same : i ≡ j = omega arith in
-          ap (λ n. word_of new number (from + n)) same ∙ word_of-same mid k number w within inside ∙ here ∙ ap (λ n. get_or words n 0) (sym same))
-          (cases_lt i j);
-      below = λ q h. kept q (λ (e : q ≡ k). absurd (omega arith)) ∙ before.below q h;
-      above = λ q h. kept q (λ (e : q ≡ k). absurd (omega arith)) ∙ before.above q (omega arith);
-    }
+more_put number from j w words old mid within inside here before = search (rules, word_of-other_plane, length-set, word_of-same, cases_lt)
 
 pub more_kept : (number k w : ℕ) (old mid : List (List ℕ)) → k < length mid → KeepsOthers number old mid → KeepsOthers number old (with_word mid k number w)
 unfolding KeepsOthers

@@ -1,4 +1,5 @@
 -- Bits of words that are shifted, cut and put together.
+use Rattle.std.proofs.Common.{rules}
 use Rattle.std.proofs.Common.{◌≡◌, ap, subst, ◌∙◌, ℕ, ◌+◌, ◌-◌, ◌*◌, ◌/◌, ◌%◌, ◌^◌, ◌<◌, ◌≤◌, mod-lt, arith}
 use Rattle.std.specs.Int.{bit_at}
 use Rattle.std.specs.Int.RustNames.{bit_or}
@@ -64,9 +65,7 @@ high_of_high a b i word h =
 moved_part : (start from a part : ℕ) → from ≤ 32 → ((i : ℕ) → i < 32 → bit_at part i ≡ bit_at a (start + i))
     → ((i : ℕ) → 32 ≤ i → i < 64 → bit_at part i ≡ 0) → IsMoved start from a (part * 2 ^ from % 2 ^ 64)
 moved_part start from a part few same none = record {
-  inside = λ i h.
-      let back : from + i - from ≡ i = omega arith in
-      bit_at-mod (part * 2 ^ from) (from + i) (omega arith) ∙ bit_at-shl_high part from (from + i) (omega arith) ∙ ap (bit_at part) back ∙ same i h;
+  inside = search (rules, bit_at-mod, bit_at-shl_high);
   below = λ i h. bit_at-mod (part * 2 ^ from) i (omega arith) ∙ bit_at-shl_low part from i h;
   above = λ i h small. bit_at-mod (part * 2 ^ from) i small ∙ bit_at-shl_high part from i (omega arith) ∙ none (i - from) (omega arith) (omega arith);
 }

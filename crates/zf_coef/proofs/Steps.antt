@@ -1,8 +1,8 @@
 -- Words whose bits are swapped between pairs of them, s apart.
-use Rattle.std.proofs.Common.{◌≡◌, sym, ap, subst, ◌∙◌, ℕ, ◌+◌, ◌-◌, ◌*◌, ◌/◌, ◌%◌, ◌^◌, ◌<◌, ◌≤◌, ◌≢◌, min, ⊎_elim, List, length, get_or, arith}
+use Rattle.std.proofs.Common.{rules}
+use Rattle.std.proofs.Common.{◌≡◌, sym, ap, ◌∙◌, ℕ, ◌+◌, ◌-◌, ◌*◌, ◌/◌, ◌%◌, ◌^◌, ◌<◌, ◌≤◌, ◌≢◌, min, ⊎_elim, List, length, get_or, arith}
 use Rattle.std.proofs.lemmas.Bool.{cases_lt, cases_eq}
 use Rattle.std.specs.Int.{bit_at}
-use Rattle.std.specs.Int.RustNames.{bit_xor}
 use Rattle.zf_coef.proofs.ShiftedBits.{bit_at-shr, bit_at-mod, bit_at-shl_low, bit_at-shl_high}
 use Rattle.std.proofs.lemmas.Nat.Bits.{bit_at_and, bit_at_xor, bit_at-lt}
 use Rattle.zf_coef.specs.Turned.{bit_of, moved, swapped_low, swapped_high, IsSwapped, IsStep, IsMask, with_digit, IsStepped}
@@ -10,9 +10,7 @@ use Rattle.zf_coef.specs.Turned.{bit_of, moved, swapped_low, swapped_high, IsSwa
 -- ---- bits of swapped words
 
 pub bit_at-moved : (s m a b i : ℕ) → bit_at (moved s m a b) i ≡ min ((bit_at a (s + i) + bit_at b i) % 2) (bit_at m i)
-bit_at-moved s m a b i =
-    bit_at_and (bit_xor (a / 2 ^ s) b) m i
-    ∙ ap (λ x. min x (bit_at m i)) (bit_at_xor (a / 2 ^ s) b i ∙ ap (λ x. (x + bit_at b i) % 2) (bit_at-shr a s i))
+bit_at-moved s m a b i = search (rules, bit_at_and, bit_at_xor, bit_at-shr)
 
 -- the upper word, where the mask has a one and where it has none
 high_taken : (s m a b i : ℕ) → bit_at m i ≡ 1 → bit_at (swapped_high s m a b) i ≡ bit_at a (s + i)
@@ -25,14 +23,10 @@ high_kept s m a b i none =
 
 -- the lower word
 low_first : (s m a b i : ℕ) → i < s → i < 64 → bit_at (swapped_low s m a b) i ≡ bit_at a i
-low_first s m a b i small within =
-    let t = moved s m a b in
-    omega (arith, bit_at_xor a (t * 2 ^ s % 2 ^ 64) i, bit_at-mod (t * 2 ^ s) i within, bit_at-shl_low t s i small, bit_at-lt a i)
+low_first s m a b i small within = search (rules, bit_at_xor, bit_at-mod, bit_at-shl_low, bit_at-lt)
 
 low_kept : (s m a b i : ℕ) → s ≤ i → i < 64 → bit_at m (i - s) ≡ 0 → bit_at (swapped_low s m a b) i ≡ bit_at a i
-low_kept s m a b i large within none =
-    let t = moved s m a b in
-    omega (arith, bit_at_xor a (t * 2 ^ s % 2 ^ 64) i, bit_at-mod (t * 2 ^ s) i within, bit_at-shl_high t s i large, bit_at-moved s m a b (i - s), none, bit_at-lt a i)
+low_kept s m a b i large within none = search (rules, bit_at_xor, bit_at-mod, bit_at-shl_high, bit_at-moved, bit_at-lt)
 
 low_taken : (s m a b i : ℕ) → s ≤ i → i < 64 → bit_at m (i - s) ≡ 1 → bit_at (swapped_low s m a b) i ≡ bit_at b (i - s)
 low_taken s m a b i large within one =
@@ -73,100 +67,26 @@ pub record Paired (lanes s : ℕ) : Type 0 where
   pub digit_less : (i : ℕ) → s ≤ i → (i - s) / s % 2 ≡ 1 - i / s % 2
 
 pub paired_1 : Paired 1 1
-paired_1 = record {
-  positive = omega arith;
-  small = omega arith;
-  pair_low = λ done l whole h. omega arith;
-  pair_high = λ done l whole h. omega arith;
-  lower_digit = λ done l whole h. omega arith;
-  upper_digit = λ done l whole h. omega arith;
-  place = λ done j whole from to. omega arith;
-  pairs = λ n j whole h. omega arith;
-  in_words = λ n done whole even h. omega arith;
-  word_kept = λ j i h. omega arith;
-  word_up = λ j i a b. omega arith;
-  word_down = λ j i a b. (omega arith, omega arith);
-  digit_less = λ i h. omega arith;
-}
+paired_1 = search rules
 
 pub paired_2 : Paired 2 2
-paired_2 = record {
-  positive = omega arith;
-  small = omega arith;
-  pair_low = λ done l whole h. omega arith;
-  pair_high = λ done l whole h. omega arith;
-  lower_digit = λ done l whole h. omega arith;
-  upper_digit = λ done l whole h. omega arith;
-  place = λ done j whole from to. omega arith;
-  pairs = λ n j whole h. omega arith;
-  in_words = λ n done whole even h. omega arith;
-  word_kept = λ j i h. omega arith;
-  word_up = λ j i a b. omega arith;
-  word_down = λ j i a b. (omega arith, omega arith);
-  digit_less = λ i h. omega arith;
-}
+paired_2 = search rules
 
 pub paired_4 : Paired 2 4
-paired_4 = record {
-  positive = omega arith;
-  small = omega arith;
-  pair_low = λ done l whole h. omega arith;
-  pair_high = λ done l whole h. omega arith;
-  lower_digit = λ done l whole h. omega arith;
-  upper_digit = λ done l whole h. omega arith;
-  place = λ done j whole from to. omega arith;
-  pairs = λ n j whole h. omega arith;
-  in_words = λ n done whole even h. omega arith;
-  word_kept = λ j i h. omega arith;
-  word_up = λ j i a b. omega arith;
-  word_down = λ j i a b. (omega arith, omega arith);
-  digit_less = λ i h. omega arith;
-}
+paired_4 = search rules
 
 pub paired_8 : Paired 2 8
-paired_8 = record {
-  positive = omega arith;
-  small = omega arith;
-  pair_low = λ done l whole h. omega arith;
-  pair_high = λ done l whole h. omega arith;
-  lower_digit = λ done l whole h. omega arith;
-  upper_digit = λ done l whole h. omega arith;
-  place = λ done j whole from to. omega arith;
-  pairs = λ n j whole h. omega arith;
-  in_words = λ n done whole even h. omega arith;
-  word_kept = λ j i h. omega arith;
-  word_up = λ j i a b. omega arith;
-  word_down = λ j i a b. (omega arith, omega arith);
-  digit_less = λ i h. omega arith;
-}
+paired_8 = search rules
 
 pub paired_16 : Paired 2 16
-paired_16 = record {
-  positive = omega arith;
-  small = omega arith;
-  pair_low = λ done l whole h. omega arith;
-  pair_high = λ done l whole h. omega arith;
-  lower_digit = λ done l whole h. omega arith;
-  upper_digit = λ done l whole h. omega arith;
-  place = λ done j whole from to. omega arith;
-  pairs = λ n j whole h. omega arith;
-  in_words = λ n done whole even h. omega arith;
-  word_kept = λ j i h. omega arith;
-  word_up = λ j i a b. omega arith;
-  word_down = λ j i a b. (omega arith, omega arith);
-  digit_less = λ i h. omega arith;
-}
+paired_16 = search rules
 
 pub paired : (s : ℕ) → IsStep s → Paired 2 s
-paired s step = ⊎_elim (λ is. subst (Paired 2) (sym is) paired_2)
-    (λ more. ⊎_elim (λ is. subst (Paired 2) (sym is) paired_4)
-    (λ last. ⊎_elim (λ is. subst (Paired 2) (sym is) paired_8) (λ is. subst (Paired 2) (sym is) paired_16) last) more) step
+paired s step = search (rules, paired_2, paired_4, paired_8, paired_16)
 
 -- the pairs go up in lanes
 pub in_lanes : (s n : ℕ) → IsStep s → n % (2 * s) ≡ 0 → n % 4 ≡ 0
-in_lanes s n step = ⊎_elim (λ is. subst (λ s. n % (2 * s) ≡ 0 → n % 4 ≡ 0) (sym is) (λ h. omega arith))
-    (λ more. ⊎_elim (λ is. subst (λ s. n % (2 * s) ≡ 0 → n % 4 ≡ 0) (sym is) (λ h. omega arith))
-    (λ last. ⊎_elim (λ is. subst (λ s. n % (2 * s) ≡ 0 → n % 4 ≡ 0) (sym is) (λ h. omega arith)) (λ is. subst (λ s. n % (2 * s) ≡ 0 → n % 4 ≡ 0) (sym is) (λ h. omega arith)) last) more) step
+in_lanes s n step = search rules
 
 -- ---- the loop of a step
 

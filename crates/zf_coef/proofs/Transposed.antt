@@ -1,5 +1,6 @@
 -- Planes that are made of coefficients, and coefficients that are made of planes.
-use Rattle.std.proofs.Common.{◌≡◌, refl, sym, ap, subst, ◌∙◌, ℕ, suc, ◌+◌, ◌-◌, ◌*◌, ◌/◌, ◌%◌, ◌^◌, ◌<◌, ◌≤◌, ⊎_elim, Bool, false, eqb, min, All, List, [], ◌∷◌, ◌++◌, map, reverse, length, get_or, take, drop, replicate, ext_get_or, get_or-take, get_or-drop, length-take, length-drop, mod-lt, arith}
+use Rattle.std.proofs.Common.{rules}
+use Rattle.std.proofs.Common.{◌≡◌, refl, sym, ap, subst, ◌∙◌, ℕ, suc, ◌+◌, ◌-◌, ◌*◌, ◌/◌, ◌%◌, ◌^◌, ◌<◌, ◌≤◌, Bool, false, min, All, List, [], ◌∷◌, ◌++◌, map, reverse, length, get_or, take, drop, replicate, ext_get_or, get_or-take, get_or-drop, length-take, length-drop, mod-lt, arith}
 use Rattle.std.proofs.lemmas.Bool.{cases_lt}
 use Rattle.std.proofs.lemmas.List.{get_or_past, get_or_append_left, get_or-append_right, length-map, get_or-map, map-append, reverse-append, length-replicate, get_or-replicate}
 use Rattle.std.proofs.lemmas.Nat.Bits.{bit_at-zero}
@@ -10,7 +11,7 @@ use Rattle.zf_spec.proofs.Counting.{four_elements, length-map-upto, get_or-map-u
 use Rattle.zf_spec.proofs.PlaneDigits.{get_or-plane, length-map-reverse-upto, get_or-map-reverse-upto}
 use Rattle.zf_spec.specs.HeldPlanes.{digits_held, planes_held, IsClearFrom}
 use Rattle.std.specs.Int.{bit_at}
-use borrow.Rule.Slice.PartMut.{put_mid, post_of}
+use borrow.Rule.Slice.PartMut.{put_mid}
 use Rattle.std.proofs.Math.Nat.{mod-le}
 use Rattle.std.proofs.lemmas.Nat.{pow_pos}
 use Rattle.std.proofs.lemmas.Nat.Bits.{same_from_bits_below}
@@ -63,16 +64,9 @@ plane_digits k digits words n below holds =
     let each = length-map digits (field n) in
     let long = length-take size (word_bits words) in
     let all = length-word_bits words in
-    let room = holds.room in
     ext_get_or false (take size (word_bits words)) (plane k coefficients)
     (omega (arith, length-map coefficients (λ ds. get_or ds k false)))
-    (λ j h.
-    let small : j < size = omega arith in
-    get_or-take size (word_bits words) j false small
-    ∙ holds.each j (omega arith)
-    ∙ sym (get_or-plane k coefficients j
-    ∙ ap (λ ds. get_or ds k false) (get_or-map (field n) digits j 0 [] small)
-    ∙ get_or-field n (get_or digits j 0) k false below))
+    (search (rules, get_or-take, get_or-plane, get_or-map, get_or-field))
 
 pub plane_clear : (k : ℕ) (digits words : List ℕ) → HoldsPlane k digits words → IsClearFrom (length digits) words
 unfolding IsClearFrom
@@ -82,15 +76,8 @@ plane_clear k digits words holds =
     let rest = length bits - size in
     let all = length-word_bits words in
     let long = length-drop size bits in
-    let room = holds.room in
     ext_get_or false (drop size bits) (replicate rest false) (long ∙ sym (length-replicate rest false))
-    (λ i h.
-    let past : size ≤ size + i = omega arith in
-    get_or-drop size bits i false
-    ∙ holds.each (size + i) (omega arith)
-    ∙ ap (λ v. is_odd (v / 2 ^ k)) (get_or_past digits (size + i) 0 past)
-    ∙ ap (λ b. eqb b 1) (bit_at-zero k)
-    ∙ sym (get_or-replicate rest i false false (omega arith)))
+    (search (rules, get_or-drop, get_or_past, bit_at-zero, get_or-replicate))
 
 -- ---- groups of 64 coefficients
 
@@ -105,53 +92,25 @@ pub record IsBehind (number : ℕ) (digits rest : List ℕ) : Type 0 where
 
 -- a group ends where the digits end
 in_group : (rest : List ℕ) (n r : ℕ) → n ≡ min (length rest) 64 → r < 64 → get_or (take n rest) r 0 ≡ get_or rest r 0
-in_group rest n r size small = ⊎_elim
-    (λ (inside : r < n). get_or-take n rest r 0 inside)
-    (λ (outside : n ≤ r). get_or_past (take n rest) r 0 (omega (arith, length-take n rest)) ∙ sym (get_or_past rest r 0 (omega arith)))
-    (cases_lt r n)
+in_group rest n r size small = search (rules, get_or-take, get_or_past, length-take, cases_lt)
 
 pub behind_more : (number n : ℕ) (digits rest : List ℕ) → n ≡ min (length rest) 64 → IsBehind number digits rest → IsBehind (number + 1) digits (drop n rest)
-behind_more number n digits rest size before = record {
-  long = omega (arith, length-drop n rest, before.long);
-  each = λ r.
-      let next : 64 * number + (64 + r) ≡ 64 * (number + 1) + r = omega arith in
-      get_or-drop n rest r 0
-      ∙ ⊎_elim
-      (λ (short : length rest < 64). get_or_past rest (n + r) 0 (omega arith) ∙ sym (get_or_past rest (64 + r) 0 (omega arith)))
-      (λ (full : 64 ≤ length rest). ap (λ m. get_or rest (m + r) 0) (omega arith))
-      (cases_lt (length rest) 64)
-      ∙ before.each (64 + r)
-      ∙ ap (λ j. get_or digits j 0) next;
-}
+behind_more number n digits rest size before = search (rules, length-drop, get_or-drop, get_or_past, cases_lt)
 
 pub groups_more : (number n : ℕ) (digits rest : List ℕ) (old new : List (List ℕ)) → n ≡ min (length rest) 64 → length new ≡ length old
     → IsBehind number digits rest → HoldsGroups number digits old
     → HoldsGroup number (take n rest) new → KeepsOthers number old new → HoldsGroups (number + 1) digits new
 unfolding HoldsGroup KeepsOthers
-groups_more number n digits rest old new size long behind before group others = record {
-  each = λ p k r h within small. ⊎_elim
-      (λ (earlier : p < number). ap (λ w. bit_at w r) (others k p (λ (e : p ≡ number). absurd (omega arith))) ∙ before.each p k r earlier (omega arith) small)
-      (λ (last : number ≤ p).
-      let same : p ≡ number = omega arith in
-      ap (λ q. bit_at (word_of new q k) r) same
-      ∙ group k r within small
-      ∙ ap (λ w. bit_at w k) (in_group rest n r size small ∙ behind.each r)
-      ∙ ap (λ q. bit_of digits (64 * q + r) k) (sym same))
-      (cases_lt p number);
-}
+groups_more number n digits rest old new size long behind before group others = grind (arith, in_group, cases_lt)
 
 -- planes all of whose words hold the digits of their groups
 pub plane_of_groups : (number k : ℕ) (digits : List ℕ) (planes : List (List ℕ)) → length digits ≤ 64 * number → k < length planes
     → length (get_or planes k []) ≡ number → HoldsGroups number digits planes → HoldsPlane k digits (get_or planes k [])
 plane_of_groups number k digits planes room within long groups =
     let words = get_or planes k [] in
-    let whole : 64 * length words ≡ 64 * number = ap (λ n. 64 * n) long in
     record {
       room = omega arith;
-      each = λ j h.
-          let rank : 64 * (j / 64) + j % 64 ≡ j = omega arith in
-          get_or-word_bits words j h
-          ∙ ap (λ b. eqb b 1) (groups.each (j / 64) k (j % 64) (omega arith) within (omega arith) ∙ ap (λ i. bit_of digits i k) rank);
+      each = search (rules, get_or-word_bits);
     }
 
 pub planes_of_groups : (number : ℕ) (digits : List ℕ) (planes : List (List ℕ)) → length digits ≤ 64 * number
@@ -227,24 +186,8 @@ pub group_written : (number a k : ℕ) (planes : List (List ℕ)) (xs ys : List 
     → length (put_mid a k xs ys) ≡ length xs
     → IsOfGroups number planes xs → IsOfGroup number planes ys → IsOfGroups (number + 1) planes (put_mid a k xs ys)
 unfolding IsOfGroup
-group_written number a k planes xs ys start count long within same_length before group = record {
-  each = λ r i h inside small. ⊎_elim
-      (λ (earlier : r < a).
-      ap (λ w. bit_at w i)
-      (get_or_append_left (take a xs) (ys ++ post_of a k xs) 0 r (omega (arith, length-take a xs)) ∙ get_or-take a xs r 0 earlier)
-      ∙ before.each r i (omega arith) (omega arith) small)
-      (λ (later : a ≤ r).
-      let prefix : length (take a xs) ≡ a = omega (arith, length-take a xs) in
-      let in_group : r - a < length ys = omega arith in
-      let word : number ≡ r / 64 = omega arith in
-      let place : r - a ≡ r % 64 = omega arith in
-      ap (λ w. bit_at w i)
-      (get_or-append_right (take a xs) (ys ++ post_of a k xs) a r 0 prefix later ∙ get_or_append_left ys (post_of a k xs) 0 (r - a) in_group)
-      ∙ group (r - a) i in_group small
-      ∙ ap (λ q. bit_at (word_of planes q i) (r - a)) word
-      ∙ ap (bit_at (word_of planes (r / 64) i)) place)
-      (cases_lt r a);
-}
+group_written number a k planes xs ys start count long within same_length before group =
+    search (rules, get_or_append_left, length-take, get_or-take, in_group, get_or-append_right, cases_lt)
 
 -- the digits of one coefficient
 digits_of_rank : (number r : ℕ) (planes : List (List ℕ)) (digits : List ℕ) → length planes ≤ 64 → length digits ≤ 64 * number → r < length digits
@@ -256,11 +199,7 @@ digits_of_rank number r planes digits few room within long groups =
     let v = get_or digits r 0 in
     let bit_at_rank : List ℕ → Bool = λ words. get_or (word_bits words) r false in
     ext_get_or false (field n v) (map bit_at_rank planes) (length-field n v ∙ sym (length-map planes bit_at_rank))
-    (λ k h.
-    let below : k < n = omega (arith, length-field n v) in
-    get_or-field n v k false below
-    ∙ ap (λ b. eqb b 1) (groups.each r k (omega arith) within (omega arith))
-    ∙ sym (get_or-map bit_at_rank planes k [] false below ∙ get_or-word_bits (get_or planes k []) r (long k below)))
+    (search (rules, length-field, get_or-field, get_or-map, get_or-word_bits))
 
 pub digits_of_groups : (number : ℕ) (planes : List (List ℕ)) (digits : List ℕ) → length planes ≤ 64 → length digits ≤ 64 * number
     → ((r k : ℕ) → r < length digits → k < length planes → r < 64 * length (get_or planes k []))
@@ -288,12 +227,5 @@ below_planes number planes digits few room words groups =
     let word : v < 2 ^ 64 = All-get_or (λ u. u < 2 ^ 64) digits r 0 within words in
     let cut : v % 2 ^ n < 2 ^ 64 = omega (arith, mod-le v (2 ^ n)) in
     let same : v ≡ v % 2 ^ n = same_from_bits_below 64 v (v % 2 ^ n) word cut
-    (λ k small. ⊎_elim
-    (λ (low : k < n). sym (bit_at-mod_pow v n k low))
-    (λ (high : n ≤ k).
-    groups.each r k (omega arith) within small
-    ∙ ap (λ w. bit_at w (r % 64)) (word_of-past planes (r / 64) k high)
-    ∙ bit_at-zero (r % 64)
-    ∙ sym (bit_at-mod_above v n k high))
-    (cases_lt k n)) in
+    (λ k small. search (rules, bit_at-mod_pow, word_of-past, bit_at-zero, bit_at-mod_above, cases_lt)) in
     subst (λ x. x < 2 ^ n) (sym same) (mod-lt v (pow_pos n)))

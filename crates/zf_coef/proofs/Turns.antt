@@ -1,4 +1,5 @@
 -- Steps that together turn the tiles of words.
+use Rattle.std.proofs.Common.{rules}
 use Rattle.std.proofs.Common.{◌≡◌, refl, sym, ap, ◌∙◌, ℕ, zero, suc, ◌+◌, ◌-◌, ◌*◌, ◌/◌, ◌%◌, ◌^◌, ◌<◌, ◌≤◌, ◌≢◌, min, ⊎_elim, Bool, true, false, eqb, ◌&&◌, List, length, arith}
 use Rattle.std.proofs.lemmas.Bool.{cases_lt, cases_eq, eqb-true, false≢true}
 use Rattle.std.proofs.Math.Nat.{mod-eq_of_lt, mod-le}
@@ -26,9 +27,7 @@ ones_below ones m (suc n) all i h =
     let parts = both (eqb (bit_at m n) (ones n)) (has_ones_to ones m n) all in
     ⊎_elim
     (λ (earlier : i < n). ones_below ones m n parts.1 i earlier)
-    (λ (last : n ≤ i).
-    let same : i ≡ n = omega arith in
-    ap (bit_at m) same ∙ eqb-true (bit_at m n) (ones n) parts.0 ∙ ap ones (sym same))
+    (search (rules, eqb-true))
     (cases_lt i n)
 
 pub mask_from : (s m : ℕ) → has_ones_to (λ i. 1 - i / s % 2) m 64 ≡ true → IsMask s m
@@ -50,92 +49,39 @@ pub record Digit (n s : ℕ) : Type 0 where
       → with_digit s i j - with_digit s i j % n + (with_digit s j i - with_digit s j i % (2 * s)) + with_digit s i j % (2 * s) ≡ i - i % n + (j - j % s) + i % s
 
 pub digit_8_4 : Digit 8 4
-digit_8_4 = record {
-  word = λ j i a b. omega arith;
-  place = λ j i a b. omega arith;
-  row = λ j i a b. omega arith;
-  column = λ j i a b. omega arith;
-}
+digit_8_4 = search rules
 
 pub digit_8_2 : Digit 8 2
-digit_8_2 = record {
-  word = λ j i a b. omega arith;
-  place = λ j i a b. omega arith;
-  row = λ j i a b. omega arith;
-  column = λ j i a b. omega arith;
-}
+digit_8_2 = search rules
 
 pub digit_8_1 : Digit 8 1
-digit_8_1 = record {
-  word = λ j i a b. omega arith;
-  place = λ j i a b. omega arith;
-  row = λ j i a b. omega arith;
-  column = λ j i a b. omega arith;
-}
+digit_8_1 = search rules
 
 pub digit_32_16 : Digit 32 16
-digit_32_16 = record {
-  word = λ j i a b. omega arith;
-  place = λ j i a b. omega arith;
-  row = λ j i a b. omega arith;
-  column = λ j i a b. omega arith;
-}
+digit_32_16 = search rules
 
 pub digit_32_8 : Digit 32 8
-digit_32_8 = record {
-  word = λ j i a b. omega arith;
-  place = λ j i a b. omega arith;
-  row = λ j i a b. omega arith;
-  column = λ j i a b. omega arith;
-}
+digit_32_8 = search rules
 
 pub digit_32_4 : Digit 32 4
-digit_32_4 = record {
-  word = λ j i a b. omega arith;
-  place = λ j i a b. omega arith;
-  row = λ j i a b. omega arith;
-  column = λ j i a b. omega arith;
-}
+digit_32_4 = search rules
 
 pub digit_32_2 : Digit 32 2
-digit_32_2 = record {
-  word = λ j i a b. omega arith;
-  place = λ j i a b. omega arith;
-  row = λ j i a b. omega arith;
-  column = λ j i a b. omega arith;
-}
+digit_32_2 = search rules
 
 pub digit_32_1 : Digit 32 1
-digit_32_1 = record {
-  word = λ j i a b. omega arith;
-  place = λ j i a b. omega arith;
-  row = λ j i a b. omega arith;
-  column = λ j i a b. omega arith;
-}
+digit_32_1 = search rules
 
 pub none_turned : (n : ℕ) (words : List ℕ) → IsTurnedTo n n words words
-none_turned n words j i a b =
-    let in_tile : j % n ≡ j = mod-eq_of_lt a in
-    let row : j % n + (i % n - i % n) ≡ j = omega arith in
-    let column : i - i % n + (j - j % n) + i % n ≡ i = omega (arith, mod-le i n) in
-    sym (ap (λ r. bit_of words r (i - i % n + (j - j % n) + i % n)) row ∙ ap (bit_of words j) column)
+none_turned n words j i a b = search (rules, mod-eq_of_lt, mod-le)
 
 pub more_turned : (n s : ℕ) (old mid new : List ℕ) → Digit n s → length mid ≡ n → IsTurnedTo n (2 * s) old mid → IsStepped s mid new → IsTurnedTo n s old new
 unfolding IsStepped
-more_turned n s old mid new d long before step j i a b =
-    let word = with_digit s j i in
-    let place = with_digit s i j in
-    step j i (omega arith) b
-    ∙ before word place (d.word j i a b) (d.place j i a b)
-    ∙ ap (λ r. bit_of old r (place - place % n + (word - word % (2 * s)) + place % (2 * s))) (d.row j i a b)
-    ∙ ap (bit_of old (j % s + (i % n - i % s))) (d.column j i a b)
+more_turned n s old mid new d long before step j i a b = grind arith
 
 pub all_turned : (n : ℕ) (old new : List ℕ) → IsTurnedTo n 1 old new → IsTurned n old new
 unfolding IsTurned
-all_turned n old new to j i a b =
-    let row : j % 1 + (i % n - i % 1) ≡ i % n = omega arith in
-    let column : i - i % n + (j - j % 1) + i % 1 ≡ i - i % n + j = omega arith in
-    to j i a b ∙ ap (λ r. bit_of old r (i - i % n + (j - j % 1) + i % 1)) row ∙ ap (bit_of old (i % n)) column
+all_turned n old new to j i a b = search rules
 
 -- ---- sixteen rows in eight words
 
@@ -203,12 +149,4 @@ crossed_word x i within =
 -- crossed bytes and turned tiles of eight rows are turned tiles of sixteen that lie folded
 pub folded_turned : (old mid new : List ℕ) → ((j i : ℕ) → j < 8 → i < 64 → bit_of mid j i ≡ bit_of old j (crossed i)) → IsTurned 8 mid new → IsFoldedTurned old new
 unfolding IsTurned IsFoldedTurned
-folded_turned old mid new cross turn r k a b =
-    let i = r / 8 * 32 + k in
-    let p = i - i % 8 + r % 8 in
-    let word : i % 8 ≡ k % 16 % 8 = omega arith in
-    let place : crossed p ≡ k % 16 / 8 * 32 + (k - k % 16 + r) = omega arith in
-    turn (r % 8) i (omega arith) (omega arith)
-    ∙ cross (i % 8) p (omega arith) (omega arith)
-    ∙ ap (λ w. bit_of old w (crossed p)) word
-    ∙ ap (bit_of old (k % 16 % 8)) place
+folded_turned old mid new cross turn r k a b = search rules

@@ -1,5 +1,6 @@
 -- The number in the bits from a place on, and the bits of bytes one by one.
-use Rattle.std.proofs.Common.{◌≡◌, ℕ, ◌+◌, ◌*◌, ◌/◌, ◌%◌, ◌^◌, ◌<◌, ◌≤◌, Bool, false, List, [], ◌∷◌, ◌++◌, length, get_or, take, drop, sym, ap, ◌∙◌, arith, length-drop, lit<}
+use Rattle.std.proofs.Common.{rules}
+use Rattle.std.proofs.Common.{◌≡◌, ℕ, ◌+◌, ◌*◌, ◌/◌, ◌%◌, ◌^◌, ◌<◌, Bool, false, List, [], ◌∷◌, ◌++◌, length, get_or, take, drop, sym, ap, ◌∙◌, arith, length-drop}
 use Rattle.std.proofs.lemmas.List.{take_more, get_or-drop, length-take-le, length-take}
 use Rattle.std.proofs.Math.Nat.{pow-le-pow_right}
 use Rattle.zf_spec.specs.Numbers.{is_odd, number}
@@ -37,6 +38,4 @@ number_more_at bytes at i digit within in_word is_digit =
 
 pub number_at_below : (at n : ℕ) (s : List Bool) → number_at at n s < 2 ^ n
 unfolding number_at
-number_at_below at n s =
-    let count : length (take n (drop at s)) ≤ n = omega (arith, length-take n (drop at s)) in
-    omega (arith, number-lt (take n (drop at s)), pow-le-pow_right {n = 2} (lit< tt) count)
+number_at_below at n s = search (rules, length-take, number-lt, pow-le-pow_right)

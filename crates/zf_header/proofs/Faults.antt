@@ -1,5 +1,6 @@
 -- The first fault of lists of lines, and the faults of sizes that were read from their fields.
-use Rattle.std.proofs.Common.{◌≡◌, ℕ, zero, suc, ◌+◌, ◌*◌, ◌/◌, ◌^◌, ◌≤◌, ◌==◌, Bool, true, false, cond, nat_lt, List, [], ◌∷◌, ◌++◌, length, map, take, Some, None, Result, Ok, Err, refl, ap, ◌∙◌, arith}
+use Rattle.std.proofs.Common.{rules}
+use Rattle.std.proofs.Common.{◌≡◌, ℕ, zero, suc, ◌/◌, ◌^◌, ◌≤◌, ◌==◌, Bool, true, false, cond, nat_lt, List, [], ◌∷◌, ◌++◌, map, take, Some, None, Result, Ok, Err, refl, ap, ◌∙◌, arith}
 use Rattle.std.specs.List.{list_any}
 use Rattle.std.proofs.lemmas.Nat.{pow_pos}
 use Rattle.std.proofs.lemmas.Bool.{le-ltb}
@@ -13,7 +14,7 @@ use Rattle.zf_spec.proofs.Counting.{length-map-upto}
 use Rattle.zf_base.specs.declared.shape.ShapeFault.TheVariants as shape
 use Rattle.zf_base.specs.Shapes.{shape_fault}
 use Rattle.zf_header.specs.declared.header.HeaderFault.{HeaderFault}
-use Rattle.zf_header.specs.HeaderFields.{number_at, size_in, dims_in, sizes_in}
+use Rattle.zf_header.specs.HeaderFields.{size_in, sizes_in}
 use Rattle.zf_header.specs.HeaderFaults.{first_fault, prefix_faults, size_faults, mode_faults, header_fault}
 use Rattle.zf_header.proofs.Bits.{number_at_below}
 
@@ -55,12 +56,7 @@ mode_fault bytes prefix size =
 
 -- a size is never zero, nor more than its field holds
 pub size_bounds : (d axis : ℕ) (s : List Bool) → (1 ≤ size_in d axis s) × (size_in d axis s ≤ 2 ^ (48 / d))
-size_bounds d axis s =
-    let width = 48 / d in
-    let n = number_at (36 + axis * width) width s in
-    let below = number_at_below (36 + axis * width) width s in
-    let some = pow_pos width in
-    elim (nat_lt axis d) as (λ t. (1 ≤ cond t (n + 1) 1) × (cond t (n + 1) 1 ≤ 2 ^ width)) [ true ↦ (omega arith, omega arith) | false ↦ (omega arith, omega arith) ]
+size_bounds d axis s = search (rules, number_at_below, pow_pos)
 
 -- the sizes along four axes, and those along the first d
 pub take-sizes : (d : ℕ) (size : ℕ → ℕ) → d ≤ 4 → take d (size 0 ∷ size 1 ∷ size 2 ∷ size 3 ∷ []) ≡ map size (upto d)
@@ -81,13 +77,7 @@ not_zero (suc n) some = grind (arith, nat_tests)
 
 -- so they can only be too many values
 pub shape_fault-sizes_in : (s : List Bool) → shape_fault (sizes_in s) ≡ cond (nat_lt max_values (product (sizes_in s))) (Some shape.TooLarge) None
-shape_fault-sizes_in s =
-    let d = dims_in s in
-    let size : ℕ → ℕ = λ axis. size_in d axis s in
-    let count : length (sizes_in s) ≡ d = length-map-upto size d in
-    let zero = list_any-none (λ n. n == 0) size (upto d) (λ k. not_zero (size_in d k s) (size_bounds d k s).0) in
-    let field = list_any-none (λ n. nat_lt (2 ^ (48 / length (sizes_in s))) n) size (upto d) (λ k. rw count (le-ltb _ _ (size_bounds d k s).1)) in
-    rw (zero, field) refl
+shape_fault-sizes_in s = search (rules, length-map-upto, list_any-none, not_zero, size_bounds, le-ltb)
 
 -- the fault that each fault of the sizes becomes
 pub too_large : {X : Type 0} (made : Result X ShapeFault) (result : Result X HeaderFault) (Becomes : ShapeFault → HeaderFault → Type 0) (large : Bool) → ((e : ShapeFault) (f : HeaderFault) → Becomes e f → f ≡ TooLarge)

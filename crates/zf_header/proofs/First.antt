@@ -1,13 +1,13 @@
 -- The first 19 bytes decide.
-use Rattle.std.proofs.Common.{◌≡◌, ℕ, zero, suc, ◌+◌, ◌-◌, ◌*◌, ◌/◌, ◌<◌, ◌≤◌, Bool, cond, nat_lt, List, [], ◌∷◌, ◌++◌, length, map, take, drop, refl, sym, ap, ◌∙◌, arith, length-take, lit≤, inl, inr}
+use Rattle.std.proofs.Common.{rules}
+use Rattle.std.proofs.Common.{◌≡◌, ℕ, zero, suc, ◌+◌, ◌-◌, ◌*◌, ◌/◌, ◌<◌, ◌≤◌, Bool, List, [], ◌∷◌, ◌++◌, length, take, refl, sym, ap, ◌∙◌, arith, length-take, inl, inr}
 use Rattle.std.proofs.lemmas.List.{take-take, drop-take, take_all}
 use Rattle.std.proofs.lemmas.Bool.{cases_lt, le-ltb}
 use Rattle.std.proofs.Math.Seq.{take-append-add}
-use Rattle.zf_spec.specs.Numbers.{field, number}
-use Rattle.zf_spec.specs.Grid.{upto}
+use Rattle.zf_spec.specs.Numbers.{field}
 use Rattle.zf_spec.specs.Stream.{to_bits}
 use Rattle.zf_spec.proofs.Counting.{map-upto_same}
-use Rattle.zf_header.specs.HeaderFields.{number_at, dims_in, size_in, sizes_in, is_long_rate, header_in}
+use Rattle.zf_header.specs.HeaderFields.{number_at, sizes_in, is_long_rate, header_in}
 use Rattle.zf_header.specs.HeaderFaults.{header_fault}
 use Rattle.zf_header.proofs.Bits.{number_at_below}
 
@@ -23,9 +23,7 @@ to_bits-take (suc n) (b ∷ bytes) =
 number_at-take : (k at n : ℕ) (s : List Bool) → at + n ≤ k → number_at at n (take k s) ≡ number_at at n s
 unfolding number_at
 number_at-take k at n s within =
-    let parts : at + (k - at) ≡ k = omega arith in
-    let behind : drop at (take k s) ≡ take (k - at) (drop at s) = ap (λ j. drop at (take j s)) (sym parts) ∙ drop-take at (k - at) s in
-    ap (λ bs. number (take n bs)) behind ∙ ap number (take-take n (k - at) (drop at s) (omega arith))
+    let parts : at + (k - at) ≡ k = omega arith in search (rules, drop-take, take-take)
 
 -- ---- bits with the same numbers at all places of a header have the same fields
 
@@ -44,29 +42,13 @@ size_within (suc (suc (suc (suc zero)))) axis some four used = omega arith
 size_within (suc (suc (suc (suc (suc d))))) axis some four used = absurd (omega arith)
 
 same_sizes : (r s : List Bool) → SameNumbers r s → sizes_in r ≡ sizes_in s
-same_sizes r s same =
-    let d = dims_in s in
-    let dims : dims_in r ≡ d = ap (λ n. n + 1) (same.same 34 2 (lit≤ tt)) in
-    let four = number_at_below 34 2 s in
-    let width = 48 / d in
-    ap (λ k. map (λ axis. size_in k axis r) (upto k)) dims
-    ∙ map-upto_same (λ axis. size_in d axis r) (λ axis. size_in d axis s) d (λ axis used. ap (λ n. cond (nat_lt axis d) (n + 1) 1) (same.same (36 + axis * width) width (size_within d axis (omega arith) (omega arith) used)))
+same_sizes r s same = search (rules, number_at_below, map-upto_same, size_within)
 
 same_long : (r s : List Bool) → SameNumbers r s → is_long_rate r ≡ is_long_rate s
-same_long r s same =
-    let least = same.same 96 15 (lit≤ tt) in
-    let most = same.same 111 15 (lit≤ tt) in
-    let planes = same.same 126 7 (lit≤ tt) in
-    let exponent = same.same 133 15 (lit≤ tt) in
-    cc
+same_long r s same = search rules
 
 same_header : (r s : List Bool) → SameNumbers r s → header_in r ≡ header_in s
-same_header r s same =
-    let sizes = same_sizes r s same in
-    let type = same.same 32 2 (lit≤ tt) in
-    let mode = same.same 84 12 (lit≤ tt) in
-    let least = same.same 96 15 (lit≤ tt) in
-    cc
+same_header r s same = search (rules, same_sizes)
 
 pub header_in-first : (bytes : List ℕ) → header_in (to_bits (take 19 bytes)) ≡ header_in (to_bits bytes)
 header_in-first bytes = same_header _ _ (same_first bytes)
@@ -75,17 +57,7 @@ header_in-first bytes = same_header _ _ (same_first bytes)
 
 same_faults : (a b : List ℕ) → 19 ≤ length a → 19 ≤ length b → SameNumbers (to_bits a) (to_bits b) → header_fault a ≡ header_fault b
 unfolding header_fault
-same_faults a b enough_a enough_b same =
-    let short : nat_lt (length a) 12 ≡ nat_lt (length b) 12 = le-ltb _ _ (omega arith) ∙ sym (le-ltb _ _ (omega arith)) in
-    let shorter : nat_lt (length a) 19 ≡ nat_lt (length b) 19 = le-ltb _ _ enough_a ∙ sym (le-ltb _ _ enough_b) in
-    let first = same.same 0 24 (lit≤ tt) in
-    let number = same.same 24 8 (lit≤ tt) in
-    let type = same.same 32 2 (lit≤ tt) in
-    let dims = same.same 34 2 (lit≤ tt) in
-    let mode = same.same 84 12 (lit≤ tt) in
-    let sizes = same_sizes (to_bits a) (to_bits b) same in
-    let long = same_long (to_bits a) (to_bits b) same in
-    cc
+same_faults a b enough_a enough_b same = search (rules, le-ltb, same_sizes, same_long)
 
 pub header_fault-first : (bytes : List ℕ) → header_fault (take 19 bytes) ≡ header_fault bytes
 header_fault-first bytes = elim (cases_lt (length bytes) 19) [

@@ -1,17 +1,17 @@
 -- What is read is spelled so.
-use Rattle.std.proofs.Common.{◌≡◌, ℕ, zero, suc, ◌+◌, ◌-◌, ◌*◌, ◌/◌, ◌^◌, ◌<◌, ◌≤◌, ◌==◌, Bool, true, cond, List, [], ◌∷◌, ◌++◌, length, map, take, drop, refl, sym, ap, subst, ◌∙◌, arith}
+use Rattle.std.proofs.Common.{rules}
+use Rattle.std.proofs.Common.{◌≡◌, ℕ, zero, suc, ◌+◌, ◌-◌, ◌*◌, ◌<◌, ◌≤◌, ◌==◌, Bool, true, cond, List, [], ◌∷◌, ◌++◌, length, map, take, drop, refl, sym, ap, subst, ◌∙◌, arith}
 use Rattle.std.specs.List.{AllByRecursion}
 use Rattle.std.proofs.lemmas.Bool.{ltb-true, eqb-true, and_parts}
 use Rattle.std.proofs.lemmas.List.{length-take-le, length-take}
 use Rattle.zf_base.specs.declared.lane.Ty.TheVariants.{I32, I64}
 use Rattle.zf_base.specs.Widths.{width_of}
 use Rattle.zf_spec.specs.Numbers.{field}
-use Rattle.zf_spec.specs.Grid.{upto}
 use Rattle.zf_spec.specs.Stream.{codec, type_number, mode_number, all_planes, no_exponent, long_form, fixed_rate, to_bits}
 use Rattle.zf_spec.proofs.Counting.{length-map-upto}
 use Rattle.zf_header.specs.declared.header.Header.{Header}
 use Rattle.zf_header.specs.declared.header.Mode.{Mode}
-use Rattle.zf_header.specs.declared.header.Mode.TheVariants.{Reversible, Rate, Precision}
+use Rattle.zf_header.specs.declared.header.Mode.TheVariants.{Rate}
 use Rattle.zf_header.specs.HeaderBits.{coding, IsHeader, header_bits, BeginsWith}
 use Rattle.zf_header.specs.HeaderFields.{number_at, magic_in, codec_in, type_in, dims_in, size_in, sizes_in, mode_in, long_rate_in, is_long_rate, header_in}
 use Rattle.zf_header.proofs.Parts.{long_fields, header_bits-parts, short_number, long_number, long_form_short, long_form_long}
@@ -46,7 +46,6 @@ seven_pieces p1 p2 p3 p4 p5 p6 p7 = cc
 -- the fields of the long form are the 52 bits behind the mode's number
 long_fields_back : (s : List Bool) → 148 ≤ length s → is_long_rate s ≡ true → (2048 < long_rate_in s) × (long_form (fixed_rate (long_rate_in s)) ≡ take 52 (drop 96 s))
 long_fields_back s within is =
-    let least = number_at 96 15 s in
     let b = long_rate_in s in
     let p = and_parts _ _ is in
     let q = and_parts _ _ p.0 in
@@ -60,26 +59,9 @@ long_fields_back s within is =
     (above, long_form_long b above ∙ fields ∙ rw (take-add_at 96 15 15 s, take-add_at 96 30 7 s, take-add_at 96 37 15 s) refl)
 
 mode_back : (bytes : List ℕ) → 12 ≤ length bytes → GoodMode bytes → ModeBack (to_bits bytes) (header_in (to_bits bytes)).mode
-mode_back bytes enough (short few) =
-    let s = to_bits bytes in
-    let m = mode_in s in
-    let rate : m + 1 ≤ 2048 = omega arith in
-    let back : ModeBack s (Rate (m + 1)) = record {
-      number = omega (arith, short_number (m + 1) rate);
-      more = 0;
-      within = omega (arith, length-to_bits bytes);
-      bits = long_form_short (m + 1) rate;
-    } in
-    subst (ModeBack s) (sym (mode_said-short m (long_rate_in s) few)) back
-mode_back bytes enough (precise low high) =
-    let s = to_bits bytes in
-    let m = mode_in s in
-    let back : ModeBack s (Precision (m - 2047)) = record { number = omega arith; more = 0; within = omega (arith, length-to_bits bytes); bits = refl } in
-    subst (ModeBack s) (sym (mode_said-precision m (long_rate_in s) low high)) back
-mode_back bytes enough (without_loss is) =
-    let s = to_bits bytes in
-    let back : ModeBack s Reversible = record { number = is; more = 0; within = omega (arith, length-to_bits bytes); bits = refl } in
-    subst (ModeBack s) (sym (mode_said-reversible (mode_in s) (long_rate_in s) is)) back
+mode_back bytes enough (short few) = search (rules, short_number, length-to_bits, long_form_short, mode_said-short)
+mode_back bytes enough (precise low high) = search (rules, length-to_bits, mode_said-precision)
+mode_back bytes enough (without_loss is) = search (rules, length-to_bits, mode_said-reversible)
 mode_back bytes enough (long begun more is_rate) =
     let s = to_bits bytes in
     let within : 148 ≤ length s = omega (arith, length-to_bits bytes) in
@@ -93,9 +75,7 @@ joined s more = rw (take-add 24 8 s, take-add 32 2 s, take-add 34 2 s, take-add 
 
 -- a prefix of the bits is the prefix of its length
 begins : (bytes : List ℕ) (h : Header) (n : ℕ) → n ≤ length (to_bits bytes) → header_bits h ≡ take n (to_bits bytes) → BeginsWith bytes h
-begins bytes h n within is =
-    let count : length (header_bits h) ≡ n = ap length is ∙ length-take-le n (to_bits bytes) within in
-    record { bits = ap (λ k. take k (to_bits bytes)) count ∙ sym is }
+begins bytes h n within is = search (rules, length-take-le)
 
 -- bytes without a fault begin with the header that their fields say
 pub read_is_spelled : (bytes : List ℕ) → Good bytes → BeginsWith bytes (header_in (to_bits bytes))
@@ -122,22 +102,7 @@ all_of_map P f (k ∷ ks) each = (each k, all_of_map P f ks each)
 
 -- what the fields of bytes without a fault say is a header
 pub read_is_header : (bytes : List ℕ) → Good bytes → IsHeader (header_in (to_bits bytes))
-read_is_header bytes g =
-    let s = to_bits bytes in
-    let d = dims_in s in
-    let dims_small = number_at_below 34 2 s in
-    let size : ℕ → ℕ = λ axis. size_in d axis s in
-    let count : length (sizes_in s) ≡ d = length-map-upto size d in
-    record {
-      shape = record {
-        some_dimension = omega (arith, count);
-        four_at_most = omega (arith, count);
-        not_zero = all_of_map (λ n. 1 ≤ n) size (upto d) (λ k. (size_bounds d k s).0);
-        fields = all_of_map (λ n. n ≤ 2 ^ (48 / length (sizes_in s))) size (upto d) (λ k. rw count (size_bounds d k s).1);
-        not_too_large = g.is_size;
-      };
-      mode = header_in-mode s;
-    }
+read_is_header bytes g = grind (arith, number_at_below, length-map-upto, all_of_map, size_bounds, header_in-mode)
 
 -- a header lies within the bytes that begin with it
 pub begins_within : (bytes : List ℕ) (h : Header) → BeginsWith bytes h → length (header_bits h) ≤ 8 * length bytes

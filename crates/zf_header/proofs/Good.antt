@@ -1,5 +1,6 @@
 -- What bytes without a fault are.
-use Rattle.std.proofs.Common.{◌≡◌, ℕ, ◌^◌, ◌<◌, ◌≤◌, ◌==◌, Bool, true, false, not, ◌&&◌, ◌||◌, cond, nat_lt, nat_le, List, [], ◌∷◌, ◌++◌, length, Some, None, refl, ap, ◌∙◌, inl, inr, arith}
+use Rattle.std.proofs.Common.{rules}
+use Rattle.std.proofs.Common.{◌≡◌, ℕ, ◌^◌, ◌<◌, ◌≤◌, ◌==◌, Bool, true, false, not, ◌&&◌, ◌||◌, cond, nat_le, List, [], ◌∷◌, length, Some, None, refl, arith}
 use Rattle.std.specs.List.{AllByRecursion}
 use Rattle.std.proofs.lemmas.Bool.{ltb-false, leb-false, le-leb, cases_lt, cases_eq, eq-eqb, ne_eqb, le-ltb, lt-leb, and_left, and_right, not_from_true, not-false}
 use Rattle.std.proofs.lemmas.Bool.Decides.{nat_tests}
@@ -7,7 +8,7 @@ use Rattle.zf_spec.specs.Grid.{product, max_values}
 use Rattle.zf_spec.specs.Stream.{magic, codec, to_bits}
 use Rattle.zf_header.specs.declared.header.HeaderFault.{HeaderFault}
 use Rattle.zf_header.specs.HeaderFields.{magic_in, codec_in, type_in, dims_in, sizes_in, mode_in, is_long_rate}
-use Rattle.zf_header.specs.HeaderFaults.{first_fault, prefix_faults, size_faults, mode_faults, header_fault}
+use Rattle.zf_header.specs.HeaderFaults.{first_fault, mode_faults, header_fault}
 use Rattle.zf_header.proofs.Bits.{number_at_below}
 
 -- no line holds
@@ -50,35 +51,11 @@ outside : (a m b : ℕ) → (nat_le a m && nat_le m b) ≡ false → a ≤ m →
 outside a m b e above = leb-false m b (beside (nat_le a m) (nat_le m b) e (le-leb a m above))
 
 good_mode : (bytes : List ℕ) → AllFalse (mode_faults bytes) → mode_in (to_bits bytes) < 2 ^ 12 → GoodMode bytes
-good_mode bytes none small =
-    let m = mode_in (to_bits bytes) in
-    elim (cases_lt m 2048) [
-      | inl lt ↦ short (omega arith)
-      | inr le ↦ elim (cases_lt 2175 m) [
-        | inr few ↦ precise le few
-        | inl more ↦ elim (cases_eq m 2176) [
-          | inl e ↦ without_loss e
-          | inr ne ↦
-              let above_accuracy = outside 2177 m 4094 none.0 (omega arith) in
-              let begun : m ≡ 4095 = omega arith in
-              let test = eq-eqb m 4095 begun in
-              long begun (ltb-false _ _ (beside (m == 4095) (nat_lt (length bytes) 19) none.1.0 test)) (not-false _ (beside (m == 4095) (not (is_long_rate (to_bits bytes))) none.1.1.0 test))
-        ]
-      ]
-    ]
+good_mode bytes none small = search (rules, cases_lt, cases_eq, outside, eq-eqb, ltb-false, beside, not-false)
 
 pub good : (bytes : List ℕ) → None ≡ header_fault bytes → Good bytes
 unfolding header_fault
-good bytes none =
-    let lines = all_false (prefix_faults bytes ++ size_faults bytes ++ mode_faults bytes) none in
-    record {
-      enough = ltb-false _ _ lines.0;
-      is_magic = not_false _ _ lines.1.0;
-      is_codec = not_false _ _ lines.1.1.1.1.0;
-      is_type = ltb-false _ _ lines.1.1.1.0;
-      is_size = ltb-false _ _ lines.1.1.1.1.1.0;
-      is_mode = good_mode bytes lines.1.1.1.1.1.1 (number_at_below 84 12 (to_bits bytes));
-    }
+good bytes none = grind (arith, all_false, ltb-false, not_false, good_mode, number_at_below)
 
 -- ---- and the other way round
 
@@ -92,28 +69,14 @@ above_range : (a m b : ℕ) → b < m → (nat_le a m && nat_le m b) ≡ false
 above_range a m b lt = and_right _ _ (lt-leb m b lt)
 
 mode_lines : (bytes : List ℕ) → GoodMode bytes → AllFalse (mode_faults bytes)
-mode_lines bytes (short few) =
-    let m = mode_in (to_bits bytes) in
-    let other = ne_eqb m 4095 (λ e. omega arith) in
-    (below_range 2177 m 4094 (omega arith), (and_left _ _ other, (and_left _ _ other, tt)))
-mode_lines bytes (precise low high) =
-    let m = mode_in (to_bits bytes) in
-    let other = ne_eqb m 4095 (λ e. omega arith) in
-    (below_range 2177 m 4094 (omega arith), (and_left _ _ other, (and_left _ _ other, tt)))
-mode_lines bytes (without_loss is) =
-    let m = mode_in (to_bits bytes) in
-    let other = ne_eqb m 4095 (λ e. omega arith) in
-    (below_range 2177 m 4094 (omega arith), (and_left _ _ other, (and_left _ _ other, tt)))
-mode_lines bytes (long begun enough is_rate) =
-    let m = mode_in (to_bits bytes) in
-    (above_range 2177 m 4094 (omega arith), (and_right _ _ (le-ltb _ _ enough), (and_right _ _ (not_from_true _ is_rate), tt)))
+mode_lines bytes (short few) = search (rules, ne_eqb, below_range, and_left)
+mode_lines bytes (precise low high) = search (rules, ne_eqb, below_range, and_left)
+mode_lines bytes (without_loss is) = search (rules, ne_eqb, below_range, and_left)
+mode_lines bytes (long begun enough is_rate) = search (rules, above_range, and_right, le-ltb, not_from_true)
 
 codec_known : (d : ℕ) → (codec d == 5 || codec d == 69) ≡ true
 codec_known d = elim (nat_le d 2) as (λ t. (cond t 5 69 == 5 || cond t 5 69 == 69) ≡ true) [ true ↦ refl | false ↦ refl ]
 
 pub no_fault_of_good : (bytes : List ℕ) → Good bytes → None ≡ header_fault bytes
 unfolding header_fault
-no_fault_of_good bytes g =
-    let known = ap (λ c. c == 5 || c == 69) g.is_codec ∙ codec_known (dims_in (to_bits bytes)) in
-    no_fault (prefix_faults bytes ++ size_faults bytes ++ mode_faults bytes)
-    (le-ltb _ _ g.enough, (equal _ _ g.is_magic, (not_from_true _ known, (le-ltb _ _ g.is_type, (equal _ _ g.is_codec, (le-ltb _ _ g.is_size, mode_lines bytes g.is_mode))))))
+no_fault_of_good bytes g = search (rules, codec_known, no_fault, le-ltb, equal, not_from_true, mode_lines)

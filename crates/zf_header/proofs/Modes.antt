@@ -1,6 +1,7 @@
 -- The mode that fields say.
-use Rattle.std.proofs.Common.{◌≡◌, ℕ, ◌+◌, ◌-◌, ◌<◌, ◌≤◌, ◌^◌, ◌==◌, Bool, true, false, ◌&&◌, cond, nat_le, List, refl, ap, ◌∙◌, le-leb, arith, inl, inr}
-use Rattle.std.proofs.lemmas.Bool.{cases_lt, ne_eqb, lt-leb, and_from, and_left, and_right, and_parts, leb-true}
+use Rattle.std.proofs.Common.{rules}
+use Rattle.std.proofs.Common.{◌≡◌, ℕ, ◌+◌, ◌-◌, ◌<◌, ◌≤◌, ◌^◌, Bool, true, false, ◌&&◌, nat_le, List, refl, ap, ◌∙◌, le-leb, arith}
+use Rattle.std.proofs.lemmas.Bool.{cases_lt, ne_eqb, lt-leb, and_from, and_left, and_parts, leb-true}
 use Rattle.zf_spec.specs.Stream.{mode_number}
 use Rattle.zf_header.specs.declared.header.Mode.{Mode}
 use Rattle.zf_header.specs.declared.header.Mode.TheVariants.{Reversible, Rate, Precision}
@@ -41,15 +42,7 @@ mode_said-long m l is = rw is refl
 
 -- a mode that was read can be stated
 said_is_mode : (m l : ℕ) → m < 2 ^ 12 → 1 ≤ l → l ≤ 32768 → IsMode (mode_said m l)
-said_is_mode m l small some most =
-    elim (m == 2176) as (λ t. IsMode (cond t Reversible (cond (is_precision m) (Precision (m - 2047)) (Rate (cond (m == 4095) l (m + 1)))))) [
-      | true ↦ tt
-      | false ↦ precise (is_precision m) refl
-    ]
-  where
-    precise : (t : Bool) → is_precision m ≡ t → IsMode (cond t (Precision (m - 2047)) (Rate (cond (m == 4095) l (m + 1))))
-    precise true e = let both = and_parts (nat_le 2048 m) (nat_le m 2175) e in (omega (arith, leb-true 2048 m both.0), omega (arith, leb-true m 2175 both.1))
-    precise false e = elim (m == 4095) as (λ t. IsRate (Rate (cond t l (m + 1)))) [ true ↦ (some, most) | false ↦ (omega arith, omega arith) ]
+said_is_mode m l small some most = search (rules, and_parts, leb-true)
 
 pub header_in-mode : (s : List Bool) → IsMode (header_in s).mode
 header_in-mode s = said_is_mode (mode_in s) (long_rate_in s) (number_at_below 84 12 s) (omega arith) (omega (arith, number_at_below 96 15 s))
@@ -58,7 +51,4 @@ header_in-mode s = said_is_mode (mode_in s) (long_rate_in s) (number_at_below 84
 pub mode_again : (s : List Bool) (mode : Mode) → IsMode mode → mode_in s ≡ mode_number (coding mode) → ((b : ℕ) → mode ≡ Rate b → 2048 < b → (long_rate_in s ≡ b) × (is_long_rate s ≡ true)) → mode_said (mode_in s) (long_rate_in s) ≡ mode
 mode_again s Reversible has is long_is = mode_said-reversible (mode_in s) (long_rate_in s) is
 mode_again s (Precision p) has is long_is = mode_said-precision (mode_in s) (long_rate_in s) (omega arith) (omega arith) ∙ ap Precision (omega arith)
-mode_again s (Rate b) has is long_is = elim (cases_lt 2048 b) [
-  | inl lt ↦ mode_said-long (mode_in s) (long_rate_in s) (is ∙ long_number b lt) ∙ ap Rate (long_is b refl lt).0
-  | inr le ↦ let number = is ∙ short_number b le in mode_said-short (mode_in s) (long_rate_in s) (omega arith) ∙ ap Rate (omega (arith, number, has.0))
-]
+mode_again s (Rate b) has is long_is = search (rules, cases_lt, mode_said-long, long_number, short_number, mode_said-short)

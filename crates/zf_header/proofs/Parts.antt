@@ -1,5 +1,6 @@
 -- A header field by field, and how long it is.
-use Rattle.std.proofs.Common.{◌≡◌, ◌≢◌, ℕ, ◌+◌, ◌-◌, ◌/◌, ◌<◌, ◌≤◌, Bool, cond, List, [], ◌++◌, length, refl, ap, arith, inl, inr, le-leb}
+use Rattle.std.proofs.Common.{rules}
+use Rattle.std.proofs.Common.{◌≡◌, ◌≢◌, ℕ, ◌+◌, ◌-◌, ◌/◌, ◌<◌, ◌≤◌, Bool, cond, List, [], ◌++◌, length, refl, ap, arith, le-leb}
 use Rattle.std.proofs.lemmas.Bool.{lt-leb, cases_lt}
 use Rattle.std.specs.List.{flat_map}
 use Rattle.zf_base.specs.Widths.{width_of}
@@ -49,27 +50,18 @@ long_form_long b lt = ap (λ t. cond t [] (long_fields b)) (lt-leb b 2048 lt)
 pub length-long_form_begun : (m : Mode) → IsMode m → mode_number (coding m) ≡ 4095 → length (long_form (coding m)) ≡ 52
 length-long_form_begun Reversible has is = absurd (omega arith)
 length-long_form_begun (Precision p) has is = absurd (omega arith)
-length-long_form_begun (Rate b) has is = elim (cases_lt 2048 b) [
-  | inl lt ↦ length-long_form b lt
-  | inr le ↦ absurd (omega (arith, short_number b le))
-]
+length-long_form_begun (Rate b) has is = search (rules, cases_lt, length-long_form, short_number)
 
 pub length-long_form_none : (m : Mode) → mode_number (coding m) ≢ 4095 → length (long_form (coding m)) ≡ 0
 length-long_form_none Reversible is_not = refl
 length-long_form_none (Precision p) is_not = refl
-length-long_form_none (Rate b) is_not = elim (cases_lt 2048 b) [
-  | inl lt ↦ absurd (is_not (long_number b lt))
-  | inr le ↦ length-short_form b le
-]
+length-long_form_none (Rate b) is_not = search (rules, cases_lt, long_number, length-short_form)
 
 -- no header is longer than one with the long form
 length-long_form-le : (m : Mode) → length (long_form (coding m)) ≤ 52
 length-long_form-le Reversible = omega arith
 length-long_form-le (Precision p) = omega arith
-length-long_form-le (Rate b) = elim (cases_lt 2048 b) [
-  | inl lt ↦ omega (arith, length-long_form b lt)
-  | inr le ↦ omega (arith, length-short_form b le)
-]
+length-long_form-le (Rate b) = search (rules, cases_lt, length-long_form, length-short_form)
 
 pub length-header_bits_le : (h : Header) → IsShape h.shape → length (header_bits h) ≤ 148
 length-header_bits_le h shape = omega (arith, length-header_bits h shape, length-long_form-le h.mode)

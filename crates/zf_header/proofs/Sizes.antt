@@ -27,7 +27,6 @@ length-fields w (n ∷ ns) = length-append (field w (n - 1)) (fields w ns) ∙ o
 fields-sizes_at : (w at n : ℕ) (s : List Bool) → at + n * w ≤ length s → fields w (sizes_at w at n s) ≡ take (n * w) (drop at s)
 fields-sizes_at w at zero s within = let none : zero * w ≡ 0 = omega arith in rw none refl
 fields-sizes_at w at (suc n) s within =
-    let more = suc-mul n w in
     let less : number_at at w s + 1 - 1 ≡ number_at at w s = omega arith in
     let here = ap (field w) less ∙ field-number_at_place at w s (omega arith) in
     let others = fields-sizes_at w (at + w) n s (omega arith) ∙ ap (take (n * w)) (sym (drop-drop w at s)) in

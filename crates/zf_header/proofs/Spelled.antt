@@ -1,4 +1,5 @@
 -- What is spelled so is read.
+use Rattle.std.proofs.Common.{rules}
 use Rattle.std.proofs.Common.{◌≡◌, ℕ, ◌+◌, ◌-◌, ◌^◌, ◌<◌, ◌≤◌, ◌==◌, Bool, true, false, cond, nat_le, List, [], ◌++◌, length, map, drop, refl, sym, ap, subst, ◌∙◌, arith, append_assoc, length-append, length-take, lit<, lit≤, None, inl, inr}
 use Rattle.std.proofs.lemmas.Bool.{cases_lt, lt-ltb, eq-eqb, and_from}
 use Rattle.std.proofs.lemmas.List.{take-append-drop}
@@ -6,14 +7,14 @@ use Rattle.zf_base.specs.declared.lane.Ty.{Ty}
 use Rattle.zf_base.specs.declared.lane.Ty.TheVariants.{I32, I64}
 use Rattle.zf_base.specs.Widths.{width_of}
 use Rattle.zf_spec.specs.Numbers.{field}
-use Rattle.zf_spec.specs.Grid.{upto, product}
+use Rattle.zf_spec.specs.Grid.{upto}
 use Rattle.zf_spec.specs.Stream.{magic, codec, type_number, mode_number, all_planes, no_exponent, long_form, to_bits}
 use Rattle.zf_spec.proofs.Fields.{length-field}
 use Rattle.zf_header.specs.declared.header.Header.{Header}
 use Rattle.zf_header.specs.declared.header.Mode.{Mode}
 use Rattle.zf_header.specs.declared.header.Mode.TheVariants.{Reversible, Rate, Precision}
 use Rattle.zf_header.specs.HeaderBits.{coding, IsMode, IsRate, IsHeader, header_bits, BeginsWith}
-use Rattle.zf_header.specs.HeaderFields.{number_at, magic_in, codec_in, type_in, dims_in, size_in, sizes_in, mode_in, long_rate_in, is_long_rate, header_in}
+use Rattle.zf_header.specs.HeaderFields.{number_at, magic_in, codec_in, type_in, dims_in, size_in, mode_in, long_rate_in, is_long_rate, header_in}
 use Rattle.zf_header.specs.HeaderFaults.{header_fault}
 use Rattle.zf_header.proofs.Parts.{size_bits, long_fields, header_bits-parts, length-header_bits, short_number, long_number, long_form_long, length-long_form_begun}
 use Rattle.zf_header.proofs.Pieces.{number_at_piece}
@@ -53,10 +54,7 @@ type_small I64 = lit< tt
 mode_small : (mode : Mode) → IsMode mode → mode_number (coding mode) < 2 ^ 12
 mode_small Reversible has = lit< tt
 mode_small (Precision p) has = omega arith
-mode_small (Rate b) has = elim (cases_lt 2048 b) [
-  | inl lt ↦ omega (arith, long_number b lt)
-  | inr le ↦ omega (arith, short_number b le)
-]
+mode_small (Rate b) has = search (rules, cases_lt, long_number, short_number)
 
 regroup4 : (x a b c d y : List Bool) → (x ++ (a ++ b ++ c ++ d)) ++ y ≡ (x ++ a) ++ (b ++ (c ++ (d ++ y)))
 regroup4 x a b c d y = simp append_assoc
@@ -134,11 +132,7 @@ type_again I32 t e = rw e refl
 type_again I64 t e = rw e refl
 
 pub says_header : (s : List Bool) (h : Header) → IsHeader h → Says s h → header_in s ≡ h
-says_header s h is says =
-    let ty = type_again h.ty (type_in s) says.type_is in
-    let shape : sizes_in s ≡ h.shape = rw says.dims_is says.sizes_are in
-    let mode = mode_again s h.mode is.mode says.mode_is says.long_is in
-    same_header ty shape mode
+says_header s h is says = search (rules, type_again, mode_again, same_header)
 
 -- a header has one spelling, and none begins another
 pub one_header : (g h : Header) (x y : List Bool) → IsHeader g → IsHeader h → header_bits g ++ x ≡ header_bits h ++ y → g ≡ h
@@ -156,18 +150,7 @@ good_mode_said bytes (Rate b) has is enough long_is = elim (cases_lt 2048 b) [
 ]
 
 pub good_of_says : (bytes : List ℕ) (h : Header) → IsHeader h → length (header_bits h) ≤ length (to_bits bytes) → Says (to_bits bytes) h → Good bytes
-good_of_says bytes h is within says =
-    let s = to_bits bytes in
-    let whole = length-header_bits h is.shape in
-    let shape : sizes_in s ≡ h.shape = rw says.dims_is says.sizes_are in
-    record {
-      enough = omega (arith, length-to_bits bytes);
-      is_magic = says.magic_is;
-      is_codec = says.codec_is ∙ ap codec (sym says.dims_is);
-      is_type = omega (arith, says.type_is, type_le h.ty);
-      is_size = omega (arith, ap product shape, is.shape.not_too_large);
-      is_mode = good_mode_said bytes h.mode is.mode says.mode_is (λ begun. omega (arith, length-to_bits bytes, length-long_form_begun h.mode is.mode begun)) says.long_is;
-    }
+good_of_says bytes h is within says = search (rules, length-header_bits, length-to_bits, type_le, good_mode_said, length-long_form_begun)
 
 -- the fields of bytes that begin with a header say it
 spelled_in : (bytes : List ℕ) (h : Header) → IsHeader h → BeginsWith bytes h → Says (to_bits bytes) h

@@ -38,7 +38,6 @@ module _ {X : Type 0} where
   line_at-rows zero n xs i lt = absurd (omega arith)
   line_at-rows (suc l) n xs zero lt = ap (λ k. take n (drop k xs)) (sym (zero-mul n))
   line_at-rows (suc l) n xs (suc i) lt =
-      let on : i * n + n ≡ suc i * n = omega (arith, suc-mul i n) in
       let swap : n + i * n ≡ suc i * n = omega (arith, suc-mul i n) in
       line_at-rows l n (drop n xs) i (omega arith) ∙ ap (take n) (drop-drop (i * n) n xs ∙ ap (λ k. drop k xs) swap)
 
@@ -67,7 +66,7 @@ module _ {X : Type 0} where
   pub rows-replicate : (l n : ℕ) (x : X) → rows l n (replicate (l * n) x) ≡ replicate l (replicate n x)
   rows-replicate zero n x = refl
   rows-replicate (suc l) n x =
-      let count : suc l * n ≡ l * n + n = omega (arith, suc-mul l n) in let less : suc l * n - n ≡ l * n = omega (arith, suc-mul l n) in
+      let less : suc l * n - n ≡ l * n = omega (arith, suc-mul l n) in
       λ i. take-replicate n (suc l * n) x (omega (arith, suc-mul l n)) i
       ∷ (ap (rows l n) (drop-replicate n (suc l * n) x ∙ ap (λ k. replicate k x) less) ∙ rows-replicate l n x) i
 

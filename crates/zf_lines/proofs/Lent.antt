@@ -1,5 +1,5 @@
 -- What `Lines` are once a run of their values was lent.
-use Rattle.std.proofs.Common.{◌≡◌, ℕ, ◌+◌, ◌-◌, ◌*◌, ◌<◌, ◌≤◌, List, [], ◌∷◌, ◌++◌, map, length, take, drop, get_or, slice_set, Some, None, sym, ap, subst, ◌∙◌, arith, length-take, length-drop, drop-drop, append-nil}
+use Rattle.std.proofs.Common.{◌≡◌, ℕ, ◌+◌, ◌-◌, ◌*◌, ◌<◌, ◌≤◌, List, [], ◌∷◌, ◌++◌, map, length, take, drop, get_or, slice_set, Some, None, sym, ap, subst, ◌∙◌, arith, length-take, length-drop, drop-drop, append-nil, rules}
 use Rattle.std.proofs.lemmas.List.{length-map, drop_all, drop-take, take-take, get_or-take, get_or-drop}
 use Rattle.std.specs.List.{refill, length_refill}
 use Rattle.std.specs.declared.alloc.Global.{Global}
@@ -60,13 +60,7 @@ module _ {X : Type 0} (base : Base X) (lines len : ℕ) (cells : Cells X) (deed 
 
       -- the lines are whole again, whatever was written
       pub stays_filled : IsFilled base lines len now deed alloc
-      stays_filled =
-          record {
-            own = h.own;
-            full = slots_are ∙ ap (map Some) (sym values_now);
-            size = ap length slots_are ∙ length-map (splice from n ws xs) Some ∙ length-splice from n ws xs (omega (arith, long)) as_long ∙ long;
-            small = h.small;
-          }
+      stays_filled = search (rules, slots_are, values_now, length-map, splice, length-splice, long, as_long)
 
   -- one place is a run of one
   pub place_held : (at : ℕ) → at + 1 ≤ lines * len → IsHeld cells.slots at
@@ -117,10 +111,7 @@ module _ {X : Type 0} (base : Base X) (lines len : ℕ) (cells : Cells X) (deed 
       run = take m (drop (i * len + a) xs)
 
       part_is : part (line_at blocks i) a m ≡ run
-      part_is =
-          let swap : a + i * len ≡ i * len + a = omega arith in
-          ap (λ l. take m (drop a l)) line_is ∙ part_of_taken a m len (drop (i * len) xs) (omega (arith, length-line))
-          ∙ ap (take m) (drop-drop a (i * len) xs)
+      part_is = search (rules, line_is, part_of_taken, length-line, drop-drop)
 
       pub part_value : run ≡ part (line_at self i) a m
       part_value = sym part_is ∙ ap (λ ls. part (line_at ls i) a m) is
@@ -140,6 +131,4 @@ module _ {X : Type 0} (base : Base X) (lines len : ℕ) (cells : Cells X) (deed 
 
     -- the value at a place of block i
     pub value_at : (a : ℕ) (x : X) → a < length (line_at self i) → get_or cells.slots (i * len + a) None ≡ Some x → get_or (line_at self i) a x ≡ x
-    value_at a x lt e =
-        ap (λ l. get_or l a x) (sym line_value) ∙ get_or-take len (drop (i * len) xs) a x (omega (arith, length-line)) ∙ get_or-drop (i * len) xs a x
-        ∙ held_value xs (i * len + a) x (ap (λ cs. get_or cs (i * len + a) None) (sym h.full) ∙ e)
+    value_at a x lt e = search (rules, line_value, get_or-take, length-line, get_or-drop, held_value)

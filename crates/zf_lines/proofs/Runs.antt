@@ -1,5 +1,5 @@
 -- Places that all hold values, and a run of them written over.
-use Rattle.std.proofs.Common.{◌≡◌, ℕ, zero, suc, ◌+◌, ◌-◌, ◌<◌, List, [], ◌∷◌, ◌++◌, map, length, take, drop, replicate, get_or, Option, Some, None, slice_set, refl, sym, ap, ◌∙◌, arith}
+use Rattle.std.proofs.Common.{◌≡◌, ℕ, zero, suc, ◌+◌, ◌-◌, ◌<◌, List, [], ◌∷◌, ◌++◌, map, length, take, drop, replicate, get_or, Option, Some, None, slice_set, refl, sym, ap, ◌∙◌, arith, rules}
 use Rattle.std.proofs.lemmas.List.{take-map, drop-map, map-append, set_split}
 use Rattle.zf_lines.specs.Places.{somes, IsHeld}
 use Rattle.zf_lines.specs.Lends.{spliced}
@@ -19,10 +19,7 @@ module _ {X : Type 0} where
 
   -- a run written over in the places is that run written over in the values
   pub spliced_map : (xs ws : List X) (from n : ℕ) → spliced (map Some xs) from n ws ≡ map Some (splice from n ws xs)
-  spliced_map xs ws from n =
-      (λ i. take-map Some from xs i ++ (map Some ws ++ drop-map Some (from + n) xs i))
-      ∙ ap (λ l. map Some (take from xs) ++ l) (sym (map-append Some ws (drop (from + n) xs)))
-      ∙ sym (map-append Some (take from xs) (ws ++ drop (from + n) xs))
+  spliced_map xs ws from n = search (rules, take-map, drop-map, map-append)
 
 module _ {X : Type 0} where
   -- each place of values holds one

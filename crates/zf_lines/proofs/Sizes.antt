@@ -1,5 +1,5 @@
 -- Blocks keep their number and their length, whatever is written through a loan.
-use Rattle.std.proofs.Common.{◌≡◌, ℕ, zero, suc, ◌+◌, ◌<◌, List, [], ◌∷◌, ◌++◌, length, take, drop, slice_set, replicate, refl, sym, ap, ◌∙◌, arith, length-set, append-nil}
+use Rattle.std.proofs.Common.{◌≡◌, ℕ, zero, suc, ◌<◌, List, [], ◌∷◌, length, slice_set, replicate, refl, sym, ap, ◌∙◌, length-set, append-nil, rules}
 use Rattle.std.proofs.lemmas.List.{length-replicate, get_or-replicate, drop_all, take_all}
 use Rattle.std.specs.List.{length_refill}
 use Rattle.zf_lines.specs.Rows.{line_at, HasSize, over}
@@ -10,9 +10,7 @@ module _ {X : Type 0} where
 
   -- a list as long as the one it is written over stays as it is
   pub over_same : (xs ws : List X) → length ws ≡ length xs → over xs ws ≡ ws
-  over_same xs ws e =
-      let none : drop (length ws) xs ≡ [] = drop_all (length ws) xs (omega arith) in
-      ap (λ l. take (length xs) (ws ++ l)) none ∙ ap (take (length xs)) (append-nil ws) ∙ take_all (length xs) ws (omega arith)
+  over_same xs ws e = search (rules, drop_all, append-nil, take_all)
 
   -- a block as long as the one in whose place it comes
   length-line_at-set : (ls : List (List X)) (i j : ℕ) (ws : List X) → length ws ≡ length (line_at ls i) → length (line_at (slice_set ls i ws) j) ≡ length (line_at ls j)

@@ -1,4 +1,5 @@
 -- The sums of coefficients of which all but the first are zero: each is the first coefficient.
+use Rattle.std.proofs.Common.{rules}
 use Rattle.std.proofs.Common.{◌≡◌, refl, sym, ap, ◌∙◌, ℕ, zero, suc, ◌-◌, ◌/◌, ◌^◌, ◌≤◌, ℤ, pos, ◌+ℤ◌, ◌*ℤ◌, [], ◌∷◌, replicate, FitsSigned, arith}
 use Rattle.std.proofs.lemmas.Int.{ints}
 use Rattle.std.proofs.lemmas.List.{length-replicate, get_or-replicate}
@@ -23,10 +24,7 @@ sum_of_zeros f k (suc n) = ap (λ t. t +ℤ weighted_sum f (suc k) (replicate n 
 
 sum_of_first : (d m n : ℕ) (v : ℤ) → weighted_sum (weight plain_choose d m) 0 (v ∷ replicate n (pos 0)) ≡ v
 unfolding lib.IntN.one
-sum_of_first d m n v =
-    let rest = sum_of_zeros (weight plain_choose d m) 1 n in
-    let one : weight plain_choose d m 0 *ℤ v ≡ v = ap (λ n. n *ℤ v) (weight_of_first d m) ∙ *ℤ_comm (pos 1) v ∙ *ℤ-one v in
-    omega (arith, ints, rest, one)
+sum_of_first d m n v = search (rules, sum_of_zeros, weight_of_first, *ℤ_comm, *ℤ-one, ints)
 
 pub unlorenzo-first : (w : Width) (d : ℕ) (v : ℤ) → FitsSigned w v → unlorenzo w d (v ∷ replicate (4 ^ d - 1) (pos 0)) ≡ replicate (4 ^ d) v
 unfolding unlorenzo
@@ -43,11 +41,7 @@ differences_of_same w v fits =
     let none : wrap w (pos 0) ≡ pos 0 = wrap_value w (pos 0) (zero_fits w) in
     let second : wrap w (sum 1) ≡ pos 0 = ap (wrap w) (omega (arith, ints)) ∙ none in
     let third : wrap w (sum 2) ≡ pos 0 = ap (wrap w) (omega (arith, ints)) ∙ none in
-    let fourth : wrap w (sum 3) ≡ pos 0 = ap (wrap w) (omega (arith, ints)) ∙ none in
-    ap (λ x. x ∷ wrap w (sum 1) ∷ wrap w (sum 2) ∷ wrap w (sum 3) ∷ []) first
-    ∙ ap (λ x. v ∷ x ∷ wrap w (sum 2) ∷ wrap w (sum 3) ∷ []) second
-    ∙ ap (λ x. v ∷ pos 0 ∷ x ∷ wrap w (sum 3) ∷ []) third
-    ∙ ap (λ (x : ℤ). v ∷ pos 0 ∷ pos 0 ∷ x ∷ []) fourth
+    let fourth : wrap w (sum 3) ≡ pos 0 = ap (wrap w) (omega (arith, ints)) ∙ none in search rules
 
 pub lorenzo-same : (w : Width) (d : ℕ) (v : ℤ) → 1 ≤ d → FitsSigned w v → lorenzo w d (replicate (4 ^ d) v) ≡ v ∷ replicate (4 ^ d - 1) (pos 0)
 unfolding lorenzo

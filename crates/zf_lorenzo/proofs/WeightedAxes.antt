@@ -1,4 +1,5 @@
 -- Passes along all axes are one weighted sum over the block.
+use Rattle.std.proofs.Common.{rules}
 use Rattle.std.proofs.Common.{◌≡◌, ℕ, zero, suc, ◌+◌, ◌-◌, ◌*◌, ◌/◌, ◌%◌, ◌^◌, ◌<◌, ◌≤◌, ℤ, pos, ◌*ℤ◌, List, All, length, map, get_or, sym, ap, subst, ◌∙◌, arith, FitsSigned}
 use Rattle.std.proofs.lemmas.Int.{ints}
 use Rattle.std.proofs.lemmas.List.{ext_get_or}
@@ -94,8 +95,7 @@ along_axes_is n axis step (suc d) offset q block some inside below size =
     let last = mul-le-mul_left (4 * step) inside' in
     ap (λ v. weight axis d others j *ℤ v) (along_at_line n axis step offset m j block some inside (omega arith) (omega arith))) in
     let exact : IsSameModulo (bits n) (total (λ j. weight axis d others j *ℤ wrap n (lines j)) 0 (4 ^ d)) (total (λ j. weight axis d others j *ℤ lines j) 0 (4 ^ d)) =
-    total_same_modulo (bits n) (λ j. weight axis d others j *ℤ wrap n (lines j)) (λ j. weight axis d others j *ℤ lines j) 0 (4 ^ d)
-    (λ j. same_modulo_mul (bits n) (weight axis d others j) (wrap n (lines j)) (lines j) (wrap_is_same n (lines j))) in
+    search (rules, total_same_modulo, same_modulo_mul, wrap_is_same) in
     rw (place, axes_sum-lines axis step d offset q block) (same_modulo_trans (bits n) _ _ _ (rw sums at rest) exact)
 
 -- ---- the wrapped sums over the whole block

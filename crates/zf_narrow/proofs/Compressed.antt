@@ -1,5 +1,6 @@
 -- How a compression of narrow values ends, from how that of their int32 bytes does.
-use Rattle.std.proofs.Common.{◌≡◌, refl, sym, ap, subst, ◌∙◌, ℕ, ◌+◌, ◌*◌, ◌/◌, ◌%◌, ◌≤◌, ◌<◌, ◌⊎◌, inl, inr, ⊎_elim, Bool, true, false, IsTrue, List, [], ◌++◌, length, drop, replicate, Option, Some, None, Result, Ok, Err, append-nil, length-append, arith}
+use Rattle.std.proofs.Common.{rules}
+use Rattle.std.proofs.Common.{◌≡◌, refl, sym, ap, subst, ◌∙◌, ℕ, ◌+◌, ◌*◌, ◌/◌, ◌%◌, ◌≤◌, ◌<◌, ◌⊎◌, inl, inr, ⊎_elim, Bool, false, IsTrue, List, [], ◌++◌, length, drop, replicate, Option, Some, None, Result, Ok, Err, append-nil, length-append, arith}
 use Rattle.std.specs.Prelude.{IsErrAnd, IfErr}
 use Rattle.std.proofs.lemmas.Bool.{cases_lt}
 use Rattle.std.proofs.lemmas.List.{drop_all, length-drop, length-replicate}
@@ -11,7 +12,6 @@ use Rattle.zf_base.specs.declared.lane.Ty.TheVariants.{I32}
 use Rattle.zf_header.specs.declared.header.Header.{Header}
 use Rattle.zf_dev.specs.Source.{Takes, Gives, IsAtEnd}
 use Rattle.zf_dev.specs.Sink.{Appends, AppendsPrefix}
-use Rattle.zf_dev.proofs.Taking.{Takes-to_end}
 use Rattle.zf_parse.specs.declared.fault.StreamFault.{StreamFault}
 use Rattle.zf_parse.specs.declared.fault.StreamFault.TheVariants as faults
 use Rattle.zf_parse.specs.Raw.{raw_len, length_answer, compress_answer, stream_text}
@@ -72,14 +72,7 @@ LengthSays wanted bytes (Err faults.RawLong) = wanted < length bytes
 LengthSays wanted bytes (Err e) = ⊥
 
 length_says : (wanted : ℕ) (bytes : List ℕ) (r : Result (Unit {0}) StreamFault) → length_answer wanted bytes ≡ r → LengthSays wanted bytes r
-length_says wanted bytes r is = subst (LengthSays wanted bytes) is (says (cases_lt (length bytes) wanted) (cases_lt wanted (length bytes)))
-  where
-    says : (length bytes < wanted) ⊎ (wanted ≤ length bytes) → (wanted < length bytes) ⊎ (length bytes ≤ wanted) → LengthSays wanted bytes (length_answer wanted bytes)
-    says (inl few) more = subst (LengthSays wanted bytes) (sym (short_answer wanted bytes few)) (refl, few)
-    says (inr enough) (inl many) = subst (LengthSays wanted bytes) (sym (long_answer wanted bytes many)) many
-    says (inr enough) (inr no_more) =
-        let same : length bytes ≡ wanted = omega (arith, enough, no_more) in
-        subst (LengthSays wanted bytes) (sym (good_answer wanted bytes same)) same
+length_says wanted bytes r is = search (rules, cases_lt, short_answer, long_answer, good_answer)
 
 -- a refusal of int32 bytes as one of the narrow bytes
 abbrev narrow_result : Narrow → Result (Unit {0}) StreamFault → Result (Unit {0}) StreamFault
@@ -87,26 +80,7 @@ narrow_result n (Ok done) = Ok done
 narrow_result n (Err e) = Err (narrow_fault n e)
 
 same_answer : (n : Narrow) (h : Header) (input : List ℕ) → h.ty ≡ I32 → narrow_result n (compress_answer h (promoted_all n input)) ≡ compress_narrow_answer n h input
-same_answer n h input int32 = by (cases_lt (length (promoted_all n input)) (raw_len h)) (cases_lt (raw_len h) (length (promoted_all n input)))
-  where
-    by : (length (promoted_all n input) < raw_len h) ⊎ (raw_len h ≤ length (promoted_all n input)) → (raw_len h < length (promoted_all n input)) ⊎ (length (promoted_all n input) ≤ raw_len h)
-        → narrow_result n (compress_answer h (promoted_all n input)) ≡ compress_narrow_answer n h input
-    by (inl few) more =
-        let all = promoted_all n input in
-        let long = length-promoted_all n input in
-        ap (narrow_result n) (short_answer (raw_len h) all few)
-        ∙ ap (λ k. Err (faults.RawShort k)) (ap (narrow_count n) long ∙ count_back n (length input))
-        ∙ sym (short_answer (narrow_len n h) input (same_few n (length input) (product h.shape) (omega (arith, few, long, raw_len-int32 h int32))))
-    by (inr enough) (inl many) =
-        let all = promoted_all n input in
-        let long = length-promoted_all n input in
-        ap (narrow_result n) (long_answer (raw_len h) all many)
-        ∙ sym (long_answer (narrow_len n h) input (same_many n (length input) (product h.shape) (length input % size_of n) (omega arith) (omega (arith, many, long, raw_len-int32 h int32))))
-    by (inr enough) (inr no_more) =
-        let all = promoted_all n input in
-        let same : length all ≡ raw_len h = omega (arith, enough, no_more) in
-        ap (narrow_result n) (good_answer (raw_len h) all same)
-        ∙ sym (good_answer (narrow_len n h) input (same_all n (length input) (product h.shape) (sym (length-promoted_all n input) ∙ same ∙ raw_len-int32 h int32)).0)
+same_answer n h input int32 = search (rules, cases_lt, length-promoted_all, short_answer, count_back, same_few, raw_len-int32, long_answer, same_many)
 
 short_not_outside : (k : ℕ) → IsFromOutside (faults.RawShort k) → ⊥
 short_not_outside k (inl e) = cc
@@ -180,9 +154,7 @@ module _ (n : Narrow) (h : Header) (int32 : h.ty ≡ I32) (spent : Bool) (pendin
   -- at its end all was given
   gave_all : (input : List ℕ) (now : Option (List ℕ)) (raw : List ℕ) → Promotes n (Some input) now spent pending half taken → Takes (exposed_by n false [] [] (Some input)) (exposed_by n spent pending half now) raw
       → IsAtEnd (exposed_by n spent pending half now) → raw ≡ promoted_all n bytes
-  gave_all input now raw p given end =
-      sym (Takes-to_end (promoted_all n input) (exposed_by n spent pending half now) raw given end)
-      ∙ ap (promoted_all n) (Takes-to_end input now bytes p.read (source_ended n spent pending half now end p.spent_end))
+  gave_all input now raw p given end = search (rules, source_ended)
 
   -- what was given of what was read
   abbrev WasGiven : List ℕ → Type 0
@@ -194,12 +166,7 @@ module _ (n : Narrow) (h : Header) (int32 : h.ty ≡ I32) (spent : Bool) (pendin
       let z = zeros_given spent half in
       let counts : length raw + length pending ≡ length taken / size_of n * 4 + z =
       sym (length-append raw pending) ∙ ap length given ∙ length-append (promoted_bytes n taken) (replicate z 0)
-      ∙ ap (λ k. k + length (replicate {A = ℕ} z 0)) (length-promoted_bytes n taken) ∙ ap (λ k. length taken / size_of n * 4 + k) (length-replicate z 0) in
-      count_given n (length taken) (length pending) (length half) z (product h.shape) whole (omega (arith, counts, long, raw_len-int32 h int32)) few less (one_of_both spent all)
-    where
-      one_of_both : (b : Bool) → (IsTrue b → pending ≡ []) → (zeros_given b half ≡ 0) ⊎ ((zeros_given b half ≡ length half) × (length pending ≡ 0))
-      one_of_both false all = inl refl
-      one_of_both true all = inr (refl, ap length (all refl))
+      ∙ ap (λ k. k + length (replicate {A = ℕ} z 0)) (length-promoted_bytes n taken) ∙ ap (λ k. length taken / size_of n * 4 + k) (length-replicate z 0) in search (rules, count_given, raw_len-int32)
 
   -- all of the input was read and given, and its stream written
   pub compresses : (known now out0 out1 : Option (List ℕ)) → Promotes n known now spent pending half taken
@@ -214,17 +181,7 @@ module _ (n : Narrow) (h : Header) (int32 : h.ty ≡ I32) (spent : Bool) (pendin
         good = good_answer (narrow_len n h) taken (whole_read writes.bytes p.less p.whole p.few p.all writes.given all);
         written = subst (λ text. Appends out0 out1 text) (all_given_text n h pending taken (zeros_given spent half) writes.bytes writes.given (omega (arith, all))) writes.written;
       }
-  compresses (Some input) now out0 out1 p fin writes =
-      let is : fin.bytes ≡ promoted_all n bytes = gave_all input now fin.bytes p fin.taken fin.ended in
-      let all : length fin.bytes ≡ raw_len h = length_says (raw_len h) fin.bytes (Ok tt) fin.good in
-      let counts = same_all n (length bytes) (product h.shape) (sym (length-promoted_all n bytes) ∙ sym (ap length is) ∙ all ∙ raw_len-int32 h int32) in
-      record {
-        bytes = bytes;
-        taken = p.read;
-        ended = source_ended n spent pending half now fin.ended p.spent_end;
-        good = good_answer (narrow_len n h) bytes counts.0;
-        written = subst (λ text. Appends out0 out1 text) (ap (stream_text h) is ∙ stream_text-zeros h (promoted_bytes n bytes) (length bytes % size_of n)) fin.written;
-      }
+  compresses (Some input) now out0 out1 p fin writes = search (rules, gave_all, length_says, same_all, length-promoted_all, raw_len-int32, source_ended, good_answer, stream_text-zeros)
 
   -- how much was read where the length was refused
   pub shows : (known now : Option (List ℕ)) (e : StreamFault) → Promotes n known now spent pending half taken
@@ -271,38 +228,17 @@ pub record Runs (n : Narrow) (known now : Option (List ℕ)) (old new : Promotio
 
 module _ (n : Narrow) {known now : Option (List ℕ)} (old new : Promotion) (r : Runs n known now old new) where
   exposed_old : exposed old known ≡ exposed_by n false [] [] known
-  exposed_old =
-      exposed_unspent old known r.at_old r.four_old r.unspent_old
-      ∙ ap (λ m. exposed_by m false [] (listed old.half) known) r.same_old ∙ ap (λ h. exposed_by n false [] h known) r.half_old
+  exposed_old = search (rules, exposed_unspent)
 
   exposed_new : exposed new now ≡ exposed_by n new.spent (drop new.at new.value) (listed new.half) now
   exposed_new = ap (λ m. exposed_by m new.spent (drop new.at new.value) (listed new.half) now) r.same
 
   promotes : Promotes n known now new.spent (drop new.at new.value) (listed new.half) new.taken.bytes
-  promotes = record {
-    whole = subst (λ m. length new.taken.bytes % size_of m ≡ 0) r.same new.whole;
-    less = subst (λ m. length (listed new.half) < size_of m) r.same new.few;
-    few = omega (arith, length-drop new.at new.value, r.four, new.some_given);
-    all = λ spent. drop_all new.at new.value (omega (arith, r.four, new.all_given spent));
-    spent_end = r.spent_end;
-    read = r.read;
-  }
+  promotes = search (rules, length-drop, drop_all)
 
   -- nothing was given before
   none_given : HasGiven old []
-  none_given =
-      let zeros : zeros_given old.spent (listed old.half) ≡ 0 = no_zeros old.spent r.unspent_old in
-      drop_all old.at old.value (omega (arith, r.at_old, r.four_old))
-      ∙ sym (nothing old.narrow) ∙ ap (promoted_bytes old.narrow) (sym r.taken_old)
-      ∙ sym (append-nil (promoted_bytes old.narrow old.taken.bytes)) ∙ ap (λ k. promoted_bytes old.narrow old.taken.bytes ++ replicate k 0) (sym zeros)
-    where
-      no_zeros : (b : Bool) → (IsTrue b → ⊥) → zeros_given b (listed old.half) ≡ 0
-      no_zeros false unspent = refl
-      no_zeros true unspent = absurd (unspent refl)
-
-      nothing : (n : Narrow) → promoted_bytes n [] ≡ []
-      nothing I8 = refl
-      nothing n = refl
+  none_given = search (rules, drop_all, append-nil)
 
   -- what was given since then
   given_by : (h : Header) (raw : List ℕ) → Gives (HasGiven old) (HasGiven new) raw → IsGiven n h (drop new.at new.value) new.taken.bytes (zeros_given new.spent (listed new.half)) raw
@@ -319,9 +255,7 @@ module _ (n : Narrow) {known now : Option (List ℕ)} (old new : Promotion) (r :
 
   shown_too : (h : Header) (e : StreamFault) → ShowsLength (raw_len h) (exposed old known) (exposed new now) e
       → ShowsLength (raw_len h) (exposed_by n false [] [] known) (exposed_by n new.spent (drop new.at new.value) (listed new.half) now) e
-  shown_too h e shown =
-      subst (λ b. ShowsLength (raw_len h) (exposed_by n false [] [] known) b e) exposed_new
-      (subst (λ a. ShowsLength (raw_len h) a (exposed new now) e) exposed_old shown)
+  shown_too h e shown = search (rules, exposed_new, exposed_old)
 
   run_shows : (h : Header) (e : StreamFault) → h.ty ≡ I32 → ShowsLength (raw_len h) (exposed old known) (exposed new now) e → ShowsLength (narrow_len n h) known now (narrow_fault n e)
   run_shows h e int32 shown = shows n h int32 new.spent (drop new.at new.value) (listed new.half) new.taken.bytes known now e promotes (shown_too h e shown)
@@ -340,14 +274,7 @@ module _ (n : Narrow) {known now : Option (List ℕ)} (old new : Promotion) (r :
   -- how it ends
   pub run_good : (h : Header) (out0 out1 : Option (List ℕ)) → h.ty ≡ I32 → Compressed (compress_answer h) (stream_text h) (raw_len h) (Ok tt) (exposed old known) (exposed new now) out0 out1
       → CompressedGiven (compress_answer h) (stream_text h) (Ok tt) (Gives (HasGiven old) (HasGiven new)) out0 out1 → Compressed (compress_narrow_answer n h) (narrow_text n h) (narrow_len n h) (Ok tt) known now out0 out1
-  run_good h out0 out1 int32 done given = record {
-    answer = run_good_answers h int32 done.answer;
-    possible = tt;
-    shows = tt;
-    ok = run_compresses h out0 out1 int32 done.ok given.ok;
-    err = tt;
-    unwritten = λ same. absurd cc;
-  }
+  run_good h out0 out1 int32 done given = search (rules, run_good_answers, shows, run_compresses)
 
   pub run_fault : (h : Header) (e : StreamFault) (out0 out1 : Option (List ℕ)) → h.ty ≡ I32 → Compressed (compress_answer h) (stream_text h) (raw_len h) (Err e) (exposed old known) (exposed new now) out0 out1
       → CompressedGiven (compress_answer h) (stream_text h) (Err e) (Gives (HasGiven old) (HasGiven new)) out0 out1 → Compressed (compress_narrow_answer n h) (narrow_text n h) (narrow_len n h) (Err (narrow_fault n e)) known now out0 out1

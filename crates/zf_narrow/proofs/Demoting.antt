@@ -1,4 +1,5 @@
 -- One write of a demotion: the narrow bytes of the first values, and the byte that is owed of the last one.
+use Rattle.std.proofs.Common.{rules}
 use Rattle.std.proofs.Common.{◌≡◌, sym, ap, ◌∙◌, ℕ, ◌+◌, ◌*◌, ◌/◌, ◌%◌, min, ◌≤◌, ◌<◌, List, [], ◌∷◌, ◌++◌, length, take, drop, get_or, Option, Some, None, append_assoc, append-nil, length-append, take-append-drop, take-take, arith}
 use Rattle.std.proofs.lemmas.List.{length-take, length-take-le, take-append-le, take_at, take_more}
 use Rattle.std.proofs.Math.Nat.{mul-le-mul_right}
@@ -35,17 +36,11 @@ prefix_demoted n count values raw given few room is =
 
 -- the bytes that were written, and the one that is owed
 pub with_owed : (k m : ℕ) (piece : List ℕ) (d : ℕ) → k < m → m ≤ k + 1 → k < length piece → take k piece ++ get_or piece k d ∷ [] ≡ take m piece
-with_owed k m piece d more most within =
-    let next : k + 1 ≡ m = omega arith in
-    sym (take_more piece k d within) ∙ ap (λ j. take j piece) next
+with_owed k m piece d more most within = search (rules, take_more)
 
 -- so many narrow bytes
 pub part_long : (n : Narrow) (count : ℕ) (raw part : List ℕ) → count * 4 ≤ length raw → part ≡ demoted_bytes n (take (count * 4) raw) → length part ≡ count * size_of n
-part_long n count raw part room is =
-    let s = take (count * 4) raw in
-    let long : length s ≡ count * 4 = length-take-le (count * 4) raw room in
-    let four : length s / 4 ≡ count = omega (arith, long) in
-    ap (λ (bs : List ℕ). length bs) is ∙ length-demoted_bytes n s ∙ ap (λ j. j * size_of n) four
+part_long n count raw part room is = search (rules, length-take-le, length-demoted_bytes)
 
 pub owes_one : (n : Narrow) (count values k len : ℕ) (raw part past : List ℕ) (d : ℕ) (owed : Option ℕ) → count * 4 ≤ length raw → part ≡ demoted_bytes n (take (count * 4) raw) → len ≡ size_of n → k ≤ count * size_of n → values ≡ begun_values n k
     → owed ≡ Some (get_or (part ++ past) k d) → k < values * len → take k (part ++ past) ++ listed owed ≡ take (values * size_of n) (part ++ past)
@@ -59,12 +54,7 @@ owes_one n count values k len raw part past d owed room is len_is within values_
 
 pub owes_none : (n : Narrow) (count values k len : ℕ) (bytes : List ℕ) (owed : Option ℕ) → len ≡ size_of n → k ≤ count * size_of n → values ≡ begun_values n k
     → owed ≡ None → values * len ≤ k → take k bytes ++ listed owed ≡ take (values * size_of n) bytes
-owes_none n count values k len bytes owed len_is within values_is owed_is none =
-    let same : begun_values n k * size_of n ≡ values * size_of n = ap (λ m. m * size_of n) (sym values_is) in
-    let place : values * len ≡ values * size_of n = ap (λ m. values * m) len_is in
-    let bounds = begun_values-bounds n k count within in
-    let all : k ≡ values * size_of n = omega (arith, none, place, bounds.1, same) in
-    ap (λ o. take k bytes ++ listed o) owed_is ∙ append-nil (take k bytes) ∙ ap (λ j. take j bytes) all
+owes_none n count values k len bytes owed len_is within values_is owed_is none = search (rules, begun_values-bounds, append-nil)
 
 -- what is written and owed behind what was written before are the bytes of the values behind those from before
 pub written_is : (n : Narrow) (count values k : ℕ) (raw part past given taken owed : List ℕ) → values ≤ count → count * 4 ≤ length raw → part ≡ demoted_bytes n (take (count * 4) raw) → given ≡ demoted_bytes n taken → length taken % 4 ≡ 0

@@ -1,4 +1,5 @@
 -- One read of a promotion, as the log of what was given sees it.
+use Rattle.std.proofs.Common.{rules}
 use Rattle.std.proofs.Common.{◌≡◌, refl, sym, ap, ◌∙◌, ℕ, ◌<◌, Bool, true, false, IsTrue, List, ◌++◌, length, drop, replicate, Option, append_assoc, append-nil, arith}
 use Rattle.std.specs.Prelude.{◌↔◌}
 use Rattle.std.proofs.lemmas.List.{drop_all, nil_from_length}
@@ -16,9 +17,7 @@ all_bytes p = promoted_bytes p.narrow p.taken.bytes ++ replicate (zeros_given p.
 
 no_zeros : (p : Promotion) → (IsTrue p.spent → ⊥) → all_bytes p ≡ promoted_bytes p.narrow p.taken.bytes
 unfolding all_bytes
-no_zeros p unspent =
-    ap (λ b. promoted_bytes p.narrow p.taken.bytes ++ replicate (zeros_given b (listed p.half)) 0) (unspent_is p.spent unspent)
-    ∙ append-nil (promoted_bytes p.narrow p.taken.bytes)
+no_zeros p unspent = search (rules, unspent_is, append-nil)
 
 -- nothing is pending
 none_pending : (p : Promotion) (s : List ℕ) → p.at ≡ 4 → length p.value ≡ 4 → s ++ drop p.at p.value ≡ s
@@ -27,20 +26,12 @@ none_pending p s all four = ap (λ (bs : List ℕ). s ++ bs) (drop_all p.at p.va
 module _ (old mid : Promotion) (before now : Option (List ℕ)) (raw : List ℕ) (idle : IsIdle old) (four : length old.value ≡ 4) (takes : TakesRaw old mid before now raw) where
   whole_given : (s : List ℕ) → HasGiven old s → s ++ raw ≡ all_bytes mid
   unfolding all_bytes
-  whole_given s has =
-      let n = old.narrow in
-      let before_is : s ≡ promoted_bytes n old.taken.bytes = sym (none_pending old s idle.all_given four) ∙ has ∙ no_zeros old idle.unspent in
-      ap (λ (bs : List ℕ). bs ++ raw) before_is ∙ ap (λ (bs : List ℕ). promoted_bytes n old.taken.bytes ++ bs) takes.raw_is
-      ∙ sym (promoted_bytes-append n old.taken.bytes takes.values old.whole) ∙ ap (promoted_bytes n) (sym takes.logged)
-      ∙ ap (λ m. promoted_bytes m mid.taken.bytes) (sym takes.same_type) ∙ sym (no_zeros mid takes.idle.unspent)
+  whole_given s has = search (rules, none_pending, no_zeros, promoted_bytes-append)
 
   -- all of them were given
   pub gives_all : GivesRaw old mid before now raw
   unfolding all_bytes
-  gives_all = record {
-    gone = all_gone old mid before now raw idle four takes;
-    gave = record { goes_on = λ s has. none_pending mid (s ++ raw) takes.idle.all_given (ap length takes.kept ∙ four) ∙ whole_given s has };
-  }
+  gives_all = search (rules, all_gone, none_pending, whole_given)
 
   -- the first of them were given
   pub gives_first : (first value : List ℕ) (at : ℕ) → raw ≡ first ++ drop at value
@@ -58,16 +49,7 @@ module _ (old mid : Promotion) (before now : Option (List ℕ)) (raw : List ℕ)
       gives.given_are ∙ ap (λ k. replicate k 0) (by new.spent gives.spent) ∙ ap (λ o. replicate (zeros_given new.spent (listed o)) 0) (sym gives.half) in
       let p = promoted_bytes mid.narrow mid.taken.bytes in
       let all : p ≡ promoted_bytes new.narrow new.taken.bytes = ap (λ m. promoted_bytes m mid.taken.bytes) (sym gives.same_type) ∙ ap (promoted_bytes new.narrow) (sym gives.taken) in
-      let gone = half_gone old mid new before now raw bytes count idle four takes none end gives in (
-        record {
-          gone = gone.0;
-          gave = record {
-            goes_on = λ s has.
-                let before_is : s ≡ p = sym (append-nil s) ∙ ap (λ (bs : List ℕ). s ++ bs) (sym (nil_from_length raw none)) ∙ whole_given s has ∙ no_zeros mid takes.idle.unspent in
-                none_pending new (s ++ bytes) gives.all_given (ap length (gives.kept ∙ takes.kept) ∙ four) ∙ ap (λ (bs : List ℕ). bs ++ bytes) (before_is ∙ all) ∙ ap (λ (bs : List ℕ). promoted_bytes new.narrow new.taken.bytes ++ bs) zeros;
-          };
-        },
-        gone.1,
+      let gone = half_gone old mid new before now raw bytes count idle four takes none end gives in (search (rules, append-nil, nil_from_length, whole_given, no_zeros, none_pending)
       )
     where
       by : (b : Bool) → IsTrue b ↔ (0 < count) → length (listed mid.half) ≡ zeros_given b (listed mid.half)

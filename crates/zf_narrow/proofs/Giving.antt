@@ -1,5 +1,6 @@
 -- What a source that promotes has given, of what it has read.
-use Rattle.std.proofs.Common.{◌≡◌, refl, sym, ap, ◌∙◌, ℕ, ◌*◌, ◌%◌, ◌≤◌, ◌<◌, ◌⊎◌, inl, inr, Bool, true, false, IsTrue, List, [], ◌∷◌, ◌++◌, length, replicate, Option, Some, None, append_assoc, append-nil, mul_comm, arith}
+use Rattle.std.proofs.Common.{rules}
+use Rattle.std.proofs.Common.{◌≡◌, refl, sym, ap, ◌∙◌, ℕ, ◌*◌, ◌%◌, ◌≤◌, ◌<◌, ◌⊎◌, Bool, true, false, IsTrue, List, [], ◌∷◌, ◌++◌, length, replicate, Option, Some, None, append_assoc, append-nil, mul_comm, arith}
 use Rattle.std.proofs.lemmas.List.{append_cancel_right}
 use Rattle.std.specs.Int.{byte_len}
 use Rattle.zf_spec.specs.Grid.{product}
@@ -36,26 +37,8 @@ gave n false pending half taken input left raw read given whole less few all end
     let behind = promoted_all n (half ++ left) in
     let before : promoted_all n input ≡ promoted_bytes n taken ++ behind = ap (promoted_all n) (read ∙ append_assoc taken half left) ∙ promoted_all-append n taken (half ++ left) whole in
     let same : raw ++ pending ≡ promoted_bytes n taken = append_cancel_right (raw ++ pending) (promoted_bytes n taken) behind (append_assoc raw pending behind ∙ sym given ∙ before) in
-    let none = promoted_bytes-half n taken half whole less in
-    record {
-      pending = pending;
-      zeros = 0;
-      parts = same ∙ sym none ∙ sym (append-nil (promoted_bytes n (taken ++ half)));
-      few = few;
-      one_of_both = inl refl;
-      half = omega arith;
-    }
-gave n true pending half taken input left raw read given whole less few all end =
-    record {
-      pending = pending;
-      zeros = length (taken ++ half) % size_of n;
-      parts =
-          ap (λ (bs : List ℕ). raw ++ bs) (sym (append-nil pending)) ∙ sym given
-          ∙ ap (promoted_all n) (read ∙ ap (λ (bs : List ℕ). (taken ++ half) ++ bs) (end refl) ∙ append-nil (taken ++ half));
-      few = few;
-      one_of_both = inr (all refl);
-      half = omega arith;
-    }
+    let none = promoted_bytes-half n taken half whole less in search (rules, append-nil)
+gave n true pending half taken input left raw read given whole less few all end = search (rules, append-nil)
 
 -- nothing is to come of the source where no int32 byte is
 pub source_ended : (n : Narrow) (spent : Bool) (pending half : List ℕ) (now : Option (List ℕ)) → IsAtEnd (exposed_by n spent pending half now) → (IsTrue spent → IsAtEnd now) → IsAtEnd now

@@ -1,9 +1,9 @@
 -- How a restoration of narrow values ends, from how that of their int32 bytes does.
-use Rattle.std.proofs.Common.{◌≡◌, ◌≢◌, refl, sym, ap, subst, ◌∙◌, ℕ, ◌+◌, ◌*◌, ◌%◌, ◌≤◌, inl, inr, ⊎_elim, cond, is_none, Bool, true, false, List, [], ◌∷◌, ◌++◌, length, take, drop, replicate, Option, Some, None, Result, Ok, Err, append_assoc, append-nil, length-append, take-append-drop, arith}
+use Rattle.std.proofs.Common.{rules}
+use Rattle.std.proofs.Common.{◌≡◌, ◌≢◌, refl, sym, ap, subst, ◌∙◌, ℕ, ◌*◌, ◌%◌, ◌≤◌, inl, inr, ⊎_elim, Bool, true, false, List, [], ◌∷◌, ◌++◌, length, take, drop, Option, Some, None, Result, Ok, Err, append_assoc, append-nil, length-append, take-append-drop, arith}
 use Rattle.std.specs.Prelude.{IsErrAnd}
 use Rattle.std.proofs.lemmas.List.{nil_from_length, length-take}
 use Rattle.std.specs.Int.{byte_len}
-use Rattle.zf_spec.specs.Grid.{product, blocks}
 use Rattle.zf_base.specs.Widths.{width_of}
 use Rattle.zf_base.specs.declared.lane.Ty.{Ty}
 use Rattle.zf_base.specs.declared.lane.Ty.TheVariants.{I32, I64}
@@ -13,7 +13,7 @@ use Rattle.zf_dev.specs.Sink.{Appends, AppendsPrefix}
 use Rattle.zf_dev.proofs.Appending.{AppendsPrefix-all, AppendsPrefix-more}
 use Rattle.zf_parse.specs.declared.fault.StreamFault.{StreamFault}
 use Rattle.zf_parse.specs.declared.fault.StreamFault.TheVariants as faults
-use Rattle.zf_parse.specs.Parsing.{header_of, code_bits, read_codes, longest_codes, restore_answer, restored_text}
+use Rattle.zf_parse.specs.Parsing.{header_of, restore_answer, restored_text}
 use Rattle.zf_parse.proofs.Steps.{header_or, blocks_text}
 use Rattle.zf_stream.specs.Outcomes.{Answers, LeavesPrefix}
 use Rattle.zf_stream.specs.Outcomes as outcomes
@@ -86,16 +86,10 @@ whole_bytes I64 count = omega arith
 
 no_text : (bytes : List ℕ) (f : HeaderFault) → header_fault bytes ≡ Some f → restored_text bytes ≡ []
 unfolding restored_text
-no_text bytes f fault =
-    let h = header_of bytes in
-    ap (λ o. cond (is_none o) (blocks_text h (read_codes h 0 (blocks h.shape) (code_bits bytes ++ replicate (longest_codes h) false))) []) fault
+no_text bytes f fault = search (rules, blocks_text)
 
 whole_text : (bytes : List ℕ) → length (restored_text bytes) % 4 ≡ 0
-whole_text bytes = by (header_fault bytes) refl
-  where
-    by : (o : Option HeaderFault) → header_fault bytes ≡ o → length (restored_text bytes) % 4 ≡ 0
-    by None good = ap (λ k. k % 4) (length-restored_text bytes good) ∙ whole_bytes (header_of bytes).ty (product (header_of bytes).shape)
-    by (Some f) fault = ap (λ (bs : List ℕ). length bs % 4) (no_text bytes f fault)
+whole_text bytes = search (rules, length-restored_text, whole_bytes, no_text)
 
 -- a demotion that began with nothing taken, once some int32 bytes were taken
 pub record Demotes (n : Narrow) (start now : Option (List ℕ)) (given owed taken part : List ℕ) : Type 0 where
@@ -106,12 +100,7 @@ pub record Demotes (n : Narrow) (start now : Option (List ℕ)) (given owed take
 
 pub demotes : (n m : Narrow) (first start now : Option (List ℕ)) (d : Demotion) → d.narrow ≡ m → m ≡ n → first ≡ start → Appends first now d.given.bytes
     → Demotes n start now d.given.bytes (listed d.owed) d.taken.bytes (take d.held d.value)
-demotes n m first start now d same narrow begins written = record {
-  whole = d.whole;
-  few = omega (arith, d.within, length-take d.held d.value);
-  made = d.written ∙ ap (λ k. demoted_bytes k d.taken.bytes) (same ∙ narrow);
-  written = subst (λ (k : Option (List ℕ)). Appends k now d.given.bytes) begins written;
-}
+demotes n m first start now d same narrow begins written = search (rules, length-take)
 
 -- the same restoration, told of the same result and bytes by other names
 pub restored_as : (src now : Option (List ℕ)) {r q : Result Bool StreamFault} {xs ys zs ws : List ℕ} → r ≡ q → xs ≡ ys → zs ≡ ws → RestoredWhere I32 r src now (Some xs) (Some zs) → RestoredWhere I32 q src now (Some ys) (Some ws)
@@ -132,31 +121,14 @@ module _ (n : Narrow) {start now : Option (List ℕ)} {given owed taken part : L
 
   -- of all of it all, where no byte is owed
   all_written : (text : List ℕ) → owed ≡ [] → taken ++ part ≡ text → length text % 4 ≡ 0 → Appends start now (demoted_bytes n text)
-  all_written text none all whole =
-      let long : length taken + length part ≡ length text = sym (length-append taken part) ∙ ap length all in
-      let no_part : part ≡ [] = nil_from_length part (omega (arith, long, whole, d.whole, d.few)) in
-      let is : given ≡ demoted_bytes n text =
-      sym (append-nil given) ∙ ap (λ (bs : List ℕ). given ++ bs) (sym none) ∙ d.made
-      ∙ ap (demoted_bytes n) (sym (append-nil taken) ∙ ap (λ (bs : List ℕ). taken ++ bs) (sym no_part) ∙ all) in
-      let Written : List ℕ → Type 0 = λ bs. Appends start now bs in
-      subst Written is d.written
+  all_written text none all whole = search (rules, length-append, nil_from_length, append-nil)
 
   -- of nothing nothing
   nothing_written : taken ++ part ≡ [] → Appends start now []
-  nothing_written none =
-      let no_taken : taken ≡ [] = prefix_empty taken part none in
-      let no_given : given ≡ [] = prefix_empty given owed (d.made ∙ ap (demoted_bytes n) no_taken) in
-      let Written : List ℕ → Type 0 = λ bs. Appends start now bs in
-      subst Written no_given d.written
+  nothing_written none = search (rules, prefix_empty)
 
   restores : {src0 src1 : Option (List ℕ)} → owed ≡ [] → RestoresTyped I32 src0 src1 (Some []) (Some (taken ++ part)) → RestoresNarrow n src0 src1 start now
-  restores {src0} {src1} none fin = record {
-    bytes = fin.bytes;
-    taken = fin.taken;
-    ended = fin.ended;
-    good = sym (answer_is fin.bytes) ∙ ap narrow_of fin.good;
-    written = all_written (restored_text fin.bytes) none fin.written (whole_text fin.bytes);
-  }
+  restores {src0} {src1} none fin = search (rules, answer_is, all_written, whole_text)
 
   -- the last byte that is owed was not written
   restores_but_one : {src0 src1 : Option (List ℕ)} → RestoresTyped I32 src0 src1 (Some []) (Some (taken ++ part)) → LeavesNarrowPrefix n src0 src1 start now
@@ -167,64 +139,24 @@ module _ (n : Narrow) {start now : Option (List ℕ)} {given owed taken part : L
   }
 
   leaves : {src0 src1 : Option (List ℕ)} → LeavesPrefix restored_text src0 src1 (Some []) (Some (taken ++ part)) → LeavesNarrowPrefix n src0 src1 start now
-  leaves {src0} {src1} left = record {
-    bytes = left.bytes;
-    taken = left.taken;
-    written = prefix_written (restored_text left.bytes) left.written;
-  }
+  leaves {src0} {src1} left = search (rules, prefix_written)
 
   leaves_other : {src0 src1 : Option (List ℕ)} → HasOtherType I32 src0 src1 (Some []) (Some (taken ++ part)) → LeavesNarrowPrefix n src0 src1 start now
-  leaves_other {src0} {src1} other = record {
-    bytes = other.bytes;
-    taken = other.first.taken;
-    written = (0, omega arith, nothing_written (some_inj other.unwritten));
-  }
+  leaves_other {src0} {src1} other = search (rules, nothing_written, some_inj)
 
   module _ {src0 src1 : Option (List ℕ)} where
     -- all of it was restored, and no byte is owed
     pub ends_good : owed ≡ [] → RestoredWhere I32 (Ok true) src0 src1 (Some []) (Some (taken ++ part)) → RestoredNarrow n (Ok tt) src0 src1 start now
-    ends_good none done = record {
-      answer = narrow_answers src0 (Ok true) done.answer;
-      possible = tt;
-      ok = restores none done.ok;
-      err = tt;
-      unwritten = tt;
-      other = λ same. absurd cc;
-      memory = λ same. absurd cc;
-    }
+    ends_good none done = search (rules, narrow_answers, restores)
 
     -- the byte that is owed was not written
     pub ends_unsettled : RestoredWhere I32 (Ok true) src0 src1 (Some []) (Some (taken ++ part)) → RestoredNarrow n (Err (Stream faults.Write)) src0 src1 start now
-    ends_unsettled done = record {
-      answer = write_answers src0;
-      possible = inr (inr (inl refl));
-      ok = tt;
-      err = restores_but_one done.ok;
-      unwritten = λ before. absurd before;
-      other = λ same. absurd cc;
-      memory = λ same. absurd cc;
-    }
+    ends_unsettled done = search (rules, write_answers, restores_but_one)
 
     -- its values are of the other type
     pub ends_other : RestoredWhere I32 (Ok false) src0 src1 (Some []) (Some (taken ++ part)) → RestoredNarrow n (Err NotNarrow) src0 src1 start now
-    ends_other done = record {
-      answer = narrow_answers src0 (Ok false) done.answer;
-      possible = inl (done.ok.bytes, wide_answer (header_fault done.ok.bytes) (header_of done.ok.bytes).ty (restore_answer done.ok.bytes) done.ok.good done.ok.other);
-      ok = tt;
-      err = leaves_other done.ok;
-      unwritten = λ before. nothing_written (ap still done.ok.unwritten);
-      other = λ same. record { bytes = done.ok.bytes; first = done.ok.first; good = done.ok.good; other = done.ok.other };
-      memory = λ same. absurd cc;
-    }
+    ends_other done = search (rules, narrow_answers, wide_answer, leaves_other, nothing_written)
 
     -- it was refused
     pub ends_refused : (e : StreamFault) → RestoredWhere I32 (Err e) src0 src1 (Some []) (Some (taken ++ part)) → RestoredNarrow n (Err (Stream e)) src0 src1 start now
-    ends_refused e done = record {
-      answer = narrow_answers src0 (Err e) done.answer;
-      possible = fault_possible e done.possible;
-      ok = tt;
-      err = leaves done.err;
-      unwritten = λ before. nothing_written (ap still (done.unwritten before));
-      other = λ same. absurd cc;
-      memory = λ same. done.memory cc;
-    }
+    ends_refused e done = search (rules, narrow_answers, fault_possible, leaves, nothing_written)

@@ -1,4 +1,5 @@
 -- Raw narrow bytes and the values that stand for them, there and back.
+use Rattle.std.proofs.Common.{rules}
 use Rattle.std.proofs.Common.{FitsSigned, ◌≡◌, refl, sym, ap, ◌∙◌, ℕ, ◌*◌, ◌/◌, ◌%◌, ◌<◌, ℤ, pos, negsuc, List, [], ◌∷◌, ◌++◌, All, map, length, arith}
 use Rattle.std.proofs.lemmas.Int.{ints}
 use Rattle.std.proofs.lemmas.List.Elements.{All-head, All-tail, All-nil, All-cons}
@@ -9,7 +10,7 @@ use Rattle.zf_spec.proofs.RawValues.{length-raw, values_from_fit, values_from-ra
 use Rattle.zf_narrow.specs.declared.narrow.Narrow.{Narrow}
 use Rattle.zf_narrow.specs.declared.narrow.Narrow.TheVariants.{I8, U8, U16}
 use Rattle.zf_narrow.specs.Values.{IsNarrow, width_of, size_of, promoted, demoted}
-use Rattle.zf_narrow.specs.RawNarrow.{of_signed, narrow_bytes, promoted_bytes, raw_narrow, demoted_bytes}
+use Rattle.zf_narrow.specs.RawNarrow.{of_signed, narrow_bytes, promoted_bytes, demoted_bytes}
 use Rattle.zf_narrow.proofs.OneMore.{size_is}
 use Rattle.zf_narrow.proofs.Whole.{whole_count}
 use Rattle.zf_narrow.proofs.Back.{demoted-promoted, promoted_fits}
@@ -65,9 +66,7 @@ demoted_raw : (n : Narrow) (vs : List ℤ) → All (IsNarrow n) vs → demoted_b
 demoted_raw n vs are =
     let ps = map (promoted n) vs in
     let count : length (raw w32 ps) / 4 ≡ length ps = omega (arith, length-raw w32 ps) in
-    ap (λ k. raw_narrow n (values_from w32 k (raw w32 ps))) count
-    ∙ ap (raw_narrow n) (values_from-raw w32 ps (all_fit n vs are))
-    ∙ ap (raw (width_of n)) (map_back n vs are)
+    search (rules, values_from-raw, all_fit, map_back)
 
 -- ---- bytes
 

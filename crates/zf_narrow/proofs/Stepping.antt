@@ -1,4 +1,5 @@
 -- One read of a source that promotes: what is given is gone from what is to come.
+use Rattle.std.proofs.Common.{rules}
 use Rattle.std.proofs.Common.{◌≡◌, refl, sym, ap, ◌∙◌, ℕ, zero, suc, ◌%◌, ◌≤◌, ◌<◌, Bool, true, false, IsTrue, List, [], ◌∷◌, ◌++◌, length, take, replicate, Option, Some, None, Result, Ok, Err, append_assoc, append-nil, arith}
 use Rattle.std.specs.Prelude.{IfOk, OnErr, ◌↔◌}
 use Rattle.std.proofs.lemmas.List.{length-take-le}
@@ -82,8 +83,4 @@ ends_at (Err e) old new buf takes bound end = tt
 ends_at (Ok k) None new buf takes bound end = end
 ends_at (Ok k) (Some left) None buf takes bound end = absurd takes
 ends_at (Ok zero) (Some left) (Some rest) buf takes bound end = (λ z. takes ∙ end refl, λ none. refl)
-ends_at (Ok (suc k)) (Some left) (Some rest) buf takes bound end = (λ z. absurd (omega arith), λ none. absurd (no_prefix (take (suc k) buf) (length-take-le (suc k) buf bound) (sym takes ∙ none)))
-  where
-    no_prefix : (prefix : List ℕ) → length prefix ≡ suc k → prefix ++ rest ≡ [] → ⊥
-    no_prefix [] long none = absurd (omega arith)
-    no_prefix (x ∷ xs) long none = absurd (omega (arith, ap (length {A = ℕ}) none))
+ends_at (Ok (suc k)) (Some left) (Some rest) buf takes bound end = search (rules, length-take-le)

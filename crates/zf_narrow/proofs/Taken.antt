@@ -1,4 +1,5 @@
 -- What is read of a source, one piece behind another.
+use Rattle.std.proofs.Common.{rules}
 use Rattle.std.proofs.Common.{◌≡◌, sym, ap, ◌∙◌, ℕ, ◌+◌, ◌≤◌, ◌%◌, List, ◌++◌, length, take, Option, Result, Ok, Err, append_assoc}
 use Rattle.std.specs.Prelude.{IfOk}
 use Rattle.std.proofs.lemmas.List.{length-take-le, take-append-le}
@@ -13,15 +14,7 @@ use Rattle.zf_narrow.specs.Promoting.{TakesValues, ReadsBehind}
 pub read_there : {E : Type 0} (r : Result ℕ E) (before now : Option (List ℕ)) (piece buf past : List ℕ) (at : ℕ) → at ≤ length piece → IfOk r (λ k. k ≤ length buf) → IfOk r (λ k. Takes before now (take k buf))
     → IfOk r (λ k. ReadsBehind before now (take at piece) (take (at + k) (take at piece ++ (buf ++ past))) k)
 read_there (Err e) before now piece buf past at within bound taken = tt
-read_there (Ok k) before now piece buf past at within bound taken =
-    record {
-      bytes = take k buf;
-      taken = taken;
-      all_are =
-          ap (λ m. take (m + k) (take at piece ++ (buf ++ past))) (sym (length-take-le at piece within))
-          ∙ take-append-add (take at piece) (buf ++ past) k ∙ ap (λ bs. take at piece ++ bs) (take-append-le k buf past bound);
-      count_is = length-take-le k buf bound;
-    }
+read_there (Ok k) before now piece buf past at within bound taken = search (rules, length-take-le, take-append-add, take-append-le)
 
 -- two pieces, of which the first ends within a value
 pub two_pieces : (n : Narrow) {before mid now : Option (List ℕ)} {half first one all values half_now : List ℕ} {count more : ℕ} → ReadsBehind before mid half first count → first ≡ one → ReadsBehind mid now one all more

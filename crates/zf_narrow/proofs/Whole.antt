@@ -1,15 +1,16 @@
 -- The bytes of whole values, and what follows them.
+use Rattle.std.proofs.Common.{rules}
 use Rattle.std.proofs.Common.{◌≡◌, refl, sym, ap, ◌∙◌, ℕ, zero, suc, ◌+◌, ◌*◌, ◌/◌, ◌%◌, ◌<◌, ℤ, List, [], ◌++◌, map, length, replicate, append_assoc, length-append, arith}
 use Rattle.std.proofs.lemmas.List.{nil_from_length, map-append, length-map}
 use Rattle.std.specs.Int.{w32}
-use Rattle.zf_spec.specs.Stream.{raw, values_from}
+use Rattle.zf_spec.specs.Stream.{raw}
 use Rattle.zf_spec.proofs.RawValues.{length-raw, length-values_from}
 use Rattle.zf_stream.proofs.RawValues.{raw-append}
 use Rattle.zf_stream.proofs.Rows.{values_from-append}
 use Rattle.zf_narrow.specs.declared.narrow.Narrow.{Narrow}
 use Rattle.zf_narrow.specs.declared.narrow.Narrow.TheVariants.{I8}
 use Rattle.zf_narrow.specs.Values.{width_of, size_of, promoted, demoted}
-use Rattle.zf_narrow.specs.RawNarrow.{of_signed, values_in, promoted_bytes, promoted_all, raw_narrow, demoted_bytes}
+use Rattle.zf_narrow.specs.RawNarrow.{values_in, promoted_bytes, promoted_all, raw_narrow, demoted_bytes}
 use Rattle.zf_narrow.proofs.OneMore.{size_is}
 
 -- ---- counts
@@ -41,20 +42,10 @@ none_of_both n a none no_rest = omega arith
 -- ---- narrow values as int32 bytes
 
 values_in-append : (n : Narrow) (a b : ℕ) (xs ys : List ℕ) → length xs ≡ a * size_of n → values_in n (a + b) (xs ++ ys) ≡ values_in n a xs ++ values_in n b ys
-values_in-append n a b xs ys long =
-    let w = width_of n in
-    ap (map (of_signed n)) (values_from-append w a b xs ys (long ∙ ap (λ k. a * k) (sym (size_is n))))
-    ∙ map-append (of_signed n) (values_from w a xs) (values_from w b ys)
+values_in-append n a b xs ys long = search (rules, values_from-append, size_is, map-append)
 
 pub promoted_bytes-append : (n : Narrow) (xs ys : List ℕ) → length xs % size_of n ≡ 0 → promoted_bytes n (xs ++ ys) ≡ promoted_bytes n xs ++ promoted_bytes n ys
-promoted_bytes-append n xs ys whole =
-    let a = length xs / size_of n in
-    let b = length ys / size_of n in
-    let count : length (xs ++ ys) / size_of n ≡ a + b = ap (λ k. k / size_of n) (length-append xs ys) ∙ count-add n (length xs) (length ys) whole in
-    ap (λ k. raw w32 (map (promoted n) (values_in n k (xs ++ ys)))) count
-    ∙ ap (λ vs. raw w32 (map (promoted n) vs)) (values_in-append n a b xs ys (whole_count n (length xs) whole))
-    ∙ ap (raw w32) (map-append (promoted n) (values_in n a xs) (values_in n b ys))
-    ∙ raw-append w32 (map (promoted n) (values_in n a xs)) (map (promoted n) (values_in n b ys))
+promoted_bytes-append n xs ys whole = search (rules, length-append, count-add, values_in-append, whole_count, map-append, raw-append)
 
 pub promoted_all-append : (n : Narrow) (xs ys : List ℕ) → length xs % size_of n ≡ 0 → promoted_all n (xs ++ ys) ≡ promoted_bytes n xs ++ promoted_all n ys
 promoted_all-append n xs ys whole =
@@ -64,10 +55,7 @@ promoted_all-append n xs ys whole =
     ∙ append_assoc (promoted_bytes n xs) (promoted_bytes n ys) (replicate (length ys % size_of n) 0)
 
 pub length-promoted_bytes : (n : Narrow) (s : List ℕ) → length (promoted_bytes n s) ≡ length s / size_of n * 4
-length-promoted_bytes n s =
-    let k = length s / size_of n in
-    length-raw w32 (map (promoted n) (values_in n k s))
-    ∙ ap (λ m. m * 4) (length-map (values_in n k s) (promoted n) ∙ length-map (values_from (width_of n) k s) (of_signed n) ∙ length-values_from (width_of n) k s)
+length-promoted_bytes n s = search (rules, length-raw, length-map, length-values_from)
 
 -- less than a value
 pub promoted_bytes-few : (n : Narrow) (s : List ℕ) → length s < size_of n → promoted_bytes n s ≡ []
@@ -81,10 +69,7 @@ length-zeros zero = refl
 length-zeros (suc k) = ap suc (length-zeros k)
 
 pub length-promoted_all : (n : Narrow) (s : List ℕ) → length (promoted_all n s) ≡ length s / size_of n * 4 + length s % size_of n
-length-promoted_all n s =
-    length-append (promoted_bytes n s) (replicate (length s % size_of n) 0)
-    ∙ ap (λ k. k + length (replicate {A = ℕ} (length s % size_of n) 0)) (length-promoted_bytes n s)
-    ∙ ap (λ k. length s / size_of n * 4 + k) (length-zeros (length s % size_of n))
+length-promoted_all n s = search (rules, length-append, length-promoted_bytes, length-zeros)
 
 -- nothing is given for no bytes alone
 pub no_bytes : (n : Narrow) (s : List ℕ) → promoted_all n s ≡ [] → s ≡ []
@@ -104,13 +89,7 @@ pub demoted_bytes-append : (n : Narrow) (xs ys : List ℕ) → length xs % 4 ≡
 demoted_bytes-append n xs ys whole =
     let a = length xs / 4 in
     let b = length ys / 4 in
-    let count : length (xs ++ ys) / 4 ≡ a + b = omega (arith, length-append xs ys) in
-    ap (λ k. raw_narrow n (values_from w32 k (xs ++ ys))) count
-    ∙ ap (raw_narrow n) (values_from-append w32 a b xs ys (omega arith))
-    ∙ raw_narrow-append n (values_from w32 a xs) (values_from w32 b ys)
+    let count : length (xs ++ ys) / 4 ≡ a + b = omega (arith, length-append xs ys) in search (rules, values_from-append, raw_narrow-append)
 
 pub length-demoted_bytes : (n : Narrow) (s : List ℕ) → length (demoted_bytes n s) ≡ length s / 4 * size_of n
-length-demoted_bytes n s =
-    let vs = values_from w32 (length s / 4) s in
-    length-raw (width_of n) (map (demoted n) vs) ∙ ap (λ k. length (map (demoted n) vs) * k) (size_is n)
-    ∙ ap (λ m. m * size_of n) (length-map vs (demoted n) ∙ length-values_from w32 (length s / 4) s)
+length-demoted_bytes n s = search (rules, length-raw, size_is, length-map, length-values_from)

@@ -1,4 +1,5 @@
 -- A block that is put behind others: of a whole one all values, else those in the box of its extent.
+use Rattle.std.proofs.Common.{rules}
 use Rattle.std.proofs.Common.{◌≡◌, refl, sym, ap, subst, ◌∙◌, ℕ, zero, suc, ◌+◌, ◌-◌, ◌*◌, ◌/◌, ◌%◌, ◌^◌, ◌<◌, ◌≤◌, min, nat_lt, true, ℤ, pos, List, [], ◌∷◌, ◌++◌, length, get_or, take, drop, replicate, ext_get_or, length-drop, pow-suc, arith}
 use Rattle.std.proofs.lemmas.List.{get_or-take, get_or-drop, length-take-le, take-append-drop}
 use Rattle.zf_spec.specs.Grid.{product, grid, blocks, coordinates, raster, is_inside, fours, indices, extents, extent_of}
@@ -21,13 +22,7 @@ place_of_fours d p lt =
     ap (λ k. raster (fours d) (indices k p)) (length-fours d) ∙ raster-coordinates (fours d) p (omega (arith, lt, product-fours d))
 
 pub whole_appended : (d : ℕ) (es : List ℕ) (block old new : List ℤ) → es ≡ fours d → length block ≡ 4 ^ d → new ≡ old ++ block → AppendsBlock es block old new
-whole_appended d es block old new whole long is =
-    subst (λ xs. AppendsBlock xs block old new) (sym whole) (record {
-      more = block;
-      behind = is;
-      long = long ∙ sym (product-fours d);
-      values = λ p lt inside. ap (λ i. get_or block i (pos 0)) (place_of_fours d p (subst (λ k. p < 4 ^ k) (length-fours d) lt));
-    })
+whole_appended d es block old new whole long is = search (rules, product-fours, place_of_fours, length-fours)
 
 -- where no size cuts a block all are whole
 all_whole : (ns cs : List ℕ) → HasWholeBlocks ns → is_inside (grid ns) cs ≡ true → extents ns cs ≡ fours (length ns)
@@ -116,11 +111,7 @@ module _ (first : ℕ) (layout : Layout) (e : Extent) (h : IsBox first layout e)
     stays : take first new ≡ old
     stays =
         ext_get_or (pos 0) (take first new) old (length-take-le first new (omega (arith, as_long, more)) ∙ sym long)
-        (λ i lt.
-        let small : i < first = omega (arith, lt, length-take-le first new (omega (arith, as_long, more))) in
-        get_or-take first new i (pos 0) small
-        ∙ put.others i (λ p at same. omega (arith, index_in_box p, same, small))
-        ∙ sym (get_or-take first grown i (pos 0) small) ∙ ap (λ (l : List ℤ). get_or l i (pos 0)) front)
+        (search (rules, length-take-le, get_or-take, index_in_box))
 
     pub part_appended : AppendsBlock (used_axes d e.size) block old new
     part_appended =

@@ -1,4 +1,5 @@
 -- The blocks of an array of raw values: what a gather takes, and what a scatter leaves.
+use Rattle.std.proofs.Common.{rules}
 use Rattle.std.proofs.Common.{◌≡◌, ◌≢◌, ℕ, zero, suc, ◌+◌, ◌*◌, ◌/◌, ◌^◌, ◌<◌, ◌≤◌, Bool, true, false, cond, ℤ, pos, List, [], ◌∷◌, length, get_or, map, All, refl, ap, sym, subst, ◌∙◌, arith, ext_get_or}
 use Rattle.std.proofs.lemmas.List.{length-map}
 use Rattle.zf_spec.specs.Grid.{IsShape, product, grid, blocks, places, coordinates, raster, is_inside, indices, extents, extent_of, position_in, value_at, block_of}
@@ -77,9 +78,7 @@ module _ (ns : List ℕ) (b : ℕ) (layout : Layout) (e : Extent) (h : IsRasterB
   -- a place that exists is that of a position of the block
   place_is_at : (p : ℕ) → HasPlace e p → IsAt ns (position_of p) b p
   unfolding position_of
-  place_is_at p at =
-      let lt = place_below (length ns) e h.shape.four_at_most is_extent p at in
-      record { block_in_array = h.in_array; place_in_block = lt; exists = sym (inside_by p lt) ∙ at.inside; position = refl }
+  place_is_at p at = search (rules, place_below, is_extent, inside_by)
 
   -- its index is the raster number of that position
   index_is : (p : ℕ) → HasPlace e p → index_at layout e p ≡ raster ns (position_of p)
@@ -144,10 +143,7 @@ module _ (ns : List ℕ) (b : ℕ) (layout : Layout) (e : Extent) (h : IsRasterB
 
   -- and padded it is the padded block
   pub gathered_padded : (values old new : List ℤ) → IsGathered layout e values old new → pad (extent_of ns b) new ≡ pad (extent_of ns b) (block_of ns values b)
-  gathered_padded values old new g =
-      let es = extent_of ns b in
-      let sizes = subst (λ s. All IsSize s) (used_size ns b e.size h.shape h.size) (used_sizes (length ns) e h.shape.four_at_most is_extent) in
-      pad_same es new (block_of ns values b) sizes (sym (existing_values-existing_values es new) ∙ ap (existing_values es) (gathered_block values old new g))
+  gathered_padded values old new g = search (rules, used_size, used_sizes, is_extent, pad_same, existing_values-existing_values, gathered_block)
 
   -- what is scattered becomes the block of the array
   pub scattered_block : (block old new : List ℤ) → IsScattered layout e block old new → block_of ns new b ≡ existing_values (extent_of ns b) block
@@ -174,11 +170,7 @@ module _ (ns : List ℕ) (b : ℕ) (layout : Layout) (e : Extent) (h : IsRasterB
 
 -- a value of an array by its block and place
 pub value_of_block : (ns : List ℕ) (values : List ℤ) (ps : List ℕ) (b p : ℕ) → IsAt ns ps b p → get_or (block_of ns values b) p (pos 0) ≡ get_or values (raster ns ps) (pos 0)
-value_of_block ns values ps b p at =
-    let cs = coordinates (grid ns) b in
-    get_or-map-upto (value_at ns values cs) (4 ^ length ns) p (pos 0) at.place_in_block
-    ∙ ap (λ t. cond t (get_or values (raster ns (position_in cs (indices (length ns) p))) (pos 0)) (pos 0)) at.exists
-    ∙ ap (λ qs. get_or values (raster ns qs) (pos 0)) at.position
+value_of_block ns values ps b p at = search (rules, get_or-map-upto)
 
 -- so values whose blocks agree agree
 pub values_from_blocks : (ns : List ℕ) (u v : List ℤ) → length u ≡ product ns → length v ≡ product ns → ((b : ℕ) → b < blocks ns → block_of ns u b ≡ block_of ns v b) → u ≡ v
@@ -203,6 +195,4 @@ all_extents ns b shape lt =
 
 -- so a block that has the values that exist is padded alike
 pub padded_same : (ns : List ℕ) (b : ℕ) (gathered block : List ℤ) → IsShape ns → b < blocks ns → existing_values (extent_of ns b) gathered ≡ block → pad (extent_of ns b) gathered ≡ pad (extent_of ns b) block
-padded_same ns b gathered block shape lt e =
-    let es = extent_of ns b in
-    sym (pad-existing_values es gathered (all_extents ns b shape lt)) ∙ ap (pad es) e
+padded_same ns b gathered block shape lt e = search (rules, pad-existing_values, all_extents)

@@ -1,5 +1,6 @@
 -- Gathers and scatters, place by place.
-use Rattle.std.proofs.Common.{◌≡◌, ℕ, zero, suc, ◌+◌, ◌*◌, ◌/◌, ◌%◌, ◌^◌, ◌-◌, ◌<◌, ◌≤◌, ◌≢◌, ⊎_elim, Bool, true, false, ◌&&◌, lt-ltb, ℤ, pos, List, [], ◌∷◌, ◌++◌, length, map, take, drop, get_or, set, refl, ap, sym, subst, ◌∙◌, arith, pow-suc}
+use Rattle.std.proofs.Common.{rules}
+use Rattle.std.proofs.Common.{◌≡◌, ℕ, zero, suc, ◌+◌, ◌*◌, ◌/◌, ◌%◌, ◌^◌, ◌<◌, ◌≤◌, ◌≢◌, Bool, true, false, lt-ltb, ℤ, pos, List, [], ◌∷◌, ◌++◌, length, map, take, drop, get_or, set, refl, ap, sym, subst, ◌∙◌, arith, pow-suc}
 use Rattle.std.proofs.Math.ListN.{get_or-append}
 use Rattle.std.proofs.lemmas.Bool.{cases_lt}
 use Rattle.std.proofs.lemmas.List.{get_or-take, get_or-drop, get_or-append_right, length-take-le, length-drop, length-map, take-map, drop-map, map-append}
@@ -8,7 +9,7 @@ use Rattle.zf_base.specs.declared.position.Pos.{Pos}
 use Rattle.zf_base.specs.declared.position.Extent.{Extent}
 use Rattle.zf_base.specs.Positions.{axes, IsExtent}
 use Rattle.zf_pad.specs.declared.layout.Layout.{Layout}
-use Rattle.zf_pad.specs.Layouts.{HasPlace, place_indices, moved, index_of, index_at, HasWholeRows, LiesWithin, IsOneToOne}
+use Rattle.zf_pad.specs.Layouts.{place_indices, moved, index_of, index_at, HasWholeRows, LiesWithin, IsOneToOne}
 use Rattle.zf_pad.specs.Copies.{IsGathered, IsScattered}
 use Rattle.zf_pad.proofs.Writes.{IsWritten, written_none, written_more, written_skip, written_skip_all, written_row}
 use Rattle.zf_pad.proofs.Existing.{place_below}
@@ -50,9 +51,7 @@ index_by_row layout e r k small = ap (λ i. index_in_row layout e i ((4 * r + k)
 -- of a whole row all places exist, or none
 same_in_row : (e : Extent) (r k : ℕ) → k < 4 → e.size.x ≡ 4 → exists_at e k r ≡ exists_at e 0 r
 unfolding exists_at
-same_in_row e r k small four =
-    let rest = is_inside (e.size.y ∷ e.size.z ∷ e.size.w ∷ []) (r % 4 ∷ r / 4 % 4 ∷ r / 4 / 4 % 4 ∷ []) in
-    ap (λ t. t && rest) (lt-ltb k e.size.x (omega arith) ∙ sym (lt-ltb 0 e.size.x (omega arith)))
+same_in_row e r k small four = search (rules, lt-ltb)
 
 pub row_exists : (e : Extent) (r k : ℕ) (t : Bool) → k < 4 → e.size.x ≡ 4 → exists e (4 * r) ≡ t → exists e (4 * r + k) ≡ t
 row_exists e r k t small four was =
@@ -61,10 +60,7 @@ row_exists e r k t small four was =
 -- and they stand beside one another
 beside : (layout : Layout) (e : Extent) (r k : ℕ) → layout.step.x ≡ 1 → index_in_row layout e k r ≡ index_in_row layout e 0 r + k
 unfolding index_in_row index_of moved
-beside layout e r k one =
-    let by_one : (e.origin.x + k) * layout.step.x ≡ e.origin.x + k = ap (λ s. (e.origin.x + k) * s) one ∙ omega arith in
-    let none : (e.origin.x + 0) * layout.step.x ≡ e.origin.x = ap (λ s. (e.origin.x + 0) * s) one ∙ omega arith in
-    omega arith
+beside layout e r k one = search rules
 
 pub row_index : (layout : Layout) (e : Extent) (r k : ℕ) → k < 4 → layout.step.x ≡ 1 → index_at layout e (4 * r + k) ≡ index_at layout e (4 * r) + k
 row_index layout e r k small one =
@@ -77,9 +73,7 @@ index_in_slice layout e y s = index_of layout (moved e.origin (record { x = 0; y
 
 index_by_slice : (layout : Layout) (e : Extent) (s y : ℕ) → y < 4 → index_in_row layout e 0 (4 * s + y) ≡ index_in_slice layout e y s
 unfolding index_in_row index_in_slice
-index_by_slice layout e s y small =
-    ap (λ i. index_of layout (moved e.origin (record { x = 0; y = i; z = (4 * s + y) / 4 % 4; w = (4 * s + y) / 4 / 4 % 4 }))) (first_of_row s y small)
-    ∙ ap (λ j. index_of layout (moved e.origin (record { x = 0; y = y; z = j % 4; w = j / 4 % 4 }))) (row_of_place s y small)
+index_by_slice layout e s y small = search (rules, first_of_row, row_of_place)
 
 behind_first : (layout : Layout) (e : Extent) (s y : ℕ) → index_in_slice layout e y s ≡ index_in_slice layout e 0 s + y * layout.step.y
 unfolding index_in_slice index_of moved
@@ -114,23 +108,8 @@ copied_row from to source old there room =
     let four : length (take 4 (drop from source)) ≡ 4 = length-take-le 4 (drop from source) (omega (arith, length-drop from source)) in
     let rest = take 4 (drop from source) ++ drop (to + 4) old in
     record {
-      row = λ k small.
-          let back : to + k - to ≡ k = omega arith in
-          get_or-append_right (take to old) rest to (to + k) (pos 0) prefix (omega arith)
-          ∙ ap (λ i. get_or rest i (pos 0)) back
-          ∙ get_or-append (take 4 (drop from source)) (drop (to + 4) old) (pos 0) k (omega (arith, four))
-          ∙ get_or-take 4 (drop from source) k (pos 0) small ∙ get_or-drop from source k (pos 0);
-      others = λ i free. ⊎_elim
-          (λ (before : i < to). get_or-append (take to old) rest (pos 0) i (omega (arith, prefix)) ∙ get_or-take to old i (pos 0) before)
-          (λ (from_there : to ≤ i). ⊎_elim
-          (λ (within : i < to + 4). absurd (free (i - to) (omega arith) (omega arith)))
-          (λ (behind : to + 4 ≤ i).
-          let place : to + 4 + (i - to - 4) ≡ i = omega arith in
-          get_or-append_right (take to old) rest to i (pos 0) prefix from_there
-          ∙ get_or-append_right (take 4 (drop from source)) (drop (to + 4) old) 4 (i - to) (pos 0) four (omega arith)
-          ∙ get_or-drop (to + 4) old (i - to - 4) (pos 0) ∙ ap (λ n. get_or old n (pos 0)) place)
-          (cases_lt i (to + 4)))
-          (cases_lt i to);
+      row = search (rules, get_or-append_right, get_or-append, get_or-take, get_or-drop);
+      others = λ i free. search (rules, get_or-append, get_or-take, get_or-append_right, get_or-drop, cases_lt);
     }
 
 -- four values that are put one after another
@@ -162,17 +141,7 @@ take_four (x ∷ source) (suc from) a b c d there e f g h =
 pub four_copied : {X : Type 0} (source old : List X) (from to : ℕ) (a b c d : X) → from + 4 ≤ length source → to + 4 ≤ length old
     → a ≡ get_or source from a → b ≡ get_or source (from + 1) b → c ≡ get_or source (from + 2) c → d ≡ get_or source (from + 3) d
     → set (set (set (set old to a) (to + 1) b) (to + 2) c) (to + 3) d ≡ take to old ++ (take 4 (drop from source) ++ drop (to + 4) old)
-four_copied {X} source old from to a b c d there room e f g h =
-    let one : to + 1 ≡ suc to = omega arith in
-    let two : to + 2 ≡ suc (suc to) = omega arith in
-    let three : to + 3 ≡ suc (suc (suc to)) = omega arith in
-    let four : suc (suc (suc (suc to))) ≡ to + 4 = omega arith in
-    ap (λ i. set (set (set (set old to a) i b) (to + 2) c) (to + 3) d) one
-    ∙ ap (λ i. set (set (set (set old to a) (suc to) b) i c) (to + 3) d) two
-    ∙ ap (λ i. set (set (set (set old to a) (suc to) b) (suc (suc to)) c) i d) three
-    ∙ put_four old to a b c d room
-    ∙ ap (λ i. take to old ++ a ∷ b ∷ c ∷ d ∷ drop i old) four
-    ∙ ap (λ (l : List X). take to old ++ (l ++ drop (to + 4) old)) (sym (take_four source from a b c d there e f g h))
+four_copied {X} source old from to a b c d there room e f g h = search (rules, put_four, take_four)
 
 -- the same of the numbers of values
 pub row_copied : {X : Type 0} (f : X → ℤ) (from to : ℕ) (source old new : List X) → from + 4 ≤ length source → to + 4 ≤ length old
@@ -221,10 +190,7 @@ module _ (layout : Layout) (e : Extent) (values old : List ℤ) where
 
   pub gathered_all : (d n : ℕ) (now : List ℤ) → d ≤ 4 → IsExtent d e → n ≡ 4 ^ d → n ≤ 256 → IsGatheredTo now n → IsGathered layout e values old now
   unfolding IsGatheredTo
-  gathered_all d n now dims extent whole small h = record {
-    existing = λ p at. h.written p (omega (arith, place_below d e dims extent p at)) at.inside;
-    others = λ p none. h.others p (λ q lt here at. none (subst (HasPlace e) at (record { in_block = omega arith; inside = here })));
-  }
+  gathered_all d n now dims extent whole small h = search (rules, place_below)
 
 -- ---- scattering
 
@@ -260,14 +226,9 @@ module _ (layout : Layout) (e : Extent) (block old : List ℤ) where
       subst (IsWritten (exists e) (index_at layout e) (λ p. get_or block p (pos 0)) old new) (omega arith)
       (written_row (exists e) (index_at layout e) (λ p. get_or block p (pos 0)) old now new (4 * r) first
       (λ k small. row_exists e r k true small rows.1 here) (λ k small. row_index layout e r k small rows.0 ∙ ap (λ i. i + k) (sym is))
-      (λ p k lt small w same.
-      let p_is = one p (4 * r + k) (record { in_block = omega arith; inside = w }) (record { in_block = omega arith; inside = row_exists e r k true small rows.1 here }) same in
-      absurd (omega (arith, p_is)))
+      (search (rules, row_exists))
       copied.row copied.others h)
 
   pub scattered_all : (d n : ℕ) (now : List ℤ) → d ≤ 4 → IsExtent d e → n ≡ 4 ^ d → n ≤ 256 → IsScatteredTo now n → IsScattered layout e block old now
   unfolding IsScatteredTo
-  scattered_all d n now dims extent whole small h = record {
-    existing = λ p at. h.written p (omega (arith, place_below d e dims extent p at)) at.inside;
-    others = λ i free. h.others i (λ p lt here at. free p (record { in_block = omega arith; inside = here }) at);
-  }
+  scattered_all d n now dims extent whole small h = search (rules, place_below)

@@ -1,5 +1,6 @@
 -- The places that exist: told by four axes, and by the used ones.
-use Rattle.std.proofs.Common.{◌≡◌, ℕ, zero, suc, ◌-◌, ◌/◌, ◌%◌, ◌^◌, ◌<◌, ◌≤◌, true, ◌&&◌, ltb, ltb-true, lt-ltb, List, [], ◌∷◌, ◌++◌, length, replicate, refl, ap, sym, subst, ◌∙◌, arith, lit<, pow-suc}
+use Rattle.std.proofs.Common.{rules}
+use Rattle.std.proofs.Common.{◌≡◌, ℕ, zero, suc, ◌-◌, ◌/◌, ◌%◌, ◌^◌, ◌<◌, ◌≤◌, true, ◌&&◌, ltb, ltb-true, lt-ltb, List, [], ◌∷◌, ◌++◌, length, replicate, refl, ap, sym, subst, ◌∙◌, arith, pow-suc}
 use Rattle.std.proofs.lemmas.Bool.{and_parts, and_from}
 use Rattle.zf_spec.specs.Grid.{is_inside, fours, indices}
 use Rattle.zf_base.specs.declared.position.Extent.{Extent}
@@ -70,15 +71,7 @@ module _ (d : ℕ) (e : Extent) (dims : d ≤ 4) (h : IsExtent d e) where
   -- the first place exists
   pub first_place : HasPlace e 0
   unfolding place_indices
-  first_place =
-      let some = sizes_not_zero d e dims h in
-      record {
-        in_block = lit< tt;
-        inside = and_from (ltb 0 e.size.x) (ltb 0 e.size.y && (ltb 0 e.size.z && (ltb 0 e.size.w && true))) (lt-ltb 0 e.size.x some.0)
-            (and_from (ltb 0 e.size.y) (ltb 0 e.size.z && (ltb 0 e.size.w && true)) (lt-ltb 0 e.size.y some.1.0)
-            (and_from (ltb 0 e.size.z) (ltb 0 e.size.w && true) (lt-ltb 0 e.size.z some.1.1.0)
-            (and_from (ltb 0 e.size.w) true (lt-ltb 0 e.size.w some.1.1.1.0) refl)));
-      }
+  first_place = search (rules, sizes_not_zero, and_from, lt-ltb)
 
 -- at the first place is the extent's first position
 pub first_index : (layout : Layout) (e : Extent) → index_at layout e 0 ≡ index_of layout e.origin

@@ -1,5 +1,6 @@
 -- The blocks of an array of one dimension: where they begin, and what is copied of a whole one, whose values stand beside one another.
-use Rattle.std.proofs.Common.{◌≡◌, ℕ, ◌+◌, ◌*◌, ◌<◌, ◌≤◌, ℤ, pos, List, [], ◌∷◌, length, get_or, take, drop, ap, sym, ◌∙◌, arith}
+use Rattle.std.proofs.Common.{rules}
+use Rattle.std.proofs.Common.{◌≡◌, ℕ, ◌+◌, ◌*◌, ◌<◌, ◌≤◌, ℤ, List, [], ◌∷◌, length, get_or, take, drop, ap, arith}
 use Rattle.std.proofs.lemmas.List.{get_or-take, get_or-drop}
 use Rattle.zf_spec.specs.Grid.{product, blocks, extent_of, block_of}
 use Rattle.zf_spec.specs.Codes.{existing_values}
@@ -30,16 +31,10 @@ place_on_line (n ∷ m ∷ ns) b p layout e one extent h at = absurd (omega arit
 -- a whole one ends before the end
 pub whole_within : (ns : List ℕ) (b : ℕ) (layout : Layout) (e : Extent) → length ns ≡ 1 → IsRasterBlock ns b layout e → e.size.x ≡ 4 → e.origin.x + 4 ≤ product ns
 whole_within [] b layout e one h four = absurd (omega arith)
-whole_within (n ∷ []) b layout e one h four =
-    let begins = ap (λ (o : Pos). o.x) h.origin in
-    let size = ap (λ (s : Pos). s.x) h.size in
-    omega arith
+whole_within (n ∷ []) b layout e one h four = search rules
 whole_within (n ∷ m ∷ ns) b layout e one h four = absurd (omega arith)
 
 -- four values that are taken from its begin on are the block
 pub line_taken : (ns : List ℕ) (b : ℕ) (layout : Layout) (e : Extent) (values block : List ℤ) → length ns ≡ 1 → IsExtent 1 e → IsRasterBlock ns b layout e → block ≡ take 4 (drop e.origin.x values) → existing_values (extent_of ns b) block ≡ block_of ns values b
 line_taken ns b layout e values block one extent h is =
-    block_is ns b layout e h values block (λ p at.
-    let here = place_on_line ns b p layout e one extent h at in
-    ap (λ (l : List ℤ). get_or l p (pos 0)) is ∙ get_or-take 4 (drop e.origin.x values) p (pos 0) here.0 ∙ get_or-drop e.origin.x values p (pos 0)
-    ∙ ap (λ i. get_or values i (pos 0)) (sym here.1))
+    block_is ns b layout e h values block (search (rules, place_on_line, get_or-take, get_or-drop))

@@ -1,11 +1,12 @@
 -- A slab of an array is an array of its own.
-use Rattle.std.proofs.Common.{◌≡◌, refl, sym, ap, subst, ◌∙◌, ℕ, zero, suc, ◌+◌, ◌-◌, ◌*◌, ◌/◌, ◌%◌, ◌^◌, ◌<◌, ◌≤◌, min, Bool, true, false, cond, ltb, ℤ, pos, List, [], ◌∷◌, length, get_or, map, drop, mul_assoc, mod-eq_of_lt, ⊎_elim, arith}
+use Rattle.std.proofs.Common.{rules}
+use Rattle.std.proofs.Common.{◌≡◌, refl, sym, ap, subst, ◌∙◌, ℕ, zero, suc, ◌+◌, ◌-◌, ◌*◌, ◌/◌, ◌%◌, ◌^◌, ◌<◌, ◌≤◌, min, Bool, true, false, cond, ltb, ℤ, pos, List, [], ◌∷◌, length, get_or, drop, mul_assoc, mod-eq_of_lt, arith}
 use Rattle.std.proofs.Math.Nat.{add-mul-mod_self_left, add-mul-div_left, mul-add, mul-le-mul_left}
 use Rattle.std.specs.List.{AllByRecursion}
 use Rattle.std.proofs.lemmas.Bool.{and_parts, and_from, ltb-true, lt-ltb, false≢true}
 use Rattle.std.proofs.lemmas.Nat.{div_below}
 use Rattle.std.proofs.lemmas.List.{length-map, get_or-take, get_or-drop}
-use Rattle.zf_spec.specs.Grid.{IsShape, product, grid, blocks, places, coordinates, raster, is_inside, indices, extents, extent_of, position_in, value_at, block_of}
+use Rattle.zf_spec.specs.Grid.{IsShape, product, grid, blocks, coordinates, raster, is_inside, indices, extents, extent_of, position_in, value_at, block_of}
 use Rattle.zf_spec.proofs.Counting.{map-upto_same}
 use Rattle.zf_spec.proofs.Raster.{length-coordinates, length-indices}
 use Rattle.zf_base.specs.Places.{IsAt}
@@ -61,11 +62,7 @@ blocks-with_rows rows ns some =
 pub coordinates-rows_on : (ns : List ℕ) (first rows i : ℕ) → 1 ≤ length ns → first + rows ≤ rows_of ns → i < product (with_rows rows ns)
     → coordinates ns (row_len ns * first + i) ≡ rows_on first (coordinates (with_rows rows ns) i)
 coordinates-rows_on [] first rows i some within lt = absurd (omega arith)
-coordinates-rows_on (n ∷ []) first rows i some within lt =
-    let small : i < rows = omega arith in
-    let here : i % rows ≡ i = mod-eq_of_lt small in
-    let there : (1 * first + i) % n ≡ first + i % rows = mod-eq_of_lt (omega arith) ∙ omega (arith, here) in
-    ap (λ p. p ∷ []) there
+coordinates-rows_on (n ∷ []) first rows i some within lt = search (rules, mod-eq_of_lt)
 coordinates-rows_on (n ∷ m ∷ ns) first rows i some within lt =
     let r = row_len (m ∷ ns) in
     let all = product (with_rows rows (m ∷ ns)) in
@@ -105,12 +102,7 @@ extents-rows_on : (ns cs : List ℕ) (c rows : ℕ) → IsSlab ns c rows → len
     → extents ns (rows_on c cs) ≡ extents (with_rows rows ns) cs
 extents-rows_on [] cs c rows slab long inside = absurd (omega (arith, slab.some_axis))
 extents-rows_on (n ∷ []) [] c rows slab long inside = absurd (omega arith)
-extents-rows_on (n ∷ []) (k ∷ []) c rows slab long inside =
-    let parts = and_parts (ltb k ((rows + 3) / 4)) true inside in
-    let below : k < (rows + 3) / 4 = ltb-true k ((rows + 3) / 4) parts.0 in
-    let same : min 4 (n - 4 * (c + k)) ≡ min 4 (rows - 4 * k) =
-    ⊎_elim (λ whole. omega (arith, whole, below, slab.within)) (λ last. omega (arith, last, below)) slab.whole in
-    ap (λ e. e ∷ []) same
+extents-rows_on (n ∷ []) (k ∷ []) c rows slab long inside = search (rules, and_parts, ltb-true)
 extents-rows_on (n ∷ []) (k ∷ l ∷ cs) c rows slab long inside = absurd (omega arith)
 extents-rows_on (n ∷ m ∷ ns) [] c rows slab long inside = absurd (omega arith)
 extents-rows_on (n ∷ m ∷ ns) (k ∷ []) c rows slab long inside = absurd (omega arith)
@@ -151,11 +143,7 @@ module _ (ns : List ℕ) (c rows : ℕ) (slab : IsSlab ns c rows) (j : ℕ) (lt 
 
   -- its block
   pub coordinates_of_block : coordinates (grid ns) (first_block ns c + j) ≡ rows_on c (coordinates (grid (with_rows rows ns)) j)
-  coordinates_of_block =
-      let same = grid-with_rows rows ns in
-      let below : j < product (with_rows ((rows + 3) / 4) (grid ns)) = omega (arith, lt, ap product same) in
-      let fits : c + (rows + 3) / 4 ≤ rows_of (grid ns) = omega (arith, rows_of-grid ns slab.some_axis, slab.within) in
-      coordinates-rows_on (grid ns) c ((rows + 3) / 4) j some_axis fits below ∙ ap (λ gs. rows_on c (coordinates gs j)) (sym same)
+  coordinates_of_block = search (rules, grid-with_rows, rows_of-grid, coordinates-rows_on, some_axis)
 
   long_block : length cs ≡ length ns
   long_block = length-coordinates (grid (with_rows rows ns)) j ∙ length-map (with_rows rows ns) (λ n. (n + 3) / 4) ∙ length-with_rows rows ns
@@ -177,9 +165,7 @@ module _ (ns : List ℕ) (c rows : ℕ) (slab : IsSlab ns c rows) (j : ℕ) (lt 
       let many = row_len ns * rows in
       let dims : length (with_rows rows ns) ≡ d = length-with_rows rows ns in
       let long_at : length at ≡ length cs = length-indices d p ∙ sym long_block in
-      let same_index : raster ns (position_in (rows_on c cs) at) ≡ start + raster (with_rows rows ns) here =
-      ap (raster ns) (position_in-rows_on cs at c long_at)
-      ∙ raster-rows_on ns here (4 * c) rows slab.some_axis (length-position_in cs at long_at ∙ long_block) in
+      let same_index : raster ns (position_in (rows_on c cs) at) ≡ start + raster (with_rows rows ns) here = search (rules, position_in-rows_on, raster-rows_on, length-position_in, long_block) in
       let Value : ℕ → ℤ = λ k.
       cond (is_inside (extents (with_rows rows ns) cs) (indices k p)) (get_or (slab_of ns values c rows) (raster (with_rows rows ns) (position_in cs (indices k p))) (pos 0)) (pos 0) in
       ap (λ es. cond (is_inside es at) (get_or values (raster ns (position_in (rows_on c cs) at)) (pos 0)) (pos 0)) extents_same
@@ -206,11 +192,7 @@ module _ (ns : List ℕ) (c rows : ℕ) (slab : IsSlab ns c rows) (j : ℕ) (lt 
 
   -- and which is the block of the slab
   pub block_of-slab : (values : List ℤ) → block_of ns values (first_block ns c + j) ≡ block_of (with_rows rows ns) (slab_of ns values c rows) j
-  block_of-slab values =
-      let d = length ns in
-      ap (λ qs. map (value_at ns values qs) (places d)) coordinates_of_block
-      ∙ map-upto_same (value_at ns values (rows_on c cs)) (value_at (with_rows rows ns) (slab_of ns values c rows) cs) (4 ^ d) (value_same values)
-      ∙ ap (λ k. map (value_at (with_rows rows ns) (slab_of ns values c rows) cs) (places k)) (sym (length-with_rows rows ns))
+  block_of-slab values = search (rules, coordinates_of_block, map-upto_same, value_same, length-with_rows)
 
 -- what is gathered of the slab is gathered of the whole array
 pub gathered_of_slab : (ns : List ℕ) (values old new : List ℤ) (c rows j : ℕ) (layout : Layout) (e : Extent) → IsSlab ns c rows → IsRasterBlock (with_rows rows ns) j layout e
@@ -231,10 +213,7 @@ rows_on-none (p ∷ q ∷ ps) = ap (λ qs. p ∷ qs) (rows_on-none (q ∷ ps))
 inside_more : (ns ps : List ℕ) (rows : ℕ) → rows ≤ rows_of ns → is_inside (with_rows rows ns) ps ≡ true → is_inside ns ps ≡ true
 inside_more [] ps rows few inside = refl
 inside_more (n ∷ []) [] rows few inside = absurd (false≢true inside)
-inside_more (n ∷ []) (p ∷ ps) rows few inside =
-    let parts = and_parts (ltb p rows) true inside in
-    let below : p < rows = ltb-true p rows parts.0 in
-    and_from (ltb p n) true (lt-ltb p n (omega arith)) refl
+inside_more (n ∷ []) (p ∷ ps) rows few inside = search (rules, and_parts, ltb-true, and_from, lt-ltb)
 inside_more (n ∷ m ∷ ns) [] rows few inside = absurd (false≢true inside)
 inside_more (n ∷ m ∷ ns) (p ∷ ps) rows few inside =
     let parts = and_parts (ltb p n) (is_inside (with_rows rows (m ∷ ns)) ps) inside in

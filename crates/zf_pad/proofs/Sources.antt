@@ -1,4 +1,5 @@
 -- Padding in place: each place takes the value of its source.
+use Rattle.std.proofs.Common.{rules}
 use Rattle.std.proofs.Common.{◌≡◌, ℕ, zero, suc, ◌+◌, ◌-◌, ◌*◌, ◌/◌, ◌%◌, ◌^◌, ◌<◌, ◌≤◌, true, ℤ, pos, List, [], ◌∷◌, ◌++◌, length, get_or, set, replicate, All, refl, ap, sym, ◌∙◌, ⊎_elim, arith, ext_get_or, pow-suc}
 use Rattle.std.proofs.lemmas.Bool.{cases_lt}
 use Rattle.zf_spec.specs.Grid.{fours}
@@ -48,15 +49,7 @@ source_of_source es p ok = source_place_existing es (source_place es p) ok (sour
 source_place-fours : (d p : ℕ) → p < 4 ^ d → source_place (fours d) p ≡ p
 source_place-fours zero p h = omega arith
 source_place-fours (suc d) p h =
-    let rest = source_place-fours d (p / 4) (omega (arith, pow-suc 4 d)) in
-    omega (arith, same (p % 4) (omega arith), rest)
-  where
-    same : (i : ℕ) → i < 4 → get_or (sources 4) i 0 ≡ i
-    same zero h = refl
-    same (suc zero) h = refl
-    same (suc (suc zero)) h = refl
-    same (suc (suc (suc zero))) h = refl
-    same (suc (suc (suc (suc i)))) h = absurd (omega arith)
+    let rest = source_place-fours d (p / 4) (omega (arith, pow-suc 4 d)) in search rules
 
 -- so it is padded already
 pub pad-whole : (d : ℕ) (es : List ℕ) (block : List ℤ) → es ≡ fours d → length block ≡ 4 ^ d → block ≡ pad es block

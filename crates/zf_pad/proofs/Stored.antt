@@ -1,11 +1,12 @@
 -- The values of an array in the order of blocks: where those of a block begin, and what they are in raster order.
+use Rattle.std.proofs.Common.{rules}
 use Rattle.std.proofs.Common.{◌≡◌, refl, sym, ap, subst, ◌∙◌, ℕ, zero, suc, ◌+◌, ◌-◌, ◌*◌, ◌/◌, ◌%◌, ◌^◌, ◌<◌, ◌≤◌, ⊎_elim, min, true, cond, ℤ, pos, List, [], ◌∷◌, ◌++◌, length, get_or, take, map, mod-lt, mod-eq_of_lt, mul-le-mul_left, arith, length-append}
 use Rattle.std.proofs.Math.Nat.{add-mul-mod_self_left, add-mul-div_left, div-eq_of_lt, div-add-mod, mul-mod_right}
 use Rattle.std.proofs.Math.ListN.{get_or-append}
 use Rattle.std.proofs.lemmas.Bool.{cases_lt}
 use Rattle.std.proofs.lemmas.Nat.{div_below}
 use Rattle.std.proofs.lemmas.List.{length-map, get_or-append_right, get_or-take, length-take-le}
-use Rattle.zf_spec.specs.Grid.{product, grid, blocks, coordinates, raster, is_inside, fours, indices, extents, extent_of, position_in, value_at, block_of, blocks_of}
+use Rattle.zf_spec.specs.Grid.{product, grid, blocks, coordinates, raster, is_inside, fours, indices, extent_of, position_in, value_at, block_of, blocks_of}
 use Rattle.zf_spec.specs.Codes.{existing_values}
 use Rattle.zf_spec.proofs.Counting.{length-map-upto, get_or-map-upto, map-upto_same, from_places}
 use Rattle.zf_spec.proofs.Padding.{get_or-existing_inside, existing_values-existing_values}
@@ -30,9 +31,7 @@ module _ (g b : ℕ) (some : 0 < g) where
       ap (λ k. k % g) is ∙ add-mul-mod_self_left (suc (b % g)) g (b / g) ∙ mod-eq_of_lt lt
 
   pub next_div : suc (b % g) < g → suc b / g ≡ b / g
-  next_div lt =
-      let is : suc b ≡ suc (b % g) + g * (b / g) = omega (arith, parts) in
-      ap (λ k. k / g) is ∙ add-mul-div_left (suc (b % g)) (b / g) some ∙ ap (λ q. q + b / g) (div-eq_of_lt lt) ∙ omega arith
+  next_div lt = search (rules, parts, add-mul-div_left, div-eq_of_lt)
 
   pub last_is : suc (b % g) ≡ g → suc b ≡ g * suc (b / g)
   last_is same = omega (arith, parts, same)
@@ -41,19 +40,13 @@ module _ (g b : ℕ) (some : 0 < g) where
   last_mod same = ap (λ k. k % g) (last_is same) ∙ mul-mod_right g (suc (b / g))
 
   pub last_div : suc (b % g) ≡ g → suc b / g ≡ suc (b / g)
-  last_div same =
-      let is : suc b ≡ 0 + g * suc (b / g) = omega (arith, last_is same) in
-      ap (λ k. k / g) is ∙ add-mul-div_left 0 (suc (b / g)) some ∙ ap (λ q. q + suc (b / g)) (div-eq_of_lt some) ∙ omega arith
+  last_div same = search (rules, last_is, add-mul-div_left, div-eq_of_lt)
 
 below_of_product : (g q m : ℕ) → g * q < g * m → q < m
 below_of_product g q m lt = ⊎_elim (λ (h : q < m). h) (λ (h : m ≤ q). absurd (omega (arith, lt, mul-le-mul_left g h))) (cases_lt q m)
 
 same_of_product : (g q m : ℕ) → 0 < g → g * q ≡ g * m → q ≡ m
-same_of_product g q m some same =
-    ⊎_elim
-    (λ (h : q < m). absurd (omega (arith, some, same, mul-le-mul_left g h)))
-    (λ (h : m ≤ q). ⊎_elim (λ (k : m < q). absurd (omega (arith, some, same, mul-le-mul_left g k))) (λ (k : q ≤ m). omega arith) (cases_lt m q))
-    (cases_lt q m)
+same_of_product g q m some same = search (rules, mul-le-mul_left, cases_lt)
 
 -- the values of a block end where those of the next one begin, and those of the last one where all end
 pub record EndsAt (ns : List ℕ) (b : ℕ) : Type 0 where
@@ -67,13 +60,9 @@ ends_within n ns b some lt =
     let c = b % g in
     let q = b / g in
     let size = product (extent_of ns q) in
-    let from = start_at ns (coordinates (grid ns) q) in
     let whole : min 4 (n - 4 * c) ≡ 4 = omega (arith, lt) in
     record {
-      next = λ h.
-          omega (arith, ap (λ e. e * size) whole)
-          ∙ sym (ap (λ k. start_at (n ∷ ns) (k ∷ coordinates (grid ns) (suc b / g))) (next_mod g b some lt)
-          ∙ ap (λ k. start_at (n ∷ ns) (suc c ∷ coordinates (grid ns) k)) (next_div g b some lt));
+      next = search (rules, next_mod, next_div);
       last = λ h. absurd (omega (arith, next_mod g b some lt, ap (λ k. k % g) h ∙ mul-mod_right g (blocks ns)));
     }
 
@@ -88,15 +77,7 @@ ends_behind n ns b some same rest =
     let is = last_is g b some same in
     let all : 4 * c + min 4 (n - 4 * c) ≡ n = omega (arith, same) in
     let row : start_at (n ∷ ns) (coordinates (grid (n ∷ ns)) b) + product (extent_of (n ∷ ns) b) ≡ n * (from + size) = omega (arith, ap (λ k. k * size) all) in
-    record {
-      next = λ h.
-          let below : suc q < blocks ns = below_of_product g (suc q) (blocks ns) (omega (arith, is, h)) in
-          row ∙ ap (λ k. n * k) (rest.next below)
-          ∙ sym (ap (λ k. start_at (n ∷ ns) (k ∷ coordinates (grid ns) (suc b / g))) (last_mod g b some same)
-          ∙ ap (λ k. start_at (n ∷ ns) (0 ∷ coordinates (grid ns) k)) (last_div g b some same)
-          ∙ omega arith);
-      last = λ h. row ∙ ap (λ k. n * k) (rest.last (same_of_product g (suc q) (blocks ns) some (sym is ∙ h)));
-    }
+    search (rules, below_of_product, last_mod, last_div, same_of_product)
 
 pub ends_at : (ns : List ℕ) (b : ℕ) → b < blocks ns → EndsAt ns b
 ends_at [] b lt = record { next = λ h. absurd (omega (arith, lt, h)); last = λ h. refl }
@@ -162,9 +143,7 @@ index_of_place ns ps b p at =
     let places_are : map (λ q. q % 4) ps ≡ is =
     sym (ap (λ d. indices d p) (sym long) ∙ ap (indices (length ps)) (IsAt-place ns ps b p at)
     ∙ coordinates-raster (fours (length ps)) (map (λ q. q % 4) ps) (length-map ps (λ q. q % 4) ∙ sym (length-fours (length ps))) (is_inside-fours ps)) in
-    ap (λ ds. start_at ns ds + raster (extents ns ds) (map (λ q. q % 4) ps)) blocks_are
-    ∙ ap (λ js. start_at ns cs + raster (extents ns cs) js) places_are
-    ∙ ap (λ k. k + raster (extents ns cs) is) (sym (begins_at ns b at.block_in_array))
+    search (rules, begins_at)
 
 -- ---- the blocks so far
 
@@ -189,9 +168,7 @@ module _ (ns : List ℕ) (bs : List (List ℤ)) (b : ℕ) (block stored new : Li
   before k lt = get_or-append bs (added ∷ []) [] k (omega (arith, lt, is))
 
   here : get_or (bs ++ added ∷ []) b [] ≡ added
-  here =
-      let none : b - b ≡ 0 = omega arith in
-      get_or-append_right bs (added ∷ []) b b [] is (omega arith) ∙ ap (λ k. get_or (added ∷ []) k []) none
+  here = search (rules, get_or-append_right, added)
 
   -- a block is one of those before, or the last
   by_block : (P : ℕ → Type 0) → ((k : ℕ) → k < b → P k) → P b → (k : ℕ) → k < length (bs ++ added ∷ []) → P k
@@ -202,30 +179,12 @@ module _ (ns : List ℕ) (bs : List (List ℤ)) (b : ℕ) (block stored new : Li
 
   stays : (k p : ℕ) → k < b → p < 4 ^ length ns → is_inside (extent_of ns k) (indices (length ns) p) ≡ true
       → get_or new (stored_before ns k + raster (extent_of ns k) (indices (length ns) p)) (pos 0) ≡ get_or (get_or (bs ++ added ∷ []) k []) p (pos 0)
-  stays k p lt small inside =
-      let i = stored_before ns k + raster (extent_of ns k) (indices (length ns) p) in
-      ap (λ (l : List ℤ). get_or l i (pos 0)) a.behind
-      ∙ get_or-append stored a.more (pos 0) i (place_below k p inside lt)
-      ∙ h.values k p (omega (arith, lt, is)) small inside ∙ ap (λ (l : List ℤ). get_or l p (pos 0)) (sym (before k lt))
+  stays k p lt small inside = search (rules, get_or-append, place_below, before)
 
   comes : (p : ℕ) → p < 4 ^ length ns → is_inside (extent_of ns b) (indices (length ns) p) ≡ true
       → get_or new (stored_before ns b + raster (extent_of ns b) (indices (length ns) p)) (pos 0) ≡ get_or (get_or (bs ++ added ∷ []) b []) p (pos 0)
   unfolding added
-  comes p small inside =
-      let es = extent_of ns b in
-      let d = length-extent_of ns b in
-      let r = raster es (indices (length ns) p) in
-      let long : length stored ≡ stored_before ns b = h.long ∙ ap (stored_before ns) is in
-      let back : stored_before ns b + r - stored_before ns b ≡ r = omega arith in
-      let place : p < 4 ^ length es = subst (λ k. p < 4 ^ k) (sym d) small in
-      let exists : is_inside es (indices (length es) p) ≡ true = ap (λ k. is_inside es (indices k p)) d ∙ inside in
-      ap (λ (l : List ℤ). get_or l (stored_before ns b + r) (pos 0)) a.behind
-      ∙ get_or-append_right stored a.more (stored_before ns b) (stored_before ns b + r) (pos 0) long (omega arith)
-      ∙ ap (λ i. get_or a.more i (pos 0)) back
-      ∙ ap (λ k. get_or a.more (raster es (indices k p)) (pos 0)) (sym d)
-      ∙ a.values p place exists
-      ∙ sym (get_or-existing_inside es block p place exists)
-      ∙ ap (λ (l : List ℤ). get_or l p (pos 0)) (sym here)
+  comes p small inside = search (rules, length-extent_of, get_or-append_right, get_or-existing_inside, here)
 
   -- one block more
   pub stores_more : Stores ns (bs ++ existing_values (extent_of ns b) block ∷ []) new
@@ -249,9 +208,7 @@ length-raster_of ns stored = length-map-upto (λ k. get_or stored (stored_index 
 
 -- a value in raster order
 pub raster_value : (ns ps : List ℕ) (stored : List ℤ) → length ps ≡ length ns → is_inside ns ps ≡ true → get_or (raster_of ns stored) (raster ns ps) (pos 0) ≡ get_or stored (stored_index ns ps) (pos 0)
-raster_value ns ps stored long inside =
-    get_or-map-upto (λ k. get_or stored (stored_index ns (coordinates ns k)) (pos 0)) (product ns) (raster ns ps) (pos 0) (raster-lt ns ps inside)
-    ∙ ap (λ qs. get_or stored (stored_index ns qs) (pos 0)) (coordinates-raster ns ps long inside)
+raster_value ns ps stored long inside = search (rules, get_or-map-upto, raster-lt, coordinates-raster)
 
 -- in one dimension they stand in raster order
 pub raster_of_one : (ns : List ℕ) (stored : List ℤ) → length ns ≡ 1 → product ns ≤ length stored → raster_of ns stored ≡ take (product ns) stored
@@ -259,11 +216,7 @@ raster_of_one [] stored one within = absurd (omega arith)
 raster_of_one (n ∷ []) stored one within =
     let all = product (n ∷ []) in
     from_places (λ k. get_or stored (stored_index (n ∷ []) (k % n ∷ [])) (pos 0)) all (pos 0) (take all stored) (length-take-le all stored within)
-    (λ k lt.
-    let small : k % n ≡ k = mod-eq_of_lt (omega (arith, lt)) in
-    let place : stored_index (n ∷ []) (k ∷ []) ≡ k = omega arith in
-    get_or-take all stored k (pos 0) lt
-    ∙ sym (ap (λ i. get_or stored (stored_index (n ∷ []) (i ∷ [])) (pos 0)) small ∙ ap (λ i. get_or stored i (pos 0)) place))
+    (search (rules, mod-eq_of_lt, get_or-take))
 raster_of_one (n ∷ m ∷ ns) stored one within = absurd (omega arith)
 
 -- they are the blocks of the values in raster order

@@ -1,12 +1,13 @@
 -- The lines of an array whose values are kept in the order of blocks.
-use Rattle.std.proofs.Common.{◌≡◌, refl, sym, ap, subst, ◌∙◌, ℕ, zero, suc, ◌+◌, ◌-◌, ◌*◌, ◌/◌, ◌%◌, ◌<◌, ◌≤◌, ◌^◌, ◌⊎◌, ⊎_elim, min, ℤ, pos, List, [], ◌∷◌, ◌++◌, length, get_or, map, take, drop, replicate, mod-eq_of_lt, mul-le-mul_left, arith, ext_get_or, length-drop, lit≤}
+use Rattle.std.proofs.Common.{rules}
+use Rattle.std.proofs.Common.{◌≡◌, refl, sym, ap, ◌∙◌, ℕ, zero, suc, ◌+◌, ◌-◌, ◌*◌, ◌/◌, ◌%◌, ◌<◌, ◌≤◌, ◌^◌, ◌⊎◌, ⊎_elim, min, ℤ, pos, List, [], ◌∷◌, ◌++◌, length, get_or, map, take, drop, replicate, mod-eq_of_lt, mul-le-mul_left, arith, ext_get_or, length-drop, lit≤}
 use Rattle.std.proofs.Math.Nat.{add-mul-mod_self_left, add-mul-div_left, div-eq_of_lt, div-add-mod, mul-mod_right, mul-le-mul_right, le-mul_of_pos_right}
 use Rattle.std.proofs.lemmas.Bool.{cases_lt}
 use Rattle.std.proofs.lemmas.Nat.{div_below}
 use Rattle.std.proofs.lemmas.List.{length-map, get_or-take, get_or-drop, get_or-append_right, length-take-le, take-append-le, take-map, drop-map, map-append}
 use Rattle.std.proofs.Math.ListN.{get_or-append}
 use Rattle.std.proofs.Math.Seq.{take-take}
-use Rattle.zf_spec.specs.Grid.{IsShape, product, coordinates, raster, extents, max_values}
+use Rattle.zf_spec.specs.Grid.{IsShape, product, coordinates, extents, max_values}
 use Rattle.zf_spec.proofs.Counting.{get_or-map-upto}
 use Rattle.zf_spec.proofs.Raster.{length-coordinates, length-extents}
 use Rattle.zf_base.proofs.Boxes.{product-append_ones, raster-append_zeros, coordinates-append_ones, extents-append_ones}
@@ -27,16 +28,7 @@ start_at-append_ones (n ∷ ns) (c ∷ cs) k e =
     ∙ ap (λ s. 4 * c * product (extents ns cs) + n * s) (start_at-append_ones ns cs k long)
 
 stored_index-append_ones : (ns ps : List ℕ) (k : ℕ) → length ps ≡ length ns → stored_index (ns ++ replicate k 1) (ps ++ replicate k 0) ≡ stored_index ns ps
-stored_index-append_ones ns ps k e =
-    let cs = map (λ p. p / 4) ps in
-    let is = map (λ p. p % 4) ps in
-    let long : length cs ≡ length ns = length-map ps (λ p. p / 4) ∙ e in
-    let count : length is ≡ length (extents ns cs) = length-map ps (λ p. p % 4) ∙ e ∙ sym (length-extents ns cs long) in
-    ap (λ ds. start_at (ns ++ replicate k 1) ds + raster (extents (ns ++ replicate k 1) ds) (map (λ p. p % 4) (ps ++ replicate k 0))) (map-zeros (λ p. p / 4) ps k refl)
-    ∙ ap (λ js. start_at (ns ++ replicate k 1) (cs ++ replicate k 0) + raster (extents (ns ++ replicate k 1) (cs ++ replicate k 0)) js) (map-zeros (λ p. p % 4) ps k refl)
-    ∙ ap (λ es. start_at (ns ++ replicate k 1) (cs ++ replicate k 0) + raster es (is ++ replicate k 0)) (extents-append_ones ns cs k long)
-    ∙ ap (λ s. s + raster (extents ns cs ++ replicate k 1) (is ++ replicate k 0)) (start_at-append_ones ns cs k long)
-    ∙ ap (λ r. start_at ns cs + r) (raster-append_zeros (extents ns cs) (replicate k 1) is k count)
+stored_index-append_ones ns ps k e = search (rules, length-map, length-extents, map-zeros, extents-append_ones, start_at-append_ones, raster-append_zeros)
 
 -- the sizes along four axes
 sizes_are : (ns : List ℕ) → length ns ≤ 4 → line_len ns ∷ other_sizes ns ≡ ns ++ replicate (4 - length ns) 1
@@ -72,27 +64,17 @@ place_on n first lines line x = 4 * (x / 4) * lines + n * first + (x % 4 + min 4
 
 module _ (n : ℕ) (ns ps : List ℕ) (first lines line x : ℕ) (h : IsLine ns ps first lines line) where
   line_place : stored_index (n ∷ ns) (x ∷ ps) ≡ place_on n first lines line x
-  line_place =
-      let cs = map (λ p. p / 4) ps in
-      let r = raster (extents ns cs) (map (λ p. p % 4) ps) in
-      sym (ap (λ s. place_on n s lines line x) h.first_is ∙ ap (λ v. place_on n (start_at ns cs) v line x) h.lines_are ∙ ap (λ i. place_on n (start_at ns cs) (product (extents ns cs)) i x) h.line_is)
+  line_place = search rules
 
   -- with one axis more
   pub line_along : (first' lines' line' : ℕ) → first' ≡ 4 * (x / 4) * lines + n * first → lines' ≡ min 4 (n - 4 * (x / 4)) * lines → line' ≡ x % 4 + min 4 (n - 4 * (x / 4)) * line
       → IsLine (n ∷ ns) (x ∷ ps) first' lines' line'
-  line_along first' lines' line' first_is lines_are line_is = record {
-    first_is = first_is ∙ ap (λ v. 4 * (x / 4) * v + n * first) h.lines_are ∙ ap (λ s. 4 * (x / 4) * product (extents ns (map (λ p. p / 4) ps)) + n * s) h.first_is;
-    lines_are = lines_are ∙ ap (λ v. min 4 (n - 4 * (x / 4)) * v) h.lines_are;
-    line_is = line_is ∙ ap (λ i. x % 4 + min 4 (n - 4 * (x / 4)) * i) h.line_is;
-  }
+  line_along first' lines' line' first_is lines_are line_is = search rules
 
 -- the value with a raster number
 pub value_on_line : (ns : List ℕ) (stored : List ℤ) (k first lines line : ℕ) → length ns ≤ 4 → k < product ns → IsLine (other_sizes ns) (coordinates (other_sizes ns) (k / line_len ns)) first lines line
     → get_or (raster_of ns stored) k (pos 0) ≡ get_or stored (place_on (line_len ns) first lines line (k % line_len ns)) (pos 0)
-value_on_line ns stored k first lines line four lt h =
-    get_or-map-upto (λ i. get_or stored (stored_index ns (coordinates ns i)) (pos 0)) (product ns) k (pos 0) lt
-    ∙ ap (λ i. get_or stored i (pos 0))
-    (index_by_four ns k four ∙ line_place (line_len ns) (other_sizes ns) (coordinates (other_sizes ns) (k / line_len ns)) first lines line (k % line_len ns) h)
+value_on_line ns stored k first lines line four lt h = search (rules, get_or-map-upto, index_by_four, line_place)
 
 -- ---- values beside one another on a line
 
@@ -114,9 +96,7 @@ same_line n k i lt =
 pub next_first : (n k count : ℕ) → k % n % 4 ≡ 0 → k % n + count ≤ n → (count % 4 ≡ 0) ⊎ (k % n + count ≡ n) → (k + count) % n % 4 ≡ 0
 next_first n k count first within whole =
     ⊎_elim
-    (λ (lt : k % n + count < n).
-    let same = same_line n k count lt in
-    ⊎_elim (λ (fours : count % 4 ≡ 0). omega (arith, same.x_is, fours, first)) (λ (all : k % n + count ≡ n). absurd (omega (arith, lt, all))) whole)
+    (search (rules, same_line))
     (λ (ge : n ≤ k % n + count).
     let is : k + count ≡ n * (k / n + 1) = omega (arith, div-add-mod k n, within, ge) in
     ap (λ j. j % 4) (ap (λ j. j % n) is ∙ mul-mod_right n (k / n + 1)))
@@ -155,9 +135,7 @@ module _ (n first lines line x all : ℕ) (begins : x % 4 ≡ 0) (below : line <
 
 -- the number of a line is below the number of lines
 pub line_below : (ns : List ℕ) (n from : ℕ) → IsShape ns → n ≡ line_len ns → from < product ns → from / n < product (other_sizes ns)
-line_below ns n from shape is lt =
-    let some = all_axes (λ m. 1 ≤ m) ns shape.four_at_most (lit≤ tt) shape.not_zero in
-    div_below from n (product (other_sizes ns)) (omega (arith, is, some.0)) (omega (arith, lt, all_sizes ns shape.four_at_most, ap (λ m. m * product (other_sizes ns)) is))
+line_below ns n from shape is lt = search (rules, all_axes, div_below, all_sizes)
 
 -- a line ends within the values
 pub line_end : (ns : List ℕ) (from count : ℕ) → IsShape ns → from < product ns → from % line_len ns + count ≤ line_len ns → from + count ≤ product ns
@@ -202,12 +180,7 @@ module _ (ns : List ℕ) (from count n first lines line : ℕ) (h : LinePart ns 
   value_there : (stored : List ℤ) (i : ℕ) → i < count → get_or (raster_of ns stored) (from + i) (pos 0) ≡ get_or stored (place_on n first lines line (from % n + i)) (pos 0)
   value_there stored i lt =
       let same = same_line n from i (omega (arith, lt, part_within)) in
-      let small : from + i < product ns = omega (arith, line_end ns from count h.shape h.before h.within, lt) in
-      let Line : ℕ → Type 0 = λ k. IsLine (other_sizes ns) (coordinates (other_sizes ns) k) first lines line in
-      let here : IsLine (other_sizes ns) (coordinates (other_sizes ns) ((from + i) / line_len ns)) first lines line = subst Line (sym (ap (λ m. (from + i) / m) (sym h.n_is) ∙ same.line_is)) h.is in
-      value_on_line ns stored (from + i) first lines line h.shape.four_at_most small here
-      ∙ ap (λ m. get_or stored (place_on m first lines line ((from + i) % m)) (pos 0)) (sym h.n_is)
-      ∙ ap (λ x. get_or stored (place_on n first lines line x) (pos 0)) same.x_is
+      let small : from + i < product ns = omega (arith, line_end ns from count h.shape h.before h.within, lt) in search (rules, value_on_line)
 
   pub block_value : (stored : List ℤ) (b k : ℕ) → b < count / 4 → k < 4
       → get_or (raster_of ns stored) (from + (4 * b + k)) (pos 0) ≡ get_or stored (n * first + from % n * lines + 4 * line + b * (4 * lines) + k) (pos 0)
@@ -234,16 +207,8 @@ rest_copied {X} f from to count source old new there room is =
     let rest = take count (drop from vs) ++ drop (to + count) us in
     let parts : map f new ≡ take to us ++ rest = ap (map f) is ∙ simp (map-append, take-map, drop-map) in
     let prefix : length (take to us) ≡ to = length-take-le to us (omega (arith, length-map old f, room)) in
-    let some : length (take count (drop from vs)) ≡ count = length-take-le count (drop from vs) (omega (arith, length-drop from vs, length-map source f, there)) in (
-      λ i lt. ap (λ (l : List ℤ). get_or l i (pos 0)) parts ∙ get_or-append (take to us) rest (pos 0) i (omega (arith, prefix, lt)) ∙ get_or-take to us i (pos 0) lt,
-      λ k lt.
-          let back : to + k - to ≡ k = omega arith in
-          ap (λ (l : List ℤ). get_or l (to + k) (pos 0)) parts
-          ∙ get_or-append_right (take to us) rest to (to + k) (pos 0) prefix (omega arith)
-          ∙ ap (λ i. get_or rest i (pos 0)) back
-          ∙ get_or-append (take count (drop from vs)) (drop (to + count) us) (pos 0) k (omega (arith, some, lt))
-          ∙ get_or-take count (drop from vs) k (pos 0) lt ∙ get_or-drop from vs k (pos 0),
-    )
+    let some : length (take count (drop from vs)) ≡ count = length-take-le count (drop from vs) (omega (arith, length-drop from vs, length-map source f, there)) in
+        search (rules, get_or-append, get_or-take, get_or-append_right, get_or-drop)
 
 -- what stands before a place stays where values are put behind it
 pub front_stays : {X : Type 0} (to at : ℕ) (old rest new : List X) → to ≤ at → at ≤ length old → new ≡ take at old ++ rest → take to new ≡ take to old

@@ -1,4 +1,5 @@
 -- A loop over places, each of which writes one element of a list, or none.
+use Rattle.std.proofs.Common.{rules}
 use Rattle.std.proofs.Common.{◌≡◌, ◌≢◌, ℕ, zero, suc, ◌+◌, ◌-◌, ◌<◌, ◌≤◌, Bool, true, false, ℤ, pos, List, length, get_or, set, refl, sym, ap, subst, ◌∙◌, ⊎_elim, arith, get_or-set_same, get_or-set_other}
 use Rattle.std.proofs.lemmas.Bool.{cases_lt, false≢true}
 
@@ -17,20 +18,11 @@ module _ (writes : ℕ → Bool) (index : ℕ → ℕ) (value : ℕ → ℤ) (ol
 
   -- place n writes, at an index at which no place before it did
   pub written_more : (now : List ℤ) (n : ℕ) (v : ℤ) → writes n ≡ true → index n < length now → ((p : ℕ) → p < n → writes p ≡ true → index p ≢ index n) → v ≡ value n → IsWritten writes index value old now n → IsWritten writes index value old (set now (index n) v) (n + 1)
-  written_more now n v w inside new is h = record {
-    written = λ p lt wp. before_or_at n p _ lt
-        (λ before. get_or-set_other now (index n) (index p) v (pos 0) (new p before wp) ∙ h.written p before wp)
-        (λ at. ap (λ q. get_or (set now (index n) v) (index q) (pos 0)) at ∙ get_or-set_same now (index n) v (pos 0) inside ∙ is ∙ ap value (sym at));
-    others = λ i free.
-        get_or-set_other now (index n) i v (pos 0) (λ e. free n (omega arith) w (sym e)) ∙ h.others i (λ p lt wp. free p (omega arith) wp);
-  }
+  written_more now n v w inside new is h = search (rules, before_or_at, get_or-set_other, get_or-set_same)
 
   -- place n does not write
   pub written_skip : (now : List ℤ) (n : ℕ) → writes n ≡ false → IsWritten writes index value old now n → IsWritten writes index value old now (n + 1)
-  written_skip now n w h = record {
-    written = λ p lt wp. before_or_at n p _ lt (λ before. h.written p before wp) (λ at. absurd (false≢true (sym w ∙ ap writes (sym at) ∙ wp)));
-    others = λ i free. h.others i (λ p lt wp. free p (omega arith) wp);
-  }
+  written_skip now n w h = search (rules, before_or_at, false≢true)
 
   -- nor does any of the next m places
   pub written_skip_all : (now : List ℤ) (n m : ℕ) → ((k : ℕ) → k < m → writes (n + k) ≡ false) → IsWritten writes index value old now n → IsWritten writes index value old now (n + m)

@@ -1,4 +1,5 @@
 -- A list that is written in parts, as far as a budget of bits reaches.
+use Rattle.std.proofs.Common.{rules}
 use Rattle.std.proofs.Common.{◌≡◌, ℕ, suc, zero, ◌-◌, ◌<◌, ◌≤◌, min, Bool, List, [], ◌∷◌, ◌++◌, length, take, refl, sym, ap, subst, ◌∙◌, arith, append_assoc, length-append}
 use Rattle.std.proofs.lemmas.List.{length-take, append-nil}
 use Rattle.zf_bits.specs.Writer.{Writer, Appends}
@@ -60,10 +61,7 @@ nothing_taken (suc left) [] none = refl
 nothing_taken (suc left) (b ∷ rest) none = absurd (omega arith)
 
 pub Remains-end : {old now : Writer} {budget left : ℕ} {whole rest : List Bool} → Remains old now budget left whole rest → min left (length rest) ≡ 0 → Appends old now (take budget whole)
-Remains-end {old} {now} {budget} {left} {whole} {rest} remains none = record {
-  bits = sym (append-nil now.bits) ∙ ap (λ (xs : List Bool). now.bits ++ xs) (sym (nothing_taken left rest none)) ∙ remains.bits;
-  room = omega (arith, remains.room, length-take budget whole);
-}
+Remains-end {old} {now} {budget} {left} {whole} {rest} remains none = search (rules, append-nil, nothing_taken, length-take)
 
 -- a part of the rest is written but for its end
 pub Remains-through : {old now new : Writer} {budget left after : ℕ} {whole : List Bool} (code rest more : List Bool) → Remains old now budget left whole (code ++ more) → Remains now new left after code rest

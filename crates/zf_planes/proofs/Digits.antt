@@ -1,4 +1,5 @@
 -- The digits of a plane as bits of its words, and its ones by the zeros of a word.
+use Rattle.std.proofs.Common.{rules}
 use Rattle.std.proofs.Common.{◌≡◌, ℕ, zero, suc, ◌+◌, ◌-◌, ◌*◌, ◌/◌, ◌%◌, ◌^◌, ◌<◌, ◌≤◌, ⊎_elim, Bool, true, false, eqb, List, [], ◌∷◌, ◌++◌, length, take, drop, replicate, get_or, get_or-take, get_or-drop, ext_get_or, length-take, length-drop, pow_pos, pow-suc, sym, ap, ◌∙◌, arith}
 use Rattle.std.specs.Int.{bit_at, w64, trailing_zeros, leading_zeros}
 use Rattle.std.proofs.lemmas.Bool.{cases_lt, false≢true}
@@ -23,14 +24,7 @@ get_or-digits_held size r ws long below = get_or-take size (word_bits ws) r fals
 -- the j-th digit behind rank `at`, in the same word w
 pub digit_in_word : (size at j w : ℕ) (ws : List ℕ) → w ≡ get_or ws (at / 64) 0 → size ≤ 64 * length ws → at % 64 + j < 64 → at + j < size
     → get_or (digits_held size ws) (at + j) false ≡ is_odd (w / 2 ^ (at % 64) / 2 ^ j)
-digit_in_word size at j w ws is long same below =
-    let word : (at + j) / 64 ≡ at / 64 = omega arith in
-    let bit : (at + j) % 64 ≡ at % 64 + j = omega arith in
-    get_or-digits_held size (at + j) ws long below
-    ∙ ap (λ q. is_odd (get_or ws q 0 / 2 ^ ((at + j) % 64))) word
-    ∙ ap (λ v. is_odd (v / 2 ^ ((at + j) % 64))) (sym is)
-    ∙ ap (λ b. is_odd (w / 2 ^ b)) bit
-    ∙ ap is_odd (sym (shr-shr w (at % 64) j))
+digit_in_word size at j w ws is long same below = search (rules, get_or-digits_held, shr-shr)
 
 -- digits that lie in one word, as a field of it
 pub field_in_word : (size at n w : ℕ) (ws : List ℕ) → w ≡ get_or ws (at / 64) 0 → size ≤ 64 * length ws → at % 64 + n ≤ 64 → at + n ≤ size
@@ -41,12 +35,7 @@ field_in_word size at n w ws is long same within =
     let all = length-digits_held size ws long in
     let count : length (take n (drop at ds)) ≡ n = omega (arith, length-take n (drop at ds), length-drop at ds) in
     ext_get_or false (field n v) (take n (drop at ds)) (length-field n v ∙ sym count)
-    (λ j low.
-    let below : j < n = omega (arith, length-field n v) in
-    get_or-field n v j false below
-    ∙ sym (digit_in_word size at j w ws is long (omega arith) (omega arith))
-    ∙ sym (get_or-drop at ds j false)
-    ∙ sym (get_or-take n (drop at ds) j false below))
+    (search (rules, length-field, get_or-field, digit_in_word, get_or-drop, get_or-take))
 
 -- a mask leaves the n lowest bits
 pub masked : (v n : ℕ) → n ≤ 64 → bit_and v (18446744073709551615 / 2 ^ (64 - n)) ≡ v % 2 ^ n
@@ -97,15 +86,7 @@ zeros_of_word size at w ws is long none = zeros_by_bits size at (64 - at % 64) w
 
 -- where one is to come, the ranks that are known to be zero are within the plane
 pub within_plane : (ds : List Bool) (n k : ℕ) → has_one (drop n ds) ≡ true → AreZeros ds n k → k < length ds
-within_plane ds n k one zeros =
-    ⊎_elim
-    (λ (below : k < length ds). below)
-    (λ (past : length ds ≤ k).
-    let none : has_one (drop n ds) ≡ false = none_from_each (drop n ds) (λ i.
-    get_or-drop n ds i false
-    ∙ ⊎_elim (λ (early : n + i < k). zeros (n + i) (omega arith) early) (λ (late : k ≤ n + i). get_or_past ds (n + i) false (omega arith)) (cases_lt (n + i) k)) in
-    absurd (false≢true (sym none ∙ one)))
-    (cases_lt k (length ds))
+within_plane ds n k one zeros = search (rules, none_from_each, get_or-drop, get_or_past, cases_lt, false≢true)
 
 pub split_prefix : (xs : List Bool) (m : ℕ) → m < length xs → ((i : ℕ) → i < m → get_or xs i false ≡ false) → get_or xs m false ≡ true → xs ≡ replicate m false ++ true ∷ drop (m + 1) xs
 split_prefix [] m within zeros one = absurd (omega arith)
@@ -124,10 +105,7 @@ pub record IsNextOne (ds : List Bool) (n k : ℕ) : Type 0 where
 
 -- from rank n on come zeros, and then the next one
 pub split_at_next : (ds : List Bool) (n m k : ℕ) → n + m ≡ k → IsNextOne ds n k → drop n ds ≡ replicate m false ++ true ∷ drop (m + 1) (drop n ds)
-split_at_next ds n m k place next =
-    split_prefix (drop n ds) m (omega (arith, length-drop n ds, next.within))
-    (λ i below. get_or-drop n ds i false ∙ next.zeros (n + i) (omega arith) (omega arith))
-    (get_or-drop n ds m false ∙ ap (λ i. get_or ds i false) place ∙ next.one)
+split_at_next ds n m k place next = search (rules, split_prefix, length-drop, get_or-drop)
 
 -- the ranks up to `at` are known to be zero, and what is left of the word has a one
 pub next_one : (size n at w : ℕ) (ws : List ℕ) → w ≡ get_or ws (at / 64) 0 → size ≤ 64 * length ws → w < 2 ^ 64 → has_one (drop n (digits_held size ws)) ≡ true → AreZeros (digits_held size ws) n at
@@ -181,11 +159,7 @@ shl_low v s i low small =
 -- the digit of a rank whose word is w, after that word is shifted up so that bit `top` is the highest
 digit_shifted : (size top r w : ℕ) (ws : List ℕ) → w ≡ get_or ws (top / 64) 0 → size ≤ 64 * length ws → top / 64 ≡ r / 64 → r ≤ top → r < size
     → get_or (digits_held size ws) r false ≡ eqb (bit_at (w * 2 ^ (63 - top % 64) % 2 ^ 64) (r % 64 + (63 - top % 64))) 1
-digit_shifted size top r w ws is long same low below =
-    get_or-digits_held size r ws long below
-    ∙ ap (λ q. is_odd (get_or ws q 0 / 2 ^ (r % 64))) (sym same)
-    ∙ ap (λ v. is_odd (v / 2 ^ (r % 64))) (sym is)
-    ∙ ap (λ b. eqb b 1) (sym (shl_bit w (63 - top % 64) (r % 64) (omega arith)))
+digit_shifted size top r w ws is long same low below = search (rules, get_or-digits_held, shl_bit)
 
 -- no digit from rank n on is one
 abbrev pub IsZeroFrom : List Bool → ℕ → Type 0
@@ -205,10 +179,7 @@ none_in_word size end w ws some within is long zeros none j from =
 
 -- the highest bit of a number that is not 0
 highest : (a j : ℕ) → 2 ^ j ≤ a → a < 2 ^ suc j → bit_at a j ≡ 1
-highest a j low high =
-    let split : 1 * 2 ^ j + (a - 2 ^ j) ≡ a = omega arith in
-    let none : j - j ≡ 0 = omega arith in
-    ap (λ v. bit_at v j) (sym split) ∙ bit_at_cat_high 1 j (a - 2 ^ j) j (omega (arith, pow-suc 2 j)) (omega arith) ∙ ap (bit_at 1) none
+highest a j low high = search (rules, bit_at_cat_high, pow-suc)
 
 pub reach_in_word : (size end w : ℕ) (ws : List ℕ) → 0 < end → end ≤ size → w ≡ get_or ws ((end - 1) / 64) 0 → size ≤ 64 * length ws → IsZeroFrom (digits_held size ws) end
     → 0 < w * 2 ^ (63 - (end - 1) % 64) % 2 ^ 64 → w * 2 ^ (63 - (end - 1) % 64) % 2 ^ 64 < 2 ^ 64
@@ -219,7 +190,6 @@ reach_in_word size end w ws some within is long zeros one fits =
     let c = leading_zeros w64 a in
     let top = leading_top 64 a one fits in
     let j = top.0 in
-    let sum : c + suc j ≡ 64 = top.1 in
     let set : bit_at a j ≡ 1 = highest a j top.2 top.3 in
     let high : s ≤ j = ⊎_elim (λ (low : j < s). let none = shl_low w s j low (omega arith) in absurd (omega arith)) (λ (high : s ≤ j). high) (cases_lt j s) in (
       omega arith,

@@ -1,12 +1,13 @@
 -- The code of runs: digits before others are doubled, and zeros behind the last one but the first make no difference.
+use Rattle.std.proofs.Common.{rules}
 use Rattle.std.proofs.Common.{◌≡◌, ◌≢◌, ℕ, zero, suc, ◌+◌, ◌-◌, ◌*◌, ◌/◌, ◌%◌, ◌^◌, ◌<◌, ◌≤◌, ⊎_elim, Bool, true, false, cond, ◌&&◌, ◌||◌, ltb, eqb, List, [], ◌∷◌, ◌++◌, get_or, replicate, refl, sym, ap, ◌∙◌, arith, pow-suc, lit<, take, drop, append-nil}
 use Rattle.std.proofs.Math.Nat.{pow-le-pow_right, div-eq_of_lt}
 use Rattle.std.specs.Int.{leading_zeros, w64}
 use Rattle.std.proofs.lemmas.Nat.{pow-add, shr_below}
 use Rattle.std.proofs.lemmas.Bool.{cases_lt, false≢true, and_parts, ltb-true, lt-ltb, eqb-false}
 use Rattle.std.proofs.lemmas.Bool.Decides.{nat_tests}
-use Rattle.zf_spec.specs.Numbers.{field, is_odd}
-use Rattle.zf_spec.specs.Planes.{has_one, code_from_run, tail, plane_code}
+use Rattle.zf_spec.specs.Numbers.{field}
+use Rattle.zf_spec.specs.Planes.{has_one, code_from_run, plane_code}
 use Rattle.zf_spec.proofs.Fields.{field-add, field-mod, field-zero}
 use Rattle.zf_spec.proofs.PlaneCode.{tail-zeros}
 use Rattle.zf_spec.proofs.Full.{tail-some}
@@ -135,37 +136,16 @@ run_of_entry_to_9 most digits e some nine one eight within is =
     ∙ ap (λ k. test_run (i / 256 + 1) k e) (sym low)
     ∙ ap (test_run (i / 256 + 1) (i % 256)) (is ∙ ap (λ k. get_or DOUBLED k 0) (sym low))
     ∙ each_below-true (λ j. test_run (j / 256 + 1) (j % 256) (get_or DOUBLED (j % 256) 0)) 2304 i test_runs (omega arith) in
-    let there : eqb digits 0 ≡ false = grind (arith, nat_tests) in
-    let below : ltb digits (2 ^ most) ≡ true = lt-ltb digits (2 ^ most) within in
-    let test = rw (there, below) at whole in
-    let first = and_parts (same_digits (field (run_len digits e - implied most digits) (run_bits digits e)) (code_from_run (field most digits))) _ test in
-    let second = and_parts (ltb (run_len digits e) 17) _ first.1 in
-    let third = and_parts (ltb 1 (run_len digits e)) _ second.1 in
-    let fourth = and_parts (ltb (leading_zeros w64 (digits * 2 ^ 56 % 2 ^ 64)) (e / 65536)) _ third.1 in
-    record {
-      bits = same_digits-true _ _ first.0;
-      len = ltb-true _ _ second.0;
-      two = ltb-true _ _ third.0;
-      digits_enough = ltb-true _ _ fourth.0;
-      bits_enough = ltb-true _ _ fourth.1;
-    }
+    let there : eqb digits 0 ≡ false = grind (arith, nat_tests) in search (rules, lt-ltb, and_parts, same_digits, same_digits-true, ltb-true)
 
 -- more digits make no difference, where they are zeros
 pub eight_of : (most digits : ℕ) → 9 ≤ most → digits < 256 → field most digits ≡ field 8 digits ++ replicate (suc (most - 9)) false
 eight_of most digits nine eight =
     let parts : most ≡ 8 + suc (most - 9) = omega arith in
-    let none : digits / 2 ^ 8 ≡ 0 = omega arith in
-    ap (λ k. field k digits) parts
-    ∙ field-add 8 (suc (most - 9)) digits
-    ∙ ap (λ v. field 8 digits ++ field (suc (most - 9)) v) none
-    ∙ ap (λ (bs : List Bool). field 8 digits ++ bs) (field-zero (suc (most - 9)))
+    let none : digits / 2 ^ 8 ≡ 0 = omega arith in search (rules, field-add, field-zero)
 
 pub nine_digits : (most digits : ℕ) → 9 ≤ most → 0 < digits → digits < 256 → code_from_run (field most digits) ≡ code_from_run (field 9 digits)
-nine_digits most digits nine one eight =
-    let some = has_one-field 8 digits one eight in
-    ap code_from_run (eight_of most digits nine eight)
-    ∙ run_zeros_behind (field 8 digits) (most - 9) some
-    ∙ sym (ap code_from_run (eight_of 9 digits (omega arith) eight))
+nine_digits most digits nine one eight = search (rules, has_one-field, eight_of, run_zeros_behind)
 
 not_last : (most digits : ℕ) → 9 ≤ most → digits < 256 → implied most digits ≡ 0
 not_last most digits nine eight =
@@ -220,9 +200,7 @@ run_goes_on most digits some within =
   where
     long : 8 < most
     long = ⊎_elim
-        (λ (few : most < 9).
-        let order : most ≤ 8 = omega arith in
-        absurd (omega (arith, pow-le-pow_right {n = 2} (lit< tt) order)))
+        (search (rules, pow-le-pow_right))
         (λ (nine : 9 ≤ most). omega arith)
         (cases_lt most 9)
 
@@ -240,31 +218,16 @@ word_behind size n v within =
 
 -- all ranks have had a one
 pub plane_whole : (size v : ℕ) → plane_code size (field size v) ≡ field size v
-plane_whole size v =
-    let none : size - size ≡ 0 = omega arith in
-    ap (λ (ds : List Bool). ds ++ tail (drop size (field size v))) (word_prefix size size v (omega arith))
-    ∙ ap (λ (ds : List Bool). field size v ++ tail ds) (word_behind size size v (omega arith) ∙ ap (λ k. field k (v / 2 ^ size)) none)
-    ∙ append-nil (field size v)
+plane_whole size v = search (rules, word_prefix, word_behind, append-nil)
 
 -- no one follows
 pub plane_without : (size n v : ℕ) → n < size → v / 2 ^ n ≡ 0 → plane_code n (field size v) ≡ field (n + 1) v
 plane_without size n v within none =
-    let more : size - n ≡ suc (size - n - 1) = omega arith in
-    let last : is_odd (v / 2 ^ n) ≡ false = ap is_odd none in
-    ap (λ (ds : List Bool). ds ++ tail (drop n (field size v))) (word_prefix size n v (omega arith))
-    ∙ ap (λ (ds : List Bool). field n v ++ tail ds) (word_behind size n v (omega arith) ∙ ap (field (size - n)) none ∙ field-zero (size - n) ∙ ap (λ k. replicate k false) more)
-    ∙ ap (λ (bs : List Bool). field n v ++ bs) (tail-zeros (size - n - 1))
-    ∙ sym (field_more n v ∙ ap (λ b. field n v ++ b ∷ []) last)
+    let more : size - n ≡ suc (size - n - 1) = omega arith in search (rules, word_prefix, word_behind, field-zero, tail-zeros, field_more)
 
 pub rest_small : (size n v : ℕ) → n ≤ size → v < 2 ^ size → v / 2 ^ n < 2 ^ (size - n)
-rest_small size n v within small =
-    let parts : size - n + n ≡ size = omega arith in
-    shr_below v (size - n) n (rw parts small)
+rest_small size n v within small = search (rules, shr_below)
 
 -- a one follows
 pub plane_with : (size n v : ℕ) → n ≤ size → 0 < v / 2 ^ n → v < 2 ^ size → plane_code n (field size v) ≡ field n v ++ true ∷ code_from_run (field (size - n) (v / 2 ^ n))
-plane_with size n v within some small =
-    let run = field (size - n) (v / 2 ^ n) in
-    ap (λ (ds : List Bool). ds ++ tail (drop n (field size v))) (word_prefix size n v within)
-    ∙ ap (λ (ds : List Bool). field n v ++ tail ds) (word_behind size n v within)
-    ∙ ap (λ (bs : List Bool). field n v ++ bs) (tail-some run (has_one-field (size - n) (v / 2 ^ n) some (rest_small size n v within small)))
+plane_with size n v within some small = search (rules, word_prefix, word_behind, tail-some, has_one-field, rest_small)

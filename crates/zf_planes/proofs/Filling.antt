@@ -1,4 +1,5 @@
 -- A list that is filled from its front, and holds one value from some place on.
+use Rattle.std.proofs.Common.{rules}
 use Rattle.std.proofs.Common.{◌≡◌, ℕ, ◌+◌, ◌-◌, ◌<◌, List, [], ◌∷◌, ◌++◌, length, take, drop, set, replicate, sym, ap, ◌∙◌, arith, length-set}
 use Rattle.std.proofs.lemmas.List.{take_more_set, drop-set-lt, drop-drop, drop-replicate, take-replicate, append_assoc, take-append-drop}
 use Rattle.std.proofs.Math.Seq.{take-add}
@@ -22,11 +23,7 @@ behind_next xs x z i e = let here : i + 0 ≡ i = omega arith in rw here at (beh
 -- the prefix up to and with a place that is written, k places on
 pub prefix_set : {A : Type 0} (xs : List A) (x z : A) (i k : ℕ) → i + k < length xs → drop i xs ≡ replicate (length xs - i) z
     → take (i + k + 1) (set xs (i + k) x) ≡ take i xs ++ (replicate k z ++ x ∷ [])
-prefix_set xs x z i k within e =
-    let zeros : take k (replicate (length xs - i) z) ≡ replicate k z = take-replicate k (length xs - i) z (omega arith) in
-    take_more_set xs (i + k) x within
-    ∙ ap (λ ys. ys ++ x ∷ []) (take-add i k xs ∙ ap (λ ys. take i xs ++ ys) (ap (take k) e ∙ zeros))
-    ∙ append_assoc (take i xs) (replicate k z) (x ∷ [])
+prefix_set xs x z i k within e = search (rules, take-replicate, take_more_set, take-add, append_assoc)
 
 -- in the whole list
 pub whole_from : {A : Type 0} (xs ys : List A) (z : A) (i : ℕ) → drop i xs ≡ replicate (length xs - i) z → ys ≡ replicate (length xs - i) z → xs ≡ take i xs ++ ys

@@ -1,5 +1,6 @@
 -- Bits of several planes in one word.
-use Rattle.std.proofs.Common.{◌≡◌, ℕ, zero, suc, false, set, replicate, refl, ◌∷◌, ◌+◌, ◌-◌, ◌*◌, ◌/◌, ◌%◌, ◌^◌, ◌<◌, ◌≤◌, ⊎_elim, min, Bool, List, ◌++◌, length, take, drop, get_or, sym, ap, ◌∙◌, arith, lit<}
+use Rattle.std.proofs.Common.{rules}
+use Rattle.std.proofs.Common.{◌≡◌, ℕ, zero, suc, false, set, replicate, refl, ◌∷◌, ◌+◌, ◌-◌, ◌*◌, ◌/◌, ◌%◌, ◌^◌, ◌<◌, ◌≤◌, ⊎_elim, min, Bool, List, ◌++◌, length, take, drop, get_or, sym, ap, ◌∙◌, arith}
 use Rattle.std.specs.Int.Bits.{bit_or}
 use Rattle.std.proofs.Math.Nat.{pow-le-pow_right, mod-le, div-eq_of_lt}
 use Rattle.std.proofs.Math.Seq.{take-append-add}
@@ -21,9 +22,7 @@ take_field left n v = ⊎_elim
     let less : min left n ≡ left = omega arith in
     let parts : left + (n - left) ≡ n = omega arith in
     ap (λ k. take left (field k v)) (sym parts) ∙ take-field left (n - left) v ∙ ap (λ k. field k v) (sym less))
-    (λ (all : n ≤ left).
-    let less : min left n ≡ n = omega arith in
-    take_all left (field n v) (omega (arith, length-field n v)) ∙ ap (λ k. field k v) (sym less))
+    (search (rules, take_all, length-field))
     (cases_lt left n)
 
 -- n bits behind others in one word
@@ -44,10 +43,7 @@ bits_behind len n a v within small =
 pub small_behind : (len n a v : ℕ) → a < 2 ^ len → v < 2 ^ n → bit_or a (v * 2 ^ len % 2 ^ 64) < 2 ^ (len + n)
 small_behind len n a v small narrow =
     let order : len ≤ len + n = omega arith in
-    let place : n + len ≡ len + n = omega arith in
-    or_lt (len + n) a (v * 2 ^ len % 2 ^ 64)
-    (omega (arith, pow-le-pow_right {n = 2} (lit< tt) order))
-    (omega (arith, mod-le (v * 2 ^ len) (2 ^ 64), (rw place at (shl_below v n len narrow))))
+    let place : n + len ≡ len + n = omega arith in search (rules, or_lt, pow-le-pow_right, mod-le, shl_below)
 
 -- ---- the code of planes goes on behind bits that were put together
 
@@ -79,10 +75,7 @@ zero_bits (suc k) =
 
 -- the first of some words that are zero but for it
 first_word : (k digits : ℕ) → digits < 2 ^ 64 → word_bits (digits ∷ replicate k 0) ≡ field (64 + 64 * k) digits
-first_word k digits fits =
-    let none : digits / 2 ^ 64 ≡ 0 = div-eq_of_lt fits in
-    ap (λ (bs : List Bool). field 64 digits ++ bs) (zero_bits k ∙ sym (field-zero (64 * k)) ∙ ap (field (64 * k)) (sym none))
-    ∙ sym (field-add 64 (64 * k) digits)
+first_word k digits fits = search (rules, div-eq_of_lt, zero_bits, field-zero, field-add)
 
 pub written : (size k digits : ℕ) (ws ws' : List ℕ) → digits < 2 ^ 64 → size ≤ 64 * k → 0 < k → ws ≡ replicate k 0 → ws' ≡ set ws 0 digits → digits < 2 ^ size → Written size digits ws'
 unfolding digits_held IsClearFrom
@@ -97,7 +90,4 @@ written size (suc k) digits ws ws' fits enough some blank is small =
     whole ∙ field-add size m digits ∙ ap (λ v. field size digits ++ field m v) none ∙ ap (λ (bs : List Bool). field size digits ++ bs) (field-zero m) in
     let behind = ap (drop size) split ∙ drop_at (field size digits) (replicate m false) size (length-field size digits) in
     let count : m ≡ length (word_bits ws') - size = omega (arith, ap length split, length-append (field size digits) (replicate m false), length-field size digits, length-replicate m false) in
-    record {
-      digits = ap (take size) whole ∙ take-field size m digits;
-      clear = behind ∙ ap (λ n. replicate n false) count;
-    }
+    search (rules, take-field)

@@ -1,4 +1,5 @@
 -- Tables of planes of four digits in lanes, each entry of which is what the definitions say, by computation.
+use Rattle.std.proofs.Common.{rules}
 use Rattle.std.proofs.Common.{◌≡◌, ℕ, suc, ◌+◌, ◌*◌, ◌/◌, ◌%◌, ◌^◌, ◌-◌, ◌<◌, min, max, Bool, true, false, ◌&&◌, cond, eqb, ltb, List, [], ◌∷◌, get_or, refl, sym, ap, ◌∙◌, arith}
 use lib.Bits.{bit_and}
 use Rattle.std.proofs.lemmas.Nat.{shr_high, mod_low, mul-add-lt}
@@ -55,26 +56,7 @@ test_all_lanes = refl
 
 lanes_tested : (n bits v l c a : ℕ) → test_lanes n bits v l c a ≡ true → AreInSight n bits c v l a
 lanes_tested n bits v l c a test =
-    let one = and_parts (same_digits (code_from n (low_planes c (lanes_in 4 v))) (field l bits)) _ test in
-    let two = and_parts (are_below c (lanes_in 4 v)) _ one.1 in
-    let three = and_parts (ltb 0 c) _ two.1 in
-    let four = and_parts (ltb c 5) _ three.1 in
-    let five = and_parts (ltb 0 l) _ four.1 in
-    let six = and_parts (ltb l 9) _ five.1 in
-    let seven = and_parts (eqb a (max n (reach_of_all (low_planes c (lanes_in 4 v))))) _ six.1 in
-    let most : c < 5 = ltb-true _ _ four.0 in
-    let len : l < 9 = ltb-true _ _ six.0 in
-    let within : a < 5 = ltb-true _ _ seven.1 in
-    record {
-      code = same_digits-true _ _ one.0;
-      below = are_below-true c (lanes_in 4 v) two.0;
-      some = ltb-true _ _ three.0;
-      most = omega arith;
-      bit = ltb-true _ _ five.0;
-      len = omega arith;
-      above = eqb-true _ _ seven.0;
-      within = omega arith;
-    }
+    search (rules, and_parts, same_digits, ltb-true, same_digits-true, are_below-true, eqb-true)
 
 pub lanes_of_entry : (n bits e : ℕ) → n < 3 → bits < 256 → e ≡ get_or LANES (256 * n + bits) 0
     → AreInSight n bits (e / 1048576 % 8) (lanes_apart (e % 65536)) (e / 65536 % 16) (e / 8388608)
@@ -117,38 +99,14 @@ test_all_ends = refl
 
 last_tested : (n left bits v l c a : ℕ) → test_last n left bits v l c a ≡ true → AreAtEnd n left bits c v l a
 last_tested n left bits v l c a test =
-    let one = and_parts (same_planes (planes_ahead left c 4 n (field left bits)) (low_planes c (lanes_in 4 v))) _ test in
-    let two = and_parts (eqb (planes_bits left c 4 n (field left bits)) l) _ one.1 in
-    let three = and_parts (are_below c (lanes_in 4 v)) _ two.1 in
-    let four = and_parts (ltb 0 c) _ three.1 in
-    let five = and_parts (ltb c 5) _ four.1 in
-    let six = and_parts (ltb 0 l) _ five.1 in
-    let seven = and_parts (eqb a (max n (reach_of_all (low_planes c (lanes_in 4 v))))) _ six.1 in
-    let is : planes_bits left c 4 n (field left bits) ≡ l = eqb-true _ _ two.0 in
-    let most : c < 5 = ltb-true _ _ five.0 in
-    let within : a < 5 = ltb-true _ _ seven.1 in
-    record {
-      digits = same_planes-true _ _ one.0;
-      bits = is;
-      below = are_below-true c (lanes_in 4 v) three.0;
-      some = ltb-true _ _ four.0;
-      most = omega arith;
-      bit = ltb-true _ _ six.0;
-      len = omega (arith, planes_bits-le left c 4 n (field left bits));
-      above = eqb-true _ _ seven.0;
-      within = omega arith;
-    }
+    search (rules, and_parts, eqb-true, ltb-true, same_planes-true, are_below-true, planes_bits-le)
 
 -- the entry of so many bits
 end_at : (n left bits p i e : ℕ) → p ≡ 2 ^ left → test_ends left ≡ true → n < 3 → bits < p → i ≡ n * p + bits → i / p ≡ n → i % p ≡ bits → i < 3 * p → e ≡ end_entry n p bits → test_end n left bits e ≡ true
 end_at n left bits p i e power tests in_plane small place prefix low below is =
     let high : i / 2 ^ left ≡ n = ap (λ q. i / q) (sym power) ∙ prefix in
     let back : i % 2 ^ left ≡ bits = ap (λ q. i % q) (sym power) ∙ low in
-    let here = each_below-true (λ j. test_end (j / 2 ^ left) left (j % 2 ^ left) (end_entry (j / 2 ^ left) (2 ^ left) (j % 2 ^ left))) (3 * 2 ^ left) i tests (omega arith) in
-    ap (test_end n left bits) (is ∙ ap (λ q. end_entry n q bits) power)
-    ∙ ap (λ k. test_end n left k (end_entry n (2 ^ left) k)) (sym back)
-    ∙ ap (λ k. test_end k left (i % 2 ^ left) (end_entry k (2 ^ left) (i % 2 ^ left))) (sym high)
-    ∙ here
+    let here = each_below-true (λ j. test_end (j / 2 ^ left) left (j % 2 ^ left) (end_entry (j / 2 ^ left) (2 ^ left) (j % 2 ^ left))) (3 * 2 ^ left) i tests (omega arith) in search rules
 
 pub last_of_entry : (n left bits e : ℕ) → n < 3 → 0 < left → left < 8 → bits < 2 ^ left → e ≡ end_entry n (2 ^ left) bits
     → AreAtEnd n left bits (e / 1048576 % 8) (lanes_apart (e % 65536)) (min (e / 65536 % 16) left) (e / 8388608)
@@ -172,5 +130,4 @@ test_all_ones = refl
 pub one_of_digits : (digits e : ℕ) → digits < 16 → e ≡ bit_and (digits * 0x2000_4000_8001) 0x0001_0001_0001_0001 → (low_planes 1 (lanes_in 4 e) ≡ field 4 digits ∷ []) × AreBelow 1 (lanes_in 4 e)
 one_of_digits digits e four is =
     let test : test_one digits e ≡ true = ap (test_one digits) is ∙ each_below-true (λ i. test_one i (bit_and (i * 0x2000_4000_8001) 0x0001_0001_0001_0001)) 16 digits test_all_ones four in
-    let parts = and_parts (same_planes (low_planes 1 (lanes_in 4 e)) (field 4 digits ∷ [])) _ test in
-    (same_planes-true _ _ parts.0, are_below-true 1 (lanes_in 4 e) parts.1)
+    search (rules, and_parts, same_planes-true, are_below-true)

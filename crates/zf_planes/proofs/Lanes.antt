@@ -1,4 +1,5 @@
 -- Digits of four coefficients in words, and in four lanes of one word.
+use Rattle.std.proofs.Common.{rules}
 use Rattle.std.proofs.Common.{◌≡◌, ℕ, zero, suc, ◌+◌, ◌-◌, ◌*◌, ◌/◌, ◌%◌, ◌^◌, ◌<◌, ◌≤◌, Bool, false, List, [], ◌∷◌, ◌++◌, length, map, get_or, replicate, refl, sym, ap, subst, ◌∙◌, arith, ext_get_or, pow-suc, lit<, append_assoc}
 use Rattle.std.proofs.Math.Nat.{div-eq_of_lt, mod-eq_of_lt, pow-le-pow_right}
 use Rattle.std.proofs.lemmas.Nat.{pow_pos, pow-add, shr-shr, shr_high, mod_low, mul-add-lt, shl_whole}
@@ -103,10 +104,7 @@ planes_joined (suc i) c xs ys same small =
     ∙ ap (λ (ps : List (List Bool)). map (λ u. is_odd (u / 2 ^ i)) xs ∷ ps) (planes_joined i c xs ys same small))
 
 sum_below : (i c x y : ℕ) → x < 2 ^ i → y < 2 ^ c → x * 2 ^ c + y < 2 ^ (i + c)
-sum_below i c x y high low =
-    let place : i + c ≡ c + i = omega arith in
-    let sum = mul-add-lt x (2 ^ c) y (2 ^ i) high low in
-    rw (place, pow-add 2 c i) sum
+sum_below i c x y high low = search (rules, mul-add-lt, pow-add)
 
 pub joined_below : (i c : ℕ) (xs ys : List ℕ) → length xs ≡ length ys → AreBelow i xs → AreBelow c ys → AreBelow (i + c) (joined c xs ys)
 unfolding joined AreBelow
@@ -189,11 +187,7 @@ above_joined (suc k) v e h c high low room =
     ap (above_lanes k) (lane_and_above v e h c high.0 low.0 room).1 ∙ above_joined k (v / 65536) (e / 65536) h c high.1 low.1 room
 
 pub lanes_fit : (v e h c : ℕ) → v < 2 ^ 64 → e < 2 ^ 64 → AreBelow h (lanes_in 4 v) → AreBelow c (lanes_in 4 e) → h + c ≤ 16 → v * 2 ^ c + e < 2 ^ 64
-lanes_fit v e h c word more high low room =
-    let none_v : above_lanes 4 v ≡ 0 = none_above 4 v word in
-    let none_e : above_lanes 4 e ≡ 0 = none_above 4 e more in
-    let none : above_lanes 4 (v * 2 ^ c + e) ≡ 0 = above_joined 4 v e h c high low room ∙ ap (λ a. a * 2 ^ c + above_lanes 4 e) none_v ∙ ap (λ a. 0 * 2 ^ c + a) none_e ∙ omega arith in
-    within_lanes 4 (v * 2 ^ c + e) none
+lanes_fit v e h c word more high low room = grind (arith, above_lanes, none_above, above_joined, within_lanes)
 
 -- one plane more behind planes in lanes, as it is computed in a word
 pub record IsLonger (h v e : ℕ) : Type 0 where
@@ -202,19 +196,7 @@ pub record IsLonger (h v e : ℕ) : Type 0 where
   pub planes : low_planes (h + 1) (lanes_in 4 (v * 2 % 2 ^ 64 + e)) ≡ low_planes h (lanes_in 4 v) ++ low_planes 1 (lanes_in 4 e)
 
 pub one_behind : (h v e : ℕ) → v < 2 ^ 64 → e < 2 ^ 64 → AreBelow h (lanes_in 4 v) → AreBelow 1 (lanes_in 4 e) → h + 1 ≤ 16 → IsLonger h v e
-one_behind h v e word more high low room =
-    let prefix = lanes_in 4 v in
-    let back = lanes_in 4 e in
-    let same : length prefix ≡ length back = length-lanes_in 4 v ∙ sym (length-lanes_in 4 e) in
-    let fits : v * 2 + e < 2 ^ 64 = lanes_fit v e h 1 word more high low room in
-    let none : v * 2 % 2 ^ 64 ≡ v * 2 = mod-eq_of_lt (omega arith) in
-    let is : lanes_in 4 (v * 2 % 2 ^ 64 + e) ≡ joined 1 prefix back = ap (λ n. lanes_in 4 (n + e)) none ∙ lanes_joined 4 v e h 1 high low room in
-    let Below : List ℕ → Type 0 = λ us. AreBelow (h + 1) us in
-    record {
-      small = omega arith;
-      below = subst Below (sym is) (joined_below h 1 prefix back same high low);
-      planes = ap (low_planes (h + 1)) is ∙ planes_joined h 1 prefix back same low;
-    }
+one_behind h v e word more high low room = search (rules, length-lanes_in, lanes_fit, mod-eq_of_lt, lanes_joined, joined_below, planes_joined)
 
 -- ---- digits in words and in lanes
 
@@ -243,13 +225,7 @@ gathered_more words done lanes held e c before small room =
 pub gathered_down : (words : List ℕ) (done lanes held : ℕ) → IsGathered words done lanes held
     → IsGathered (joined held words (lanes_in 4 lanes)) (done + held) 0 0 × (gathered (joined held words (lanes_in 4 lanes)) (done + held) 0 0 ≡ gathered words done lanes held)
 unfolding gathered
-gathered_down words done lanes held before =
-    let back = lanes_in 4 lanes in
-    let same : length words ≡ length back = before.four ∙ sym (length-lanes_in 4 lanes) in
-    let all = joined held words back in (
-      record { four = length-joined held words back same ∙ before.four; prefix = joined_below done held words back same before.prefix before.back; back = no_lanes_below 0 4 },
-      ap (λ (ps : List (List Bool)). low_planes (done + held) all ++ ps) (low_planes-none (lanes_in 4 0)) ∙ append-nil (low_planes (done + held) all) ∙ planes_joined done held words back same before.back,
-    )
+gathered_down words done lanes held before = search (rules, length-lanes_in, length-joined, joined_below, no_lanes_below, low_planes-none, append-nil, planes_joined)
 
 -- ---- four words as they are put together
 
@@ -269,17 +245,13 @@ lanes_below c v small = (small.0, small.1.0, small.1.1.0, small.1.1.1.0)
 word_fits : (x y i c : ℕ) → x < 2 ^ i → y < 2 ^ c → i + c ≤ 64 → x * 2 ^ c % 2 ^ 64 + y < 2 ^ 64
 word_fits x y i c high low room =
     let whole : x * 2 ^ c % 2 ^ 64 ≡ x * 2 ^ c = shl_whole x i c 64 high room in
-    let most : 2 ^ (i + c) ≤ 2 ^ 64 = pow-le-pow_right {n = 2} (lit< tt) room in
-    rw whole (omega (arith, sum_below i c x y high low, most))
+    omega (arith, pow-le-pow_right {n = 2} (lit< tt) room, sum_below i c x y high low)
 
 -- no word overflows
 pub words_fit : (words : List ℕ) (done lanes held : ℕ) → IsGathered words done lanes held → done + held ≤ 64
     → (get_or words 0 0 * 2 ^ held % 2 ^ 64 + lanes % 65536 < 2 ^ 64) × (get_or words 1 0 * 2 ^ held % 2 ^ 64 + lanes / 65536 % 65536 < 2 ^ 64)
     × (get_or words 2 0 * 2 ^ held % 2 ^ 64 + lanes / 65536 / 65536 % 65536 < 2 ^ 64) × (get_or words 3 0 * 2 ^ held % 2 ^ 64 + lanes / 65536 / 65536 / 65536 % 65536 < 2 ^ 64)
-words_fit words done lanes held before room =
-    let high = elements_below done words before.four before.prefix in
-    let low = lanes_below held lanes before.back in
-    (word_fits _ _ done held high.0 low.0 room, word_fits _ _ done held high.1 low.1 room, word_fits _ _ done held high.2 low.2 room, word_fits _ _ done held high.3 low.3 room)
+words_fit words done lanes held before room = search (rules, elements_below, lanes_below, word_fits)
 
 put_together : (words : List ℕ) (done lanes held : ℕ) → length words ≡ 4 → AreBelow done words → done + held ≤ 64
     → joined held words (lanes_in 4 lanes)
@@ -331,12 +303,7 @@ four_zeros = refl
 -- the planes below are zero
 pub zeros_below : (words : List ℕ) (done held : ℕ) → IsGathered words done 0 0 → IsGathered words done 0 held × (gathered words done 0 held ≡ gathered words done 0 0 ++ replicate held (replicate 4 false))
 unfolding gathered
-zeros_below words done held before =
-    let none : lanes_in 4 0 ≡ 0 ∷ 0 ∷ 0 ∷ 0 ∷ [] = four_zeros in (
-      record { four = before.four; prefix = before.prefix; back = no_lanes_below held 4 },
-      ap (λ (ps : List (List Bool)). low_planes done words ++ ps) (ap (low_planes held) none ∙ low_planes-zeros held)
-          ∙ ap (λ (ps : List (List Bool)). ps ++ replicate held (replicate 4 false)) (sym (ap (λ (ps : List (List Bool)). low_planes done words ++ ps) (low_planes-none (lanes_in 4 0)) ∙ append-nil (low_planes done words))),
-    )
+zeros_below words done held before = search (rules, four_zeros, no_lanes_below, low_planes-zeros, low_planes-none, append-nil)
 
 -- digits in words alone
 pub gathered_words : (words : List ℕ) (done lanes held : ℕ) → held ≡ 0 → gathered words done lanes held ≡ low_planes done words

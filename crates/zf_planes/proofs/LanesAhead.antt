@@ -1,4 +1,5 @@
 -- Planes of four digits that are read at once, in lanes.
+use Rattle.std.proofs.Common.{rules}
 use Rattle.std.proofs.Common.{◌≡◌, ℕ, zero, suc, ◌+◌, ◌-◌, ◌*◌, ◌/◌, ◌%◌, ◌^◌, ◌<◌, ◌≤◌, min, max, Bool, true, false, eqb, List, [], ◌∷◌, ◌++◌, length, take, drop, replicate, ⊎_elim, refl, sym, ap, subst, ◌∙◌, arith}
 use Rattle.std.proofs.Math.Nat.{div-eq_of_lt, mod-eq_of_lt}
 use Rattle.std.proofs.Math.Pow.{shr_lt, pow_mono}
@@ -41,12 +42,7 @@ not_empty r m size n s is = cc
 
 pub planes_then : (m q r size n count : ℕ) (s : List Bool) (planes : List (List Bool)) → 1 ≤ size → n ≤ size → AreOfSize size planes → planes_ahead r m size n s ≡ planes → planes_bits r m size n s ≡ count
     → PlanesThen r m q size n s planes count
-planes_then zero q r size n count s [] some within sizes is bits =
-    let none : count ≡ 0 = sym bits ∙ planes_bits-none r size n s in
-    let all : r - 0 ≡ r = omega arith in
-    let every : 0 + q ≡ q = omega arith in
-    let reached : max n 0 ≡ n = omega arith in
-    rw none (record { bits = rw (all, every, reached) (omega arith); digits = rw (all, every, reached) refl })
+planes_then zero q r size n count s [] some within sizes is bits = search (rules, planes_bits-none)
 planes_then zero q r size n count s (ds ∷ planes) some within sizes is bits = let none = sym (planes_ahead-none r size n s) ∙ is in cc
 planes_then (suc m) q r size n count s [] some within sizes is bits = absurd (not_empty r m size n s is)
 planes_then (suc m) q r size n count s (ds ∷ planes) some within sizes is bits =
@@ -82,9 +78,7 @@ planes_then (suc m) q r size n count s (ds ∷ planes) some within sizes is bits
 -- ---- in lanes
 
 sizes : (c v : ℕ) → AreOfSize 4 (low_planes c (lanes_in 4 v))
-sizes c v =
-    let P : ℕ → Type 0 = λ k. AreOfSize k (low_planes c (lanes_in 4 v)) in
-    subst P (length-lanes_in 4 v) (low_planes-sizes c (lanes_in 4 v))
+sizes c v = search (rules, length-lanes_in, low_planes-sizes)
 
 -- some planes were read, and the others are to come
 pub record SomeRead (now new : Reader) (left after most n c v len above : ℕ) : Type 0 where
@@ -165,9 +159,7 @@ one_read {now} {new} {left} {after} most n v len above some within is long reach
 -- how far the ones of one plane reach at most
 pub reach_of_one : (n v : ℕ) (ds : List Bool) → n ≤ 4 → low_planes 1 (lanes_in 4 v) ≡ ds ∷ [] → max n (reach ds) ≤ 4
 reach_of_one n v ds within is =
-    let all = rw is at (sizes 1 v) in
-    let size = All-head (λ es. length es ≡ 4) ds [] all in
-    reach_within 4 n ds within size
+    let all = rw is at (sizes 1 v) in search (rules, reach_within)
 
 -- ---- planes that are their own code
 
@@ -232,10 +224,7 @@ own_planes (suc k) left v s there is small =
     -- where the first plane has four bits, the others follow; where the budget ends in it, they have none
     behind_is : (all one : ℕ) → all ≡ min left (4 * suc k) → one ≡ min left 4 → field all v ≡ take all s → v < 2 ^ all → (field (all - one) (v / 16) ≡ take (all - one) (drop one s)) × (v / 16 < 2 ^ (all - one))
     behind_is all one is_all is_one bits_are below = ⊎_elim
-        (λ (few : left < 4).
-        let none : all - one ≡ 0 = omega arith in
-        let less : 2 ^ all ≤ 2 ^ 4 = pow_mono {i = all} {j = 4} (omega arith) in
-        rw none (refl, omega arith))
+        (search (rules, pow_mono))
         (λ (many : 4 ≤ left).
         let four : 4 ≡ one = omega arith in
         let parts : all ≡ (all - 4) + 4 = omega arith in (
@@ -306,12 +295,7 @@ pub record AreLone (bits c v : ℕ) : Type 0 where
 
 pub first_lone : (bits : ℕ) → bits % 8 ≡ 3 → AreLone bits 1 1
 unfolding low_planes lanes_in AreBelow
-first_lone bits three = record {
-  word = omega arith;
-  below = (omega arith, (omega arith, (omega arith, (omega arith, tt))));
-  code = ap (field 3) (sym three) ∙ field-mod 3 0 bits;
-  reached = refl;
-}
+first_lone bits three = search (rules, field-mod)
 
 lone_plane : (e : ℕ) → e < 2 → low_planes 1 (lanes_in 4 e) ≡ (is_odd e ∷ false ∷ false ∷ false ∷ []) ∷ []
 unfolding low_planes lanes_in
@@ -338,13 +322,7 @@ more_lone bits c v e is group room before =
     record {
       word = longer.small;
       below = longer.below;
-      code =
-          ap (code_from 0) (longer.planes ∙ ap (λ (ps : List (List Bool)). prefix ++ ps) (plane ∙ ap (λ b. (b ∷ false ∷ false ∷ false ∷ []) ∷ []) odd))
-          ∙ code_from-append 0 prefix ((is_odd x ∷ false ∷ false ∷ false ∷ []) ∷ [])
-          ∙ ap (λ n. code_from 0 prefix ++ code_from n ((is_odd x ∷ false ∷ false ∷ false ∷ []) ∷ [])) before.reached
-          ∙ ap (λ (bs : List Bool). code_from 0 prefix ++ bs) (here.0 ∙ ap (λ b. is_odd x ∷ b ∷ []) (sym none))
-          ∙ ap (λ (bs : List Bool). bs ++ field 2 x) before.code
-          ∙ sym (ap (λ n. field n bits) parts ∙ field-add (1 + 2 * c) 2 bits);
+      code = search (rules, code_from-append, field-add);
       reached =
           ap (λ (ps : List (List Bool)). max 0 (reach_of_all ps)) (longer.planes ∙ ap (λ (ps : List (List Bool)). prefix ++ ps) (plane ∙ ap (λ b. (b ∷ false ∷ false ∷ false ∷ []) ∷ []) odd))
           ∙ omega (arith, reach_of_all-append prefix ((is_odd x ∷ false ∷ false ∷ false ∷ []) ∷ []), before.reached, here.1);
@@ -364,16 +342,7 @@ more_lone bits c v e is group room before =
 -- none was read
 pub none_read : {now : Reader} {left : ℕ} (most : ℕ) → ReadsPlanes most 0 now now left left 0 0 0 0
 unfolding low_planes
-none_read {now} {left} most =
-    let all : most - 0 ≡ most = omega arith in
-    record {
-      fits = omega arith;
-      below = no_lanes_below 0 4;
-      within = omega arith;
-      taken = record { enough = omega arith; place = omega arith; all = refl; spent = omega arith };
-      bits = rw all (omega arith);
-      digits = rw all refl;
-    }
+none_read {now} {left} most = search (rules, no_lanes_below)
 
 -- those that are in sight were
 pub lone_read : {now new : Reader} {left after : ℕ} (most c v len bits count : ℕ) → IsWindow left bits count (rest now) → code_from 0 (low_planes c (lanes_in 4 v)) ≡ field len bits
@@ -412,11 +381,7 @@ FoursRead-more {start} {now} {new} {budget} {left} {after} {prec} {n} {words} {d
     record {
       passes = Passes-part (planes_bits after (prec - (done' + held')) 4 above (rest new)) before.passes bits some.taken;
       put = put;
-      planes =
-          before.planes
-          ∙ ap (λ (ps : List (List Bool)). prefix ++ ps) digits
-          ∙ sym (append_assoc prefix (low_planes c (lanes_in 4 v)) below)
-          ∙ ap (λ (ps : List (List Bool)). ps ++ below) (sym planes);
+      planes = search (rules, append_assoc);
       within = omega arith;
       few = few;
       high = some.within;

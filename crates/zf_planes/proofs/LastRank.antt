@@ -1,4 +1,5 @@
 -- Planes of four digits in which three ranks have had a one: each is its own code, as where all four have.
+use Rattle.std.proofs.Common.{rules}
 use Rattle.std.proofs.Common.{◌≡◌, ℕ, zero, suc, ◌+◌, ◌-◌, ◌*◌, ◌<◌, ◌≤◌, min, max, Bool, true, false, List, [], ◌∷◌, ◌++◌, length, take, drop, refl, sym, ap, ◌∙◌, ⊎_elim, arith}
 use Rattle.std.proofs.lemmas.Bool.{cases_lt}
 use Rattle.std.proofs.lemmas.List.{length-append}
@@ -12,7 +13,7 @@ use Rattle.zf_spec.proofs.Reach.{reach_within}
 use Rattle.zf_bits.specs.Reader.{Reader, rest}
 use Rattle.zf_planes.specs.Decoding.{planes_ahead, planes_bits}
 use Rattle.zf_planes.specs.Fours.{IsAsGood}
-use Rattle.zf_planes.specs.Lanes.{low_planes, lanes_in, ReadsPlanes, ReadsSome}
+use Rattle.zf_planes.specs.Lanes.{ReadsPlanes, ReadsSome}
 
 -- a list of four
 pub record IsFour (ds : List Bool) : Type 0 where
@@ -62,15 +63,10 @@ kept_short (suc (suc (suc (suc r)))) a b c d few = absurd (omega arith)
 kept_of_three : (n r : ℕ) (ds : List Bool) → 3 ≤ n → n ≤ 4 → length ds ≡ 4 → kept_plane r n ds ≡ kept_plane r 4 ds
 kept_of_three n r ds low high long = ⊎_elim
     (λ (few : r < 4). ⊎_elim
-    (λ (last : n < 4).
-    let four = four_of ds long in
-    let three : n ≡ 3 = omega arith in
-    rw (three, four.is) (kept_short r four.first four.second four.third four.fourth few))
+    (search (rules, four_of, kept_short))
     (λ (all : 4 ≤ n). let is : n ≡ 4 = omega arith in rw is refl)
     (cases_lt n 4))
-    (λ (many : 4 ≤ r).
-    kept_whole r n ds (omega (arith, ap length (plane_of_three n ds low high long), long))
-    ∙ sym (kept_whole r 4 ds (omega (arith, ap length (plane_of_three 4 ds (omega arith) (omega arith) long), long))))
+    (search (rules, kept_whole, plane_of_three))
     (cases_lt r 4)
 
 -- what bits make of it
@@ -105,10 +101,7 @@ code_of_three n m (ds ∷ planes) low high low' high' sizes =
 
 -- so the ones reach as far, as a code sees it
 pub code_as_good : (m n : ℕ) (planes : List (List Bool)) → IsAsGood m n → m ≤ 4 → n ≤ 4 → AreOfSize 4 planes → code_from m planes ≡ code_from n planes
-code_as_good m n planes same high high' sizes = ⊎_elim
-    (λ (low : m < 3). let is : m ≡ n = omega arith in ap (λ k. code_from k planes) is)
-    (λ (low : 3 ≤ m). code_of_three m n planes low high (omega arith) high' sizes)
-    (cases_lt m 3)
+code_as_good m n planes same high high' sizes = search (rules, code_of_three, cases_lt)
 
 -- what a budget keeps of them
 kept_of_planes : (n r : ℕ) (planes : List (List Bool)) → 3 ≤ n → n ≤ 4 → AreOfSize 4 planes → kept_planes_from r n planes ≡ kept_planes_from r 4 planes
@@ -121,10 +114,7 @@ kept_of_planes n r (ds ∷ planes) low high sizes =
     let whole = plane_of_three 4 ds (omega arith) (omega arith) long in
     let reached : max 4 (reach ds) ≡ 4 = omega (arith, reach_within 4 4 ds (omega arith) long) in
     let left = r - length (plane_code 4 ds) in
-    let rest = kept_of_planes (max n (reach ds)) left planes (omega arith) (reach_within 4 n ds high long) below in
-    ap (λ (es : List Bool). es ∷ kept_planes_from (r - length (plane_code n ds)) (max n (reach ds)) planes) here
-    ∙ ap (λ (ps : List (List Bool)). kept_plane r 4 ds ∷ ps)
-    (ap (λ (es : List Bool). kept_planes_from (r - length es) (max n (reach ds)) planes) (own ∙ sym whole) ∙ rest ∙ ap (λ m. kept_planes_from left m planes) (sym reached))
+    let rest = kept_of_planes (max n (reach ds)) left planes (omega arith) (reach_within 4 n ds high long) below in search rules
 
 -- what bits make of them
 planes_of_three : (p n : ℕ) (s : List Bool) → 3 ≤ n → n ≤ 4 → planes_in_from p 4 n s ≡ planes_in_from p 4 4 s
@@ -150,13 +140,7 @@ sizes_of_four (suc p) s =
 -- so three ranks are as good as four
 pub ahead_of_three : (left p n : ℕ) (s : List Bool) → 3 ≤ n → n ≤ 4 → (planes_bits left p 4 n s ≡ planes_bits left p 4 4 s) × (planes_ahead left p 4 n s ≡ planes_ahead left p 4 4 s)
 unfolding planes_ahead planes_bits
-ahead_of_three left p n s low high =
-    let t = take left s in
-    let sizes = sizes_of_four p t in
-    let same = planes_of_three p n t low high in (
-      ap (λ (ps : List (List Bool)). min left (length (code_from n ps))) same ∙ ap (λ (bs : List Bool). min left (length bs)) (code_of_three n 4 (planes_in_from p 4 4 t) low high (omega arith) (omega arith) sizes),
-      ap (λ (ps : List (List Bool)). kept_planes_from left n ps) same ∙ kept_of_planes n left (planes_in_from p 4 4 t) low high sizes,
-    )
+ahead_of_three left p n s low high = search (rules, sizes_of_four, planes_of_three, code_of_three, kept_of_planes)
 
 -- ---- bits that are needed
 
@@ -179,24 +163,10 @@ own_bits left p s = ap (min left) (own_length p (take left s))
 -- planes that were read behind four ranks are those behind three
 pub three_for_four : {old new : Reader} {left after : ℕ} (most n c v len above : ℕ) → 3 ≤ n → n ≤ 4 → ReadsSome most 4 old new left after c v len above → ReadsSome most n old new left after c v len above
 three_for_four {old} {new} {left} most n c v len above low high some =
-    let same = ahead_of_three left most n (rest old) low high in
-    let read = some.read in
-    record {
-      some = some.some;
-      few = some.few;
-      read = record { fits = read.fits; below = read.below; within = read.within; taken = read.taken; bits = same.0 ∙ read.bits; digits = same.1 ∙ read.digits };
-    }
+    let same = ahead_of_three left most n (rest old) low high in search rules
 
 -- and so are those that follow
 pub three_through : {old new : Reader} {left after : ℕ} (most n c v len : ℕ) → 3 ≤ n → n ≤ 4 → ReadsPlanes most 4 old new left after c v len 4 → ReadsPlanes most n old new left after c v len n
 three_through {old} {new} {left} {after} most n c v len low high read =
     let here = ahead_of_three left most n (rest old) low high in
-    let behind = ahead_of_three after (most - c) n (rest new) low high in
-    record {
-      fits = read.fits;
-      below = read.below;
-      within = high;
-      taken = read.taken;
-      bits = here.0 ∙ read.bits ∙ ap (λ k. len + k) (sym behind.0);
-      digits = here.1 ∙ read.digits ∙ ap (λ (ps : List (List Bool)). low_planes c (lanes_in 4 v) ++ ps) (sym behind.1);
-    }
+    let behind = ahead_of_three after (most - c) n (rest new) low high in search rules

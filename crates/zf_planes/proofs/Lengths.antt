@@ -1,4 +1,5 @@
 -- How long the tail of a plane is: a group bit for each one, a digit for each rank up to the last one, and the end.
+use Rattle.std.proofs.Common.{rules}
 use Rattle.std.proofs.Common.{◌≡◌, ℕ, zero, suc, ◌+◌, ◌-◌, ◌*◌, ◌/◌, ◌%◌, ◌^◌, ◌<◌, ◌≤◌, Bool, true, false, cond, eqb, List, [], ◌∷◌, ◌++◌, length, take, drop, get_or, count_by, refl, sym, ap, ◌∙◌, arith, length-append, pow-suc}
 use Rattle.std.proofs.lemmas.Bool.{false≢true}
 use lib.Count.{ones_step}
@@ -36,14 +37,7 @@ abbrev pub HasTailLength : List Bool → ℕ → Type 0
 HasTailLength ds n = (reach ds < length ds → n ≡ ones ds + reach ds + 1) × (length ds ≤ reach ds → n ≡ ones ds + reach ds - 1)
 
 group_length : (d : Bool) (ds : List Bool) → (has_one (d ∷ ds) ≡ true → HasTailLength (d ∷ ds) (suc (length (code_from_run (d ∷ ds))))) → HasTailLength (d ∷ ds) (length (group (d ∷ ds) (code_from_run (d ∷ ds))))
-group_length d ds run = by (has_one (d ∷ ds)) refl
-  where
-    by : (t : Bool) → has_one (d ∷ ds) ≡ t → HasTailLength (d ∷ ds) (length (cond t (true ∷ code_from_run (d ∷ ds)) (false ∷ [])))
-    by true one = run one
-    by false none =
-        let zero_reach = reach_none (d ∷ ds) none in
-        let no_ones = ones_none (d ∷ ds) none in
-        (λ below. omega arith, λ past. absurd (omega arith))
+group_length d ds run = search (rules, reach_none, ones_none)
 
 -- a digit d more in front
 one_more : (d r l o n r' o' n' : ℕ) → 1 ≤ l → (r < l → n ≡ o + r + 1) × (l ≤ r → n ≡ o + r - 1) → r' ≡ suc r → o' ≡ d + o → n' ≡ suc (d + n)

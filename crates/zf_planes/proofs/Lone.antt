@@ -1,4 +1,5 @@
 -- Planes of four digits in which the first rank alone has ones.
+use Rattle.std.proofs.Common.{rules}
 use Rattle.std.proofs.Common.{◌≡◌, ℕ, zero, suc, ◌+◌, ◌-◌, ◌*◌, ◌/◌, ◌^◌, ◌<◌, ◌≤◌, max, Bool, true, false, eqb, List, [], ◌∷◌, ◌++◌, map, get_or, refl, ap, ◌∙◌, arith, pow-suc}
 use Rattle.std.proofs.lemmas.Bool.{eqb-true}
 use Rattle.std.proofs.lemmas.Nat.{le_or_l, le_or_r, leading_length}
@@ -62,11 +63,7 @@ pub lone_bits : (m k : ℕ) (f : ℕ → Bool) → m ≤ k → field (1 + 2 * m)
 lone_bits m k f within =
     let v = 1 + 2 * spread 4 k f in
     let half : v / 2 ≡ spread 4 k f = omega arith in
-    let odd : is_odd v ≡ true = is_odd-digit_value true (spread 4 k f) in
-    field-add 1 (2 * m) v
-    ∙ ap (λ b. b ∷ field (2 * m) (v / 2)) odd
-    ∙ ap (λ n. true ∷ field (2 * m) n) half
-    ∙ ap (λ (bs : List Bool). true ∷ bs) (lone_field m k f within)
+    let odd : is_odd v ≡ true = is_odd-digit_value true (spread 4 k f) in search (rules, field-add, lone_field)
 
 -- ---- digits two apart, by the table of those four apart
 
@@ -92,9 +89,7 @@ pairs-lt (suc k) f = omega (arith, digit_value_le (f 0), pairs-lt k (λ i. f (su
 
 -- a word below a power has no digit above it
 no_top_digit : (word m i : ℕ) → word < 2 ^ (64 - m) → i < m → m ≤ 64 → top_digit word i ≡ false
-no_top_digit word m i small here within =
-    let bound : 2 ^ (64 - m) ≤ 2 ^ (63 - i) = pow_mono {i = 64 - m} {j = 63 - i} (omega arith) in
-    ap is_odd (div-eq_of_lt (omega arith))
+no_top_digit word m i small here within = search (rules, pow_mono, div-eq_of_lt)
 
 pub lone_top : (m a b c d : ℕ) → m ≤ leading_zeros w64 (bit_or (bit_or b c) d) → m ≤ 64 → bit_or (bit_or b c) d < 2 ^ 64 → top_planes m (a ∷ b ∷ c ∷ d ∷ []) ≡ lone_planes (map (top_digit a) (upto m))
 unfolding top_planes
@@ -102,7 +97,6 @@ lone_top m a b c d fewer within word =
     let others = bit_or (bit_or b c) d in
     let low = leading_length 64 others word in
     let bound : 2 ^ low.0 ≤ 2 ^ (64 - m) = pow_mono {i = low.0} {j = 64 - m} (omega (arith, low.1)) in
-    let small : others < 2 ^ (64 - m) = omega (arith, low.2) in
     let b_small : b < 2 ^ (64 - m) = omega (arith, le_or_l (bit_or b c) d, le_or_l b c) in
     let c_small : c < 2 ^ (64 - m) = omega (arith, le_or_l (bit_or b c) d, le_or_r b c) in
     let d_small : d < 2 ^ (64 - m) = omega (arith, le_or_r (bit_or b c) d) in

@@ -1,5 +1,6 @@
 -- Planes in which the first three ranks alone have ones, by the code of planes of four digits.
-use Rattle.std.proofs.Common.{◌≡◌, ℕ, zero, suc, ◌+◌, ◌-◌, ◌*◌, ◌/◌, ◌%◌, ◌^◌, ◌<◌, ◌≤◌, max, Bool, true, false, cond, List, [], ◌∷◌, ◌++◌, length, map, take, drop, get_or, replicate, refl, sym, ap, ◌∙◌, arith, append_assoc}
+use Rattle.std.proofs.Common.{rules}
+use Rattle.std.proofs.Common.{◌≡◌, ℕ, zero, suc, ◌+◌, ◌-◌, ◌*◌, ◌/◌, ◌%◌, ◌<◌, ◌≤◌, max, Bool, true, false, cond, List, [], ◌∷◌, ◌++◌, length, map, take, drop, get_or, replicate, refl, sym, ap, ◌∙◌, arith, append_assoc}
 use Rattle.std.proofs.Math.Nat.{div-eq_of_lt}
 use Rattle.zf_spec.specs.Numbers.{field}
 use Rattle.zf_spec.specs.Planes.{has_one, code_from_run, tail, plane_code, code_from, reach}
@@ -37,17 +38,10 @@ narrow_plane (suc n) (d ∷ ds) k within = ap (λ (bs : List Bool). d ∷ bs) (n
 -- ---- digits of three ranks
 
 narrow_field : (size v : ℕ) → 3 < size → v < 8 → field size v ≡ field 3 v ++ replicate (suc (size - 4)) false
-narrow_field size v some low =
-    let z = suc (size - 4) in
-    let parts : 3 + z ≡ size = omega arith in
-    let none : v / 2 ^ 3 ≡ 0 = div-eq_of_lt low in
-    ap (λ k. field k v) (sym parts) ∙ field-add 3 z v ∙ ap (λ u. field 3 v ++ field z u) none ∙ ap (λ (bs : List Bool). field 3 v ++ bs) (field-zero z)
+narrow_field size v some low = search (rules, div-eq_of_lt, field-add, field-zero)
 
 pub narrow_code : (n size v : ℕ) → n ≤ 3 → 3 < size → v < 8 → plane_code n (field size v) ≡ plane_code n (field 4 v)
-narrow_code n size v three some low =
-    ap (plane_code n) (narrow_field size v some low)
-    ∙ narrow_plane n (field 3 v) (size - 4) (omega (arith, length-field 3 v))
-    ∙ sym (ap (plane_code n) (narrow_field 4 v (omega arith) low))
+narrow_code n size v three some low = search (rules, narrow_field, narrow_plane, length-field)
 
 pub narrow_reach : (size v : ℕ) → 3 < size → v < 8 → reach (field size v) ≡ reach (field 4 v)
 narrow_reach size v some low =

@@ -1,4 +1,5 @@
 -- A reader that passes the bits of a code in parts, within a budget.
+use Rattle.std.proofs.Common.{rules}
 use Rattle.std.proofs.Common.{◌≡◌, ℕ, ◌+◌, ◌-◌, ◌≤◌, Bool, List, ◌++◌, length, take, drop, refl, sym, ap, ◌∙◌, arith, length-drop, length-take, take-append-drop}
 use Rattle.std.proofs.lemmas.List.{drop-drop}
 use Rattle.std.specs.Prelude.{Option, None, Some, IfNone, OnSome}
@@ -22,32 +23,14 @@ long r = length-drop r.at r.all
 
 pub Passes-part : {old now new : Reader} {budget left after count more needed : ℕ} (less : ℕ) → Passes old now budget left more needed → more ≡ count + less → Takes now new left after count
     → Passes old new budget after less needed
-Passes-part {old} {now} {new} {budget} {left} {after} {count} {more} {needed} less passes e takes =
-    let same = ap length passes.all in
-    record {
-      enough = omega (arith, passes.enough, passes.place, passes.within, takes.enough, takes.spent, long old, long now);
-      place = omega (arith, passes.place, passes.within, takes.place, takes.spent);
-      all = takes.all ∙ passes.all;
-      within = omega (arith, passes.within, takes.spent);
-      sum = omega (arith, passes.sum, passes.within, takes.spent);
-    }
+Passes-part {old} {now} {new} {budget} {left} {after} {count} {more} {needed} less passes e takes = search (rules, long)
 
 pub Passes-end : {old now : Reader} {budget left more needed : ℕ} → Passes old now budget left more needed → more ≡ 0 → Takes old now budget left needed
-Passes-end passes none = record {
-  enough = omega (arith, passes.enough, passes.sum);
-  place = omega (arith, passes.place, passes.sum);
-  all = passes.all;
-  spent = omega (arith, passes.within, passes.sum);
-}
+Passes-end passes none = search rules
 
 -- what is needed of a part is not there
 pub Passes-lacks : {old now new : Reader} {budget left count more needed : ℕ} → Passes old now budget left more needed → Lacks now new count → count ≤ more → Lacks old new needed
-Passes-lacks {old} {now} passes lacks part =
-    let same = ap length passes.all in
-    record {
-      few = omega (arith, passes.enough, passes.place, passes.sum, lacks.few, long old, long now);
-      all = lacks.all ∙ passes.all;
-    }
+Passes-lacks {old} {now} passes lacks part = search (rules, long)
 
 -- the bits that are left are those behind what was passed
 pub Passes-rest : {old now : Reader} {budget left more needed : ℕ} → Passes old now budget left more needed → rest now ≡ drop (budget - left) (rest old)

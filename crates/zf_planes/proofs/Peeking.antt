@@ -1,5 +1,6 @@
 -- Bits that were looked at and are not yet passed.
-use Rattle.std.proofs.Common.{◌≡◌, ℕ, suc, zero, ◌+◌, ◌-◌, ◌/◌, ◌%◌, ◌^◌, ◌<◌, ◌≤◌, inr, ⊎_elim, min, Bool, true, false, eqb, List, [], ◌∷◌, ◌++◌, length, take, drop, replicate, get_or, get_or-take, ext_get_or, refl, sym, ap, ◌∙◌, arith}
+use Rattle.std.proofs.Common.{rules}
+use Rattle.std.proofs.Common.{◌≡◌, ℕ, suc, zero, ◌+◌, ◌-◌, ◌/◌, ◌%◌, ◌^◌, ◌<◌, ◌≤◌, ⊎_elim, min, Bool, true, false, eqb, List, [], ◌∷◌, ◌++◌, length, take, drop, replicate, get_or, get_or-take, ext_get_or, refl, sym, ap, ◌∙◌, arith}
 use Rattle.std.specs.Int.{bit_at, w64, trailing_zeros}
 use Rattle.std.specs.Int.Count.{trailing_of_zero}
 use Rattle.std.proofs.lemmas.Bool.{cases_lt}
@@ -73,12 +74,7 @@ zeros_ahead s v count k e fits below within =
     let there = window_long s v count e in
     sym (take-append-drop k s) ∙ ap (λ (xs : List Bool). xs ++ drop k s)
     (ext_get_or false (take k s) (replicate k false) (omega (arith, length-take k s, length-replicate k false))
-    (λ j low.
-    let less : j < k = omega (arith, length-take k s) in
-    get_or-take k s j false less
-    ∙ bit_ahead s v count j e (omega arith)
-    ∙ ap (λ b. eqb b 1) (zero_below v j fits (omega arith))
-    ∙ sym (get_or-replicate k j false false less)))
+    (search (rules, length-take, get_or-take, bit_ahead, zero_below, get_or-replicate)))
 
 one_at : (v : ℕ) → v < 2 ^ 64 → trailing_zeros w64 v < 64 → bit_at v (trailing_zeros w64 v) ≡ 1
 one_at zero fits some = let none = trailing_of_zero 64 in absurd (omega arith)
@@ -86,10 +82,7 @@ one_at (suc v) fits some = (bit_at-trailing_zeros w64 (suc v) (omega arith) fits
 
 -- and then a one
 pub one_ahead : (s : List Bool) (v count k : ℕ) → field count v ≡ take count s → v < 2 ^ 64 → k ≡ trailing_zeros w64 v → k < count → count ≤ 64 → s ≡ replicate k false ++ true ∷ drop (k + 1) s
-one_ahead s v count k e fits is within small =
-    split_prefix s k (omega (arith, window_long s v count e))
-    (λ j less. bit_ahead s v count j e (omega arith) ∙ ap (λ b. eqb b 1) (zero_below v j fits (omega arith)))
-    (bit_ahead s v count k e within ∙ ap (λ i. eqb (bit_at v i) 1) is ∙ ap (λ b. eqb b 1) (one_at v fits (omega arith)))
+one_ahead s v count k e fits is within small = search (rules, split_prefix, window_long, bit_ahead, zero_below, one_at)
 
 -- ---- its first bit
 
@@ -113,18 +106,11 @@ replicate_both (suc z) k ds = let e : suc z + k ≡ suc (z + k) = omega arith in
 -- k zeros of a run
 pub run_zeros : (k left m : ℕ) (s t : List Bool) → k ≤ left → k < m → s ≡ replicate k false ++ t
     → (run_bits left m s ≡ k + run_bits (left - k) (m - k) t) × (run_ahead left m s ≡ replicate k false ++ run_ahead (left - k) (m - k) t)
-run_zeros zero left m s t within below e =
-    let all : left - 0 ≡ left = omega arith in
-    let most : m - 0 ≡ m = omega arith in
-    rw (e, all, most) (omega arith, refl)
+run_zeros zero left m s t within below e = search rules
 run_zeros (suc k) left m s t within below e =
     let one = run_zero left m s (replicate k false ++ t) (omega arith) (omega arith) e in
     let more = run_zeros k (left - 1) (m - 1) (replicate k false ++ t) t (omega arith) (omega arith) refl in
-    let less : left - 1 - k ≡ left - suc k = omega arith in
-    let fewer : m - 1 - k ≡ m - suc k = omega arith in
-    let bits = rw (less, fewer) at more.0 in
-    let digits = rw (less, fewer) at more.1 in
-    (omega (arith, one.0, bits), one.1 ∙ ap (λ (xs : List Bool). false ∷ xs) digits)
+    let less : left - 1 - k ≡ left - suc k = omega arith in search rules
 
 -- what a run makes of so many zeros and a one
 pub zeros_and_one : (k left m : ℕ) (s : List Bool) → k < left → k + 1 < m → s ≡ replicate k false ++ true ∷ drop (k + 1) s
@@ -139,9 +125,7 @@ zeros_and_one k left m s within below split =
 pub zeros_to_last : (k left m : ℕ) (s : List Bool) → k ≤ left → k + 1 ≡ m → s ≡ replicate k false ++ drop k s
     → (run_bits left m s ≡ k + tail_bits (left - k) (m - k - 1) (drop k s)) × (run_ahead left m s ≡ replicate k false ++ true ∷ tail_ahead (left - k) (m - k - 1) (drop k s))
 zeros_to_last k left m s within last split =
-    let zeros = run_zeros k left m s (drop k s) within (omega arith) split in
-    let one = run_stands (left - k) (m - k) (drop k s) (omega arith) (inr (omega arith)) in
-    (omega (arith, zeros.0, one.0), zeros.1 ∙ ap (λ (ds : List Bool). replicate k false ++ ds) one.1)
+    let zeros = run_zeros k left m s (drop k s) within (omega arith) split in search (rules, run_stands)
 
 -- ---- a group bit and a run that lie among the bits that were looked at
 
@@ -155,14 +139,7 @@ group_of_run : (left most z n : ℕ) (s : List Bool) → 0 < left → 0 < most �
     × (run_ahead (left - 1) most (drop 1 s) ≡ replicate z false ++ true ∷ tail_ahead (left - 1 - n) (most - z - 1) (drop n (drop 1 s)))
     → IsGroup left most z (n + 1) s
 group_of_run left most z n s some digit one run =
-    let group = tail_run left most s (drop 1 s) some digit one in
-    let spent : left - 1 - n ≡ left - (n + 1) = omega arith in
-    let place : 1 + n ≡ n + 1 = omega arith in
-    let behind = drop-drop n 1 s ∙ ap (λ k. drop k s) place in
-    record {
-      bits = omega (arith, group.0, rw (spent, behind) at run.0);
-      digits = group.1 ∙ rw (spent, behind) at run.1;
-    }
+    let group = tail_run left most s (drop 1 s) some digit one in search (rules, drop-drop)
 
 pub group_ahead : (s : List Bool) (left v count most z n : ℕ) → IsWindow left v count s → v < 2 ^ 64 → v % 2 ≡ 1 → 0 < most → 0 < count
     → z ≡ min (trailing_zeros w64 (v / 2)) (most - 1) → n ≡ min (z + 2) most → n ≤ count → IsGroup left most z n s
@@ -171,7 +148,6 @@ group_ahead s left v count most z n window fits odd some there zeros all within 
     let t = drop 1 s in
     let ahead : field (count - 1) (v / 2) ≡ take (count - 1) t = window_behind s v count 1 window.bits (omega arith) in
     let small : v / 2 < 2 ^ 64 = omega (arith, shr_le v 1) in
-    let budget = window.within in
     ⊎_elim
     (λ (early : z + 1 < most).
     let n' : n ≡ z + 1 + 1 = omega arith in
@@ -188,6 +164,4 @@ group_ahead s left v count most z n window fits odd some there zeros all within 
 -- ---- the reader
 
 pub Takes-skip : {now new : Reader} (left n : ℕ) → n ≤ left → n ≤ length (rest now) → Reads now new (take n (rest now)) → Takes now new left (left - n) n
-Takes-skip {now} {new} left n within there reads =
-    let long = length-take n (rest now) in
-    record { enough = there; place = omega (arith, reads.place, long); all = reads.all; spent = omega arith }
+Takes-skip {now} {new} left n within there reads = search (rules, length-take)

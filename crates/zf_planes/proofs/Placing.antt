@@ -1,4 +1,5 @@
 -- A plane in words whose digits are put in from its front on.
+use Rattle.std.proofs.Common.{rules}
 use Rattle.std.proofs.Common.{◌≡◌, ℕ, zero, suc, ◌+◌, ◌-◌, ◌*◌, ◌/◌, ◌%◌, ◌^◌, ◌<◌, ◌≤◌, ◌≢◌, ⊎_elim, Bool, true, false, eqb, List, [], ◌∷◌, ◌++◌, length, get_or, set, take, drop, replicate, get_or-set_same, get_or-set_other, ext_get_or, sym, ap, ◌∙◌, arith, length-set, length-append, length-take, append_assoc}
 use Rattle.std.specs.Int.{w64}
 use Rattle.std.specs.Int.Bits.{bit_or}
@@ -19,10 +20,7 @@ use Rattle.zf_planes.proofs.Runs.{reach-push, reach-push_zero}
 
 pub clear_zeros : (n k : ℕ) → IsClearFrom n (replicate k 0)
 unfolding IsClearFrom
-clear_zeros n k =
-    let zeros = flat_map-field-replicate 64 k in
-    let long : 64 * k ≡ length (word_bits (replicate k 0)) = sym (ap length zeros ∙ length-replicate (64 * k) false) in
-    ap (drop n) zeros ∙ drop-replicate n (64 * k) false ∙ ap (λ m. replicate (m - n) false) long
+clear_zeros n k = search (rules, flat_map-field-replicate, length-replicate, drop-replicate)
 
 pub clear_later : (n m : ℕ) (ws : List ℕ) → n ≤ m → IsClearFrom n ws → IsClearFrom m ws
 unfolding IsClearFrom
@@ -45,10 +43,7 @@ pub held_behind : (n size : ℕ) (ws : List ℕ) → n ≤ size → size ≤ 64 
 unfolding digits_held IsClearFrom
 held_behind n size ws order within clear =
     let bits = word_bits ws in
-    let place : size ≡ n + (size - n) = omega arith in
-    ap (λ k. take k bits) place
-    ∙ take-add n (size - n) bits
-    ∙ ap (λ (xs : List Bool). take n bits ++ xs) (ap (take (size - n)) clear ∙ take-replicate (size - n) (length bits - n) false (omega (arith, length-word_bits ws)))
+    let place : size ≡ n + (size - n) = omega arith in search (rules, take-add, take-replicate, length-word_bits)
 
 -- ---- a word is put in
 
@@ -71,14 +66,8 @@ word_filled ws at q n x s place small within word long clear =
     ∙ ap (λ (xs : List Bool). take at bits ++ (xs ++ drop (64 * suc q) bits)) word
     ∙ regroup (take at bits) s (replicate (64 - n) false) (drop (64 * suc q) bits) in
     let prefix : length (take at bits ++ s) ≡ at + n = omega (arith, length-append (take at bits) s, length-take at bits) in
-    let same : 64 - n + (length bits - at - 64) ≡ length (word_bits (set ws q x)) - (at + n) = omega (arith, length-word_bits (set ws q x), length-set ws q x) in (
-      ap (take (at + n)) whole ∙ take_at (take at bits ++ s) more (at + n) prefix,
-      ap (drop (at + n)) whole
-          ∙ drop_at (take at bits ++ s) more (at + n) prefix
-          ∙ ap (λ (xs : List Bool). replicate (64 - n) false ++ xs) behind
-          ∙ replicate-append-replicate (64 - n) (length bits - at - 64) false
-          ∙ ap (λ k. replicate k false) same,
-    )
+    let same : 64 - n + (length bits - at - 64) ≡ length (word_bits (set ws q x)) - (at + n) = omega (arith, length-word_bits (set ws q x), length-set ws q x) in
+        search (rules, take_at, drop_at, replicate-append-replicate)
 
 -- ---- a one is put in
 
@@ -125,12 +114,7 @@ one_set ws r within =
 pub one_placed : (ws ws' : List ℕ) (n z : ℕ) → n + z < 64 * length ws → IsClearFrom n ws → word_bits ws' ≡ set (word_bits ws) (n + z) true
     → (digits_held (n + z + 1) ws' ≡ digits_held n ws ++ (replicate z false ++ true ∷ [])) × IsClearFrom (n + z + 1) ws'
 unfolding digits_held IsClearFrom
-one_placed ws ws' n z within clear is =
-    let bits = word_bits ws in
-    let all = length-word_bits ws in (
-      ap (take (n + z + 1)) is ∙ prefix_set bits true false n z (omega arith) clear,
-      ap (drop (n + z + 1)) is ∙ behind_set bits true false n z clear ∙ ap (λ (xs : List Bool). replicate (length xs - (n + z + 1)) false) (sym is),
-    )
+one_placed ws ws' n z within clear is = search (rules, length-word_bits, prefix_set, behind_set)
 
 -- ---- how far the ones reach
 

@@ -1,5 +1,6 @@
 -- Planes that bring no new rank, and planes in one word that are written one after another.
-use Rattle.std.proofs.Common.{◌≡◌, ℕ, ◌+◌, ◌-◌, ◌*◌, ◌/◌, ◌^◌, ◌<◌, ◌≤◌, max, Bool, false, List, ◌++◌, length, map, take, drop, get_or, replicate, sym, ap, ◌∙◌, arith, lit<, pow_pos}
+use Rattle.std.proofs.Common.{rules}
+use Rattle.std.proofs.Common.{◌≡◌, ℕ, ◌+◌, ◌-◌, ◌/◌, ◌^◌, ◌<◌, ◌≤◌, max, Bool, List, ◌++◌, length, map, take, drop, get_or, arith}
 use Rattle.std.proofs.Math.Nat.{pow-le-pow_right}
 use Rattle.zf_bits.specs.Writer.{Writer}
 use Rattle.zf_spec.specs.Numbers.{field}
@@ -9,17 +10,13 @@ use Rattle.zf_spec.proofs.Fields.{length-field, field-add, field-zero}
 use Rattle.zf_spec.proofs.Reach.{reach-le}
 use Rattle.zf_planes.proofs.Placing.{reach_behind}
 use Rattle.zf_planes.specs.Writes.{Remains}
-use Rattle.zf_planes.proofs.Budgets.{Remains-same}
 use Rattle.zf_planes.proofs.Unpacking.{code_next}
 use Rattle.zf_planes.proofs.Doubled.{plane_whole, plane_without}
 
 -- no one from rank n on
 pub reach_below : (n size v : ℕ) → n ≤ size → v / 2 ^ n ≡ 0 → reach (field size v) ≤ n
 reach_below n size v order none =
-    let parts : n + (size - n) ≡ size = omega arith in
-    let digits : field size v ≡ field n v ++ replicate (size - n) false =
-    ap (λ k. field k v) (sym parts) ∙ field-add n (size - n) v ∙ ap (λ u. field n v ++ field (size - n) u) none ∙ ap (λ (bs : List Bool). field n v ++ bs) (field-zero (size - n)) in
-    omega (arith, ap reach digits ∙ reach_behind (field n v) (size - n), reach-le (field n v), length-field n v)
+    let parts : n + (size - n) ≡ size = omega arith in search (rules, field-add, field-zero, reach_behind, reach-le, length-field)
 
 pub whole_code : (n size v : ℕ) → n ≡ size → plane_code n (field size v) ≡ field size v
 whole_code n size v all = rw all (plane_whole size v)
@@ -28,18 +25,11 @@ pub plain_code : (n size v : ℕ) → n ≤ size → (n ≡ size → ⊥) → v 
 plain_code n size v within other none = plane_without size n v (omega arith) none
 
 pub plain_small : (n v : ℕ) → v / 2 ^ n ≡ 0 → v < 2 ^ (n + 1)
-plain_small n v none =
-    let order : n ≤ n + 1 = omega arith in
-    let parts : 2 ^ n * (v / 2 ^ n) ≡ 0 = ap (λ q. 2 ^ n * q) none ∙ omega arith in
-    omega (arith, none, parts, pow_pos n, pow-le-pow_right {n = 2} (lit< tt) order)
+plain_small n v none = search (rules, pow-le-pow_right)
 
 -- behind bits that are not written yet comes the next plane, of which the digits are at hand
 pub next_word : {A : Type 0} {old now : Writer} {budget left : ℕ} {whole : List Bool} (words : A → List ℕ) (above prec size i len bits digits : ℕ) (planes : List A) (plane : A)
     → Remains old now budget left whole (field len bits ++ code_from above (drop i (take prec (planes_held size (map words planes)))))
     → plane ≡ get_or planes (length planes - 1 - i) plane → i < prec → prec ≤ length planes → field size digits ≡ digits_held size (words plane)
     → Remains old now budget left whole (field len bits ++ (plane_code above (field size digits) ++ code_from (max above (reach (field size digits))) (drop (i + 1) (take prec (planes_held size (map words planes))))))
-next_word words above prec size i len bits digits planes plane remains is below within same =
-    let rest = drop (i + 1) (take prec (planes_held size (map words planes))) in
-    Remains-same remains
-    (ap (λ (bs : List Bool). field len bits ++ bs)
-    (code_next words above prec size i planes plane is below within ∙ sym (ap (λ (ds : List Bool). plane_code above ds ++ code_from (max above (reach ds)) rest) same)))
+next_word words above prec size i len bits digits planes plane remains is below within same = search (rules, code_next)

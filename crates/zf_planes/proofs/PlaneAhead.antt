@@ -1,9 +1,10 @@
 -- What the decoder makes of one plane: its first digits as they are, and then a tail.
-use Rattle.std.proofs.Common.{◌≡◌, ℕ, suc, zero, ◌+◌, ◌-◌, ◌<◌, ◌≤◌, ◌⊎◌, inl, inr, ⊎_elim, min, Bool, true, false, cond, List, [], ◌∷◌, ◌++◌, length, take, drop, replicate, refl, sym, ap, ◌∙◌, arith, take_at, drop_at, append-nil, take-append-drop}
+use Rattle.std.proofs.Common.{rules}
+use Rattle.std.proofs.Common.{◌≡◌, ℕ, suc, zero, ◌+◌, ◌-◌, ◌<◌, ◌≤◌, ◌⊎◌, inl, inr, ⊎_elim, min, Bool, true, false, List, [], ◌∷◌, ◌++◌, length, take, drop, replicate, refl, sym, ap, ◌∙◌, arith, drop_at, append-nil, take-append-drop}
 use Rattle.std.proofs.lemmas.Bool.{false≢true, cases_lt}
 use Rattle.std.proofs.lemmas.List.{length-take, take-take, length-drop, drop-take, drop_all, take-append-le}
 use Rattle.zf_spec.specs.Planes.{has_one, code_from_run, tail, plane_code}
-use Rattle.zf_spec.specs.Kept.{zeros, kept_run, kept_tail, cut_plane, kept_plane}
+use Rattle.zf_spec.specs.Kept.{kept_run, kept_tail, cut_plane, kept_plane}
 use Rattle.zf_spec.specs.ReadPlanes.{first_bits, tail_in, plane_in}
 use Rattle.zf_spec.proofs.Reach.{zeros_from_none}
 use Rattle.zf_spec.proofs.KeptCases.{kept_tail-zeros, kept_tail-one}
@@ -17,11 +18,7 @@ use Rattle.zf_planes.proofs.Lengths.{length-plane_code}
 
 kept_group_fits : (r : ℕ) (d : Bool) (ds : List Bool) → ((k : ℕ) → has_one (d ∷ ds) ≡ true → length (code_from_run (d ∷ ds)) ≤ k → kept_run k (d ∷ ds) ≡ d ∷ ds)
     → length (tail (d ∷ ds)) ≤ r → kept_tail r (d ∷ ds) ≡ d ∷ ds
-kept_group_fits r d ds run fits = by (has_one (d ∷ ds)) refl fits
-  where
-    by : (t : Bool) → has_one (d ∷ ds) ≡ t → length (cond t (true ∷ code_from_run (d ∷ ds)) (false ∷ [])) ≤ r → kept_tail r (d ∷ ds) ≡ d ∷ ds
-    by true one fits = kept_tail-one r (d ∷ ds) (omega arith) one ∙ run (r - 1) one (omega arith)
-    by false none fits = kept_tail-zeros r (d ∷ ds) none ∙ sym (zeros_from_none (d ∷ ds) none)
+kept_group_fits r d ds run fits = search (rules, kept_tail-one, kept_tail-zeros, zeros_from_none)
 
 kept_run_fits : (d : Bool) (ds : List Bool) (r : ℕ) → has_one (d ∷ ds) ≡ true → length (code_from_run (d ∷ ds)) ≤ r → kept_run r (d ∷ ds) ≡ d ∷ ds
 kept_run_fits true [] zero one fits = refl
@@ -46,11 +43,7 @@ kept_as_cut r n ds within = ⊎_elim (λ cut. kept_cut r n ds cut) fits (cases_l
         let q : min n r ≡ n = omega arith in
         let none : length (take n ds) ≤ n = omega (arith, length-take n ds) in
         kept_whole r n ds enough
-        ∙ sym (ap (λ k. take k ds ++ zeros (drop k (take n ds)) ++ kept_tail (r - k) (drop n ds)) q
-        ∙ ap (λ (es : List Bool). take n ds ++ zeros es ++ kept_tail (r - n) (drop n ds)) (drop_all n (take n ds) none)
-        ∙ ap (λ (es : List Bool). es ++ kept_tail (r - n) (drop n ds)) (append-nil (take n ds))
-        ∙ ap (λ (es : List Bool). take n ds ++ es) (kept_tail_fits (r - n) (drop n ds) (omega arith))
-        ∙ take-append-drop n ds)
+        ∙ sym (search (rules, drop_all, append-nil, kept_tail_fits, take-append-drop))
 
 -- ---- the first digits
 
@@ -80,10 +73,7 @@ first_bits-take (suc q) (suc r) (b ∷ s) low within = ap (λ ds. b ∷ ds) (fir
 -- as many of the first n bits as the budget has, and zeros
 prefix_padded : (r n : ℕ) (s : List Bool) → first_bits n (take r s) ≡ first_bits (min n r) (take r s) ++ replicate (n - min n r) false
 prefix_padded r n s = ⊎_elim
-    (λ (low : n ≤ r).
-    let q : min n r ≡ n = omega arith in
-    let none : n - n ≡ 0 = omega arith in
-    rw (q, none) (sym (append-nil (first_bits n (take r s)))))
+    (search (rules, append-nil))
     (λ (cut : r ≤ n).
     let q : min n r ≡ r = omega arith in
     let n' : n ≡ r + (n - r) = omega arith in
@@ -102,10 +92,7 @@ prefix_read r n s there = prefix_padded r n s ∙ ap (λ (ds : List Bool). ds ++
 -- the bits behind the first digits, as far as the budget has them
 behind : (r n : ℕ) (s : List Bool) → drop n (take r s) ≡ take (r - min n r) (drop (min n r) s)
 behind r n s = ⊎_elim
-    (λ (cut : r < n).
-    let q : min n r ≡ r = omega arith in
-    let none : r - r ≡ 0 = omega arith in
-    rw (q, none) (drop_all n (take r s) (omega (arith, length-take r s))))
+    (search (rules, drop_all, length-take))
     (λ (low : n ≤ r).
     let q : min n r ≡ n = omega arith in
     let r' : r ≡ n + (r - n) = omega arith in
@@ -120,30 +107,11 @@ tail_of_full r size n s =
 pub plane_ahead-is : (r size n : ℕ) (s : List Bool) → n ≤ size
     → plane_ahead r size n s ≡ first_bits n (take r s) ++ tail_ahead (r - min n r) (size - n) (drop (min n r) s)
 unfolding plane_ahead tail_ahead
-plane_ahead-is r size n s within =
-    let t = take r s in
-    let q = min n r in
-    let ds = plane_in size n t in
-    let prefix = take_at (first_bits n t) (tail_in (size - n) (drop n t)) n (length-first_bits n t) in
-    let padding : length (drop q (first_bits n t)) ≡ n - q = omega (arith, length-drop q (first_bits n t), length-first_bits n t) in
-    kept_as_cut r n ds (omega (arith, length-plane_in size n t within))
-    ∙ ap (λ (es : List Bool). take q ds ++ zeros (drop q es) ++ kept_tail (r - q) (drop n ds)) prefix
-    ∙ ap (λ (es : List Bool). es ++ zeros (drop q (first_bits n t)) ++ kept_tail (r - q) (drop n ds)) (begins q (omega arith))
-    ∙ ap (λ k. first_bits q t ++ replicate k false ++ kept_tail (r - q) (drop n ds)) padding
-    ∙ ap (λ (es : List Bool). es ++ kept_tail (r - q) (drop n ds)) (sym (prefix_padded r n s))
-    ∙ ap (λ (es : List Bool). first_bits n t ++ kept_tail (r - q) es) (tail_of_full r size n s)
-  where
-    begins : (q : ℕ) → q ≤ n → take q (plane_in size n (take r s)) ≡ first_bits q (take r s)
-    begins q low =
-        take-append-le q (first_bits n (take r s)) (tail_in (size - n) (drop n (take r s))) (omega (arith, length-first_bits n (take r s))) ∙ take-first_bits q n (take r s) low
+plane_ahead-is r size n s within = search (rules, length-first_bits, length-drop, kept_as_cut, length-plane_in, prefix_padded, tail_of_full, take-append-le, take-first_bits)
 
 pub plane_bits-is : (r size n : ℕ) (s : List Bool) → n ≤ size → plane_bits r size n s ≡ min n r + tail_bits (r - min n r) (size - n) (drop (min n r) s)
 unfolding plane_bits tail_bits
-plane_bits-is r size n s within =
-    let ds = plane_in size n (take r s) in
-    let long = length-plane_code n ds (omega (arith, length-plane_in size n (take r s) within)) in
-    let rest = ap (λ (es : List Bool). length (tail es)) (tail_of_full r size n s) in
-    omega (arith, long, rest)
+plane_bits-is r size n s within = search (rules, length-plane_code, length-plane_in, tail_of_full)
 
 -- ---- a plane whose code is there and in the budget is read whole
 
@@ -152,8 +120,4 @@ unfolding plane_bits plane_ahead
 whole_plane left n len ds s within code there fits =
     let prefix = take left s in
     let split : plane_code n ds ++ drop len prefix ≡ prefix =
-    ap (λ (bs : List Bool). bs ++ drop len prefix) (code ∙ sym (take-take len left s fits)) ∙ take-append-drop len prefix in
-    let begins = begins_itself (plane_code n ds) (drop len prefix) in
-    let same : ds ≡ plane_in (length ds) n prefix = full_plane_only n ds prefix within (rw split at begins) in
-    let long : length (plane_code n ds) ≡ len = ap length code ∙ omega (arith, length-take len s) in
-    rw (← same) (omega (arith, long), kept_whole left n ds (omega (arith, long)))
+    ap (λ (bs : List Bool). bs ++ drop len prefix) (code ∙ sym (take-take len left s fits)) ∙ take-append-drop len prefix in search (rules, begins_itself, full_plane_only, length-take, kept_whole)

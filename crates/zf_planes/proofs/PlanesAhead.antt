@@ -1,10 +1,11 @@
 -- What the decoder makes of planes: one plane, and then those below.
+use Rattle.std.proofs.Common.{rules}
 use Rattle.std.proofs.Common.{◌≡◌, ℕ, zero, suc, ◌⊎◌, ◌++◌, ◌+◌, ◌-◌, ◌<◌, ◌≤◌, ⊎_elim, min, max, Bool, false, List, [], ◌∷◌, length, take, drop, replicate, refl, sym, ap, subst, ◌∙◌, arith}
 use Rattle.std.proofs.lemmas.Bool.{cases_lt}
 use Rattle.std.proofs.lemmas.List.{length-append, length-replicate, length-take, length-drop, drop-take, drop-drop, take-take, take_at, drop_at}
 use Rattle.std.proofs.lemmas.List.Elements.{All-head, All-tail}
 use Rattle.zf_spec.specs.Planes.{reach, reach_of_all, plane_code, code_from, AreOfSize}
-use Rattle.zf_spec.specs.Kept.{kept_plane, kept_planes_from}
+use Rattle.zf_spec.specs.Kept.{kept_plane}
 use Rattle.zf_spec.specs.ReadPlanes.{plane_in, planes_in_from}
 use Rattle.zf_spec.proofs.Reach.{reach_within, reach_none, has_one-zeros}
 use Rattle.zf_spec.proofs.KeptSame.{kept_whole, kept_planes_from-none}
@@ -33,18 +34,12 @@ planes_bits-spent r p size n s spent = omega arith
 
 -- so nothing is read where no bit or no plane is left
 pub planes_over : (r p size n : ℕ) (s : List Bool) → 1 ≤ size → n ≤ size → (r ≡ 0) ⊎ (p ≡ 0) → (planes_bits r p size n s ≡ 0) × (planes_ahead r p size n s ≡ replicate p (replicate size false))
-planes_over r p size n s some within = ⊎_elim
-    (λ (spent : r ≡ 0). (planes_bits-spent r p size n s spent, planes_ahead-spent r p size n s some within spent))
-    (λ (none : p ≡ 0). rw none (planes_bits-none r size n s, planes_ahead-none r size n s))
+planes_over r p size n s some within = search (rules, planes_bits-spent, planes_ahead-spent, planes_bits-none, planes_ahead-none)
 
 -- a plane takes no more than it takes with those below
 pub plane_bits-le : (r p size n : ℕ) (s : List Bool) → plane_bits r size n s ≤ planes_bits r (suc p) size n s
 unfolding plane_bits planes_bits
-plane_bits-le r p size n s =
-    let ds = plane_in size n (take r s) in
-    let above = max n (reach ds) in
-    let below = planes_in_from p size above (drop (length (plane_code n ds)) (take r s)) in
-    omega (arith, length-append (plane_code n ds) (code_from above below))
+plane_bits-le r p size n s = search (rules, length-append)
 
 -- a plane, and the planes below it, which know the ranks that have had a one from what was read
 pub record NextPlane (r p size n : ℕ) (s ds : List Bool) (count : ℕ) : Type 0 where
@@ -58,41 +53,13 @@ next_whole r p size n s within fits =
     let ds = plane_in size n (take r s) in
     let count = length (plane_code n ds) in
     let above = max n (reach ds) in
-    let r' : r ≡ count + (r - count) = omega arith in
-    let rest : drop count (take r s) ≡ take (r - count) (drop count s) = ap (λ k. drop count (take k s)) r' ∙ drop-take count (r - count) s in
-    let below = planes_in_from p size above (drop count (take r s)) in
-    let long = length-append (plane_code n ds) (code_from above below) in
-    let same = ap (λ (t : List Bool). length (code_from above (planes_in_from p size above t))) rest in
-    record {
-      bits = omega (arith, long, same);
-      digits =
-          ap (λ (es : List Bool). es ∷ kept_planes_from (r - count) above below) (kept_whole r n ds fits)
-          ∙ ap (λ (t : List Bool). ds ∷ kept_planes_from (r - count) above (planes_in_from p size above t)) rest;
-    }
+    let r' : r ≡ count + (r - count) = omega arith in search (rules, drop-take, length-append, kept_whole)
 
 next_cut : (r p size n : ℕ) (s : List Bool) → 1 ≤ size → n ≤ size → r < length (plane_code n (plane_in size n (take r s))) → length (plane_ahead r size n s) ≡ size
     → NextPlane r p size n s (plane_ahead r size n s) r
 unfolding planes_bits planes_ahead plane_ahead
 next_cut r p size n s some within cut long =
-    let ds = plane_in size n (take r s) in
-    let count = length (plane_code n ds) in
-    let kept_digits = kept_plane r n ds in
-    let above = max n (reach ds) in
-    let below = planes_in_from p size above (drop count (take r s)) in
-    let none : r - count ≡ 0 = omega arith in
-    let spent : r - r ≡ 0 = omega arith in
-    let wide_above = reach_within size n ds within (length-plane_in size n (take r s) within) in
-    let zeros =
-    ap (λ k. kept_planes_from k above below) none
-    ∙ kept_planes_from-none size above below some (planes_in_from-length p size above (drop count (take r s)) wide_above)
-    ∙ ap (λ k. replicate k (replicate size false)) (length-planes_in_from p size above (drop count (take r s))) in
-    let above' = max n (reach kept_digits) in
-    let below_bits = planes_bits-spent (r - r) p size above' (drop r s) spent in
-    let code_long = length-append (plane_code n ds) (code_from above below) in
-    record {
-      bits = omega (arith, code_long, below_bits);
-      digits = ap (λ (ps : List (List Bool)). kept_digits ∷ ps) (zeros ∙ sym (planes_ahead-spent (r - r) p size above' (drop r s) some (reach_within size n kept_digits within long) spent));
-    }
+    search (rules, reach_within, length-plane_in, kept_planes_from-none, planes_in_from-length, length-planes_in_from, planes_bits-spent, length-append, planes_ahead-spent)
 
 pub next_plane : (r p size n : ℕ) (s : List Bool) → 1 ≤ size → n ≤ size → length (plane_ahead r size n s) ≡ size
     → NextPlane r p size n s (plane_ahead r size n s) (plane_bits r size n s)
@@ -132,20 +99,12 @@ zero_plane r p size s t some left e =
 
 pub zero_planes : (k r p size : ℕ) (s t : List Bool) → 1 ≤ size → k ≤ r → k ≤ p → s ≡ replicate k false ++ t
     → (planes_bits r p size 0 s ≡ k + planes_bits (r - k) (p - k) size 0 t) × (planes_ahead r p size 0 s ≡ replicate k (replicate size false) ++ planes_ahead (r - k) (p - k) size 0 t)
-zero_planes zero r p size s t some within below e =
-    let all : r - 0 ≡ r = omega arith in
-    let top : p - 0 ≡ p = omega arith in
-    rw (e, all, top) (omega arith, refl)
+zero_planes zero r p size s t some within below e = search rules
 zero_planes (suc k) r zero size s t some within below e = absurd (omega arith)
 zero_planes (suc k) r (suc p) size s t some within below e =
     let zeros = replicate size false in
     let one = zero_plane r p size s (replicate k false ++ t) some (omega arith) e in
-    let more = zero_planes k (r - 1) p size (replicate k false ++ t) t some (omega arith) (omega arith) refl in
-    let less : r - 1 - k ≡ r - suc k = omega arith in
-    let fewer : suc p - suc k ≡ p - k = omega arith in
-    let bits = rw less at more.0 in
-    let digits = rw less at more.1 in
-    rw fewer (omega (arith, one.0, bits), one.1 ∙ ap (λ (ps : List (List Bool)). zeros ∷ ps) digits)
+    let more = zero_planes k (r - 1) p size (replicate k false ++ t) t some (omega arith) (omega arith) refl in search rules
 
 -- ---- planes whose code is there and in the budget are read whole
 
@@ -157,11 +116,7 @@ pub record NextPlanes (r p size n : ℕ) (s : List Bool) (planes : List (List Bo
 pub whole_planes : (planes : List (List Bool)) (r p size n len : ℕ) (s : List Bool) → 1 ≤ size → n ≤ size → AreOfSize size planes → code_from n planes ≡ take len s → len ≤ length s → len ≤ r → length planes ≤ p
     → NextPlanes r p size n s planes len
 whole_planes [] r p size n len s some within sizes code there fits few =
-    let none : len ≡ 0 = omega (arith, ap length code, length-take len s) in
-    let all : r - 0 ≡ r = omega arith in
-    let every : p - 0 ≡ p = omega arith in
-    let reached : max n 0 ≡ n = omega arith in
-    rw none (record { bits = rw (all, every, reached) (omega arith); digits = rw (all, every, reached) refl })
+    let none : len ≡ 0 = omega (arith, ap length code, length-take len s) in search rules
 whole_planes (ds ∷ planes) r zero size n len s some within sizes code there fits few = absurd (omega arith)
 whole_planes (ds ∷ planes) r (suc p) size n len s some within sizes code there fits few =
     let first = plane_code n ds in
@@ -185,8 +140,4 @@ whole_planes (ds ∷ planes) r (suc p) size n len s some within sizes code there
     let reached : max above (reach_of_all planes) ≡ max n (max (reach ds) (reach_of_all planes)) = omega arith in
     let fewer : suc p - suc (length planes) ≡ p - length planes = omega arith in
     let rest_bits = rw (spent, place, reached) at rest.bits in
-    let rest_digits = rw (spent, place, reached) at rest.digits in
-    record {
-      bits = rw fewer (omega (arith, next_bits, rest_bits));
-      digits = rw fewer (next_digits ∙ ap (λ (ps : List (List Bool)). ds ∷ ps) rest_digits);
-    }
+    let rest_digits = rw (spent, place, reached) at rest.digits in search rules

@@ -1,5 +1,6 @@
 -- Planes that are read from the greatest on, one after another.
-use Rattle.std.proofs.Common.{◌≡◌, ℕ, suc, ◌+◌, ◌-◌, ◌*◌, ◌<◌, ◌≤◌, ◌⊎◌, max, Bool, false, List, [], ◌∷◌, ◌++◌, length, map, take, drop, set, replicate, refl, sym, ap, ◌∙◌, subst, arith}
+use Rattle.std.proofs.Common.{rules}
+use Rattle.std.proofs.Common.{◌≡◌, ℕ, suc, ◌+◌, ◌-◌, ◌*◌, ◌<◌, ◌≤◌, ◌⊎◌, max, Bool, false, List, ◌∷◌, ◌++◌, length, map, take, drop, set, replicate, refl, sym, ap, ◌∙◌, subst, arith}
 use Rattle.std.specs.List.{All}
 use Rattle.std.proofs.lemmas.List.{length-map, length-replicate, take-replicate, drop-replicate, append_assoc, take-append-drop, replicate-append-replicate}
 use Rattle.std.proofs.lemmas.List.Elements.{All-set, All-replicate}
@@ -13,7 +14,7 @@ use Rattle.zf_spec.proofs.Reach.{reach-le}
 use Rattle.zf_bits.specs.Reader.{Reader, rest}
 use Rattle.zf_planes.specs.Decoding.{IsWindow, Takes, Lacks, ReadsPlane, plane_ahead, plane_bits, planes_ahead, planes_bits, coded, coded_bits, IsSpent, ReadsTop}
 use Rattle.zf_planes.specs.WordPlanes.{IsReadAs}
-use Rattle.zf_planes.proofs.Passing.{Passes, Passes-start, Passes-part, Passes-end, Passes-lacks, Takes-rest}
+use Rattle.zf_planes.proofs.Passing.{Passes, Passes-start, Passes-part, Passes-lacks, Takes-rest}
 use Rattle.zf_planes.proofs.Peeking.{window_prefix, window_long}
 use Rattle.zf_planes.proofs.Placing.{clear_zeros}
 use Rattle.zf_planes.proofs.PlaneAhead.{whole_plane}
@@ -42,10 +43,7 @@ AreRead-start {start} {now} {budget} {after} {k} prec size n count planes some w
     let first = rw (← spent) at (zero_planes k budget prec size (rest start) (rest now) some (omega (arith, taken.spent)) within zeros) in
     record {
       passes = Passes-part _ (Passes-start start budget _) first.0 taken;
-      digits =
-          first.1
-          ∙ ap (λ (ps : List (List Bool)). ps ++ planes_ahead after (prec - k) size 0 (rest now))
-          (sym (ap (take k) held ∙ take-replicate k n none (omega arith)));
+      digits = search (rules, take-replicate);
       back = ap (drop k) held ∙ drop-replicate k n none ∙ ap (λ m. replicate (m - k) none) (sym long);
       clear = rw is (All-replicate (IsClearFrom size) n blank (clear_zeros size count));
       ranks = omega arith;
@@ -55,21 +53,14 @@ AreRead-start {start} {now} {budget} {after} {k} prec size n count planes some w
 -- the same, of ranks that are as many
 pub AreRead-ranks : {start now : Reader} {budget left prec size above i : ℕ} {planes : List (List ℕ)} (above' : ℕ) → above ≡ above' → AreRead start now budget left prec size above i planes
     → AreRead start now budget left prec size above' i planes
-AreRead-ranks {start} {now} {budget} {left} {prec} {size} {above} {i} {planes} above' same read =
-    let Read : ℕ → Type 0 = λ n. AreRead start now budget left prec size n i planes in
-    subst Read same read
+AreRead-ranks {start} {now} {budget} {left} {prec} {size} {above} {i} {planes} above' same read = search rules
 
 -- ---- one plane more
 
 -- the digits of a plane are put in behind those before it
 pub one_more : {A : Type 0} (words : A → List ℕ) (size i : ℕ) (planes : List A) (plane : A) (below : List (List Bool)) → i < length (map words planes)
     → take i (planes_held size (map words planes)) ++ (digits_held size (words plane) ∷ below) ≡ take (i + 1) (planes_held size (map words (set planes (length planes - 1 - i) plane))) ++ below
-one_more words size i planes plane below within =
-    let all = map words planes in
-    let held = planes_held size all in
-    let ds = digits_held size (words plane) in
-    sym (append_assoc (take i held) (ds ∷ []) below)
-    ∙ ap (λ (ps : List (List Bool)). ps ++ below) (sym (ap (λ (ps : List (List ℕ)). take (i + 1) (planes_held size ps)) (set_words words planes i plane) ∙ top_more size all i (words plane) within))
+one_more words size i planes plane below within = search (rules, append_assoc, set_words, top_more)
 
 -- what is read of a plane and of the planes below it
 record NextRead (now new : Reader) (left after prec i size above above' : ℕ) (ds : List Bool) : Type 0 where
@@ -123,25 +114,11 @@ AreRead-lacks {start} {now} {new} {budget} {left} {prec} {size} {above} {i} read
 -- the planes that are not read are zero
 all_planes : (i prec n size : ℕ) (held whole rest_ahead : List (List Bool)) → i ≤ prec → prec ≤ n → drop i held ≡ replicate (n - i) (replicate size false)
     → whole ≡ take i held ++ rest_ahead → rest_ahead ≡ replicate (prec - i) (replicate size false) → held ≡ whole ++ replicate (n - prec) (replicate size false)
-all_planes i prec n size held whole rest_ahead within enough back is none =
-    let zeros = replicate size false in
-    let parts : n - i ≡ prec - i + (n - prec) = omega arith in
-    sym (take-append-drop i held)
-    ∙ ap (λ (ps : List (List Bool)). take i held ++ ps)
-    (back ∙ ap (λ k. replicate k zeros) parts ∙ sym (replicate-append-replicate (prec - i) (n - prec) zeros) ∙ ap (λ (ps : List (List Bool)). ps ++ replicate (n - prec) zeros) (sym none))
-    ∙ sym (append_assoc (take i held) rest_ahead (replicate (n - prec) zeros))
-    ∙ ap (λ (ps : List (List Bool)). ps ++ replicate (n - prec) zeros) (sym is)
+all_planes i prec n size held whole rest_ahead within enough back is none = search (rules, take-append-drop, replicate-append-replicate, append_assoc)
 
 pub AreRead-over : {start now : Reader} {budget left prec size above i : ℕ} (planes : List (List ℕ)) → AreRead start now budget left prec size above i planes
     → 1 ≤ size → prec ≤ length planes → (left ≡ 0) ⊎ (prec - i ≡ 0) → ReadsTop budget prec size (rest start) planes left
-AreRead-over {start} {now} {budget} {left} {prec} {size} {above} {i} planes read some enough none =
-    let over = planes_over left (prec - i) size above (rest now) some read.ranks none in
-    let taken = Passes-end read.passes over.0 in
-    record {
-      bits = record { enough = taken.enough; spent = taken.spent };
-      digits = all_planes i prec (length planes) size (planes_held size planes) _ _ read.within enough read.back read.digits over.1;
-      clear = read.clear;
-    }
+AreRead-over {start} {now} {budget} {left} {prec} {size} {above} {i} planes read some enough none = search (rules, planes_over, all_planes)
 
 -- ---- a plane that is known by the bits in sight
 
@@ -161,11 +138,7 @@ pub next_known : (r p size n bits count digits len above : ℕ) (s : List Bool) 
     → NextKnown r p size n above len s (field size digits)
 next_known r p size n bits count digits len above s some within window read few =
     let known = known_plane r size n bits count digits len above s within window read few in
-    let next = next_plane r p size n s some within (ap length known.1 ∙ length-field size digits) in
-    record {
-      bits = rw (known.0, known.1, ← read.reached) at next.bits;
-      digits = rw (known.0, known.1, ← read.reached) at next.digits;
-    }
+    let next = next_plane r p size n s some within (ap length known.1 ∙ length-field size digits) in search rules
 
 -- ---- of a whole code
 

@@ -1,4 +1,5 @@
 -- A plane's tail n digits into it, as a group bit and a run.
+use Rattle.std.proofs.Common.{rules}
 use Rattle.std.proofs.Common.{◌≡◌, ℕ, suc, zero, ◌+◌, ◌-◌, ◌<◌, ◌≤◌, min, Bool, true, false, cond, List, [], ◌∷◌, ◌++◌, length, take, drop, replicate, refl, sym, ap, ◌∙◌, arith, length-append}
 use Rattle.std.proofs.lemmas.List.{length-replicate, length-drop, drop-drop, append-nil, take_at, append_assoc}
 use Rattle.zf_spec.specs.Planes.{has_one, reach, code_from_run, tail}
@@ -67,10 +68,7 @@ tail_some (d ∷ ds) some = elim (has_one (d ∷ ds)) as (λ b. 0 < length (cond
 -- the digits of a run that are written, those up to and with its one but for that of the last rank, and the tail behind them
 run_digits : (j k : ℕ) (rest : List Bool) → k ≡ min (j + 1) (length (replicate j false ++ true ∷ rest) - 1)
     → tail (replicate j false ++ true ∷ rest) ≡ true ∷ (take k (replicate j false ++ true ∷ rest) ++ tail rest)
-run_digits j k [] e =
-    let all : k ≡ j = omega (arith, length-append (replicate j false) (true ∷ []), length-replicate j false) in
-    tail-last j
-    ∙ ap (λ (xs : List Bool). true ∷ xs) (sym (rw all (append-nil (take j (replicate j false ++ true ∷ [])) ∙ take_at (replicate j false) (true ∷ []) j (length-replicate j false))))
+run_digits j k [] e = search (rules, length-append, length-replicate, tail-last, append-nil, take_at)
 run_digits j k (d ∷ rest) e =
     let zeros = replicate j false in
     let all : k ≡ j + 1 = omega (arith, length-append zeros (true ∷ d ∷ rest), length-replicate j false) in
@@ -82,10 +80,4 @@ run_digits j k (d ∷ rest) e =
 -- the tail n digits into a plane: its run ends before m
 pub tail_run_at : (ds : List Bool) (n j m : ℕ) → j < length (drop n ds) → drop n ds ≡ replicate j false ++ true ∷ drop (j + 1) (drop n ds) → m ≡ min (n + j + 1) (length ds - 1)
     → tail (drop n ds) ≡ true ∷ (take (m - n) (drop n ds) ++ tail (drop (n + j + 1) ds))
-tail_run_at ds n j m within split e =
-    let rest = drop (j + 1) (drop n ds) in
-    let long = length-drop n ds in
-    let split_long = ap length split in
-    let place : n + j + 1 ≡ n + (j + 1) = omega arith in
-    let run = run_digits j (m - n) rest (omega arith) in
-    rw (place, ← drop-drop (j + 1) n ds) (rw (← split) at run)
+tail_run_at ds n j m within split e = search (rules, length-drop, run_digits, drop-drop)

@@ -1,5 +1,6 @@
 -- One step of reading a tail: at its group bit, or at a bit of a run.
-use Rattle.std.proofs.Common.{◌≡◌, ℕ, suc, zero, ◌-◌, ◌<◌, ◌≤◌, ◌⊎◌, ⊎_elim, Bool, true, false, List, [], ◌∷◌, length, take, replicate, refl, sym, ap, ◌∙◌, arith}
+use Rattle.std.proofs.Common.{rules}
+use Rattle.std.proofs.Common.{◌≡◌, ℕ, suc, zero, ◌-◌, ◌<◌, ◌≤◌, ◌⊎◌, Bool, true, false, List, [], ◌∷◌, length, take, replicate, refl, ap, ◌∙◌, arith}
 use Rattle.std.proofs.lemmas.List.{length-replicate}
 use Rattle.zf_spec.specs.Planes.{tail}
 use Rattle.zf_spec.specs.Kept.{kept_run, kept_tail}
@@ -46,17 +47,11 @@ tail_bits-end r m s = let one = ap length (tail-zeros m) in omega arith
 -- a group bit of one leads to a run
 tail_ahead-run : (r m : ℕ) (s : List Bool) → tail_ahead (suc r) (suc m) (true ∷ s) ≡ run_ahead r (suc m) s
 unfolding tail_ahead run_ahead
-tail_ahead-run r m s =
-    let ds = run_in (suc m) (take r s) in
-    let less : suc r - 1 ≡ r = omega arith in
-    kept_tail-one (suc r) ds (omega arith) (full_run_begins m (take r s)).0 ∙ ap (λ k. kept_run k ds) less
+tail_ahead-run r m s = search (rules, kept_tail-one, full_run_begins)
 
 tail_bits-run : (r m : ℕ) (s : List Bool) → tail_bits (suc r) (suc m) (true ∷ s) ≡ suc (run_bits r (suc m) s)
 unfolding tail_bits run_bits
-tail_bits-run r m s =
-    let ds = run_in (suc m) (take r s) in
-    let more = ap length (tail-some ds (full_run_begins m (take r s)).0) in
-    omega arith
+tail_bits-run r m s = search (rules, tail-some, full_run_begins)
 
 -- a group bit that is not there is needed
 tail_bits-short : (r m : ℕ) → 1 ≤ tail_bits (suc r) (suc m) []
@@ -100,10 +95,7 @@ run_ahead-zero r m s = kept_run-false r (run_in (suc m) (take r s)) (omega (arit
 
 run_bits-zero : (r m : ℕ) (s : List Bool) → run_bits (suc r) (suc (suc m)) (false ∷ s) ≡ suc (run_bits r (suc m) s)
 unfolding run_bits
-run_bits-zero r m s =
-    let ds = run_in (suc m) (take r s) in
-    let more = ap length (code_from_run-false ds (omega (arith, length-run_in (suc m) (take r s)))) in
-    omega arith
+run_bits-zero r m s = search (rules, code_from_run-false, length-run_in)
 
 -- the one
 run_ahead-one : (r m : ℕ) (s : List Bool) → run_ahead (suc r) (suc (suc m)) (true ∷ s) ≡ true ∷ tail_ahead r (suc m) s
@@ -112,26 +104,18 @@ run_ahead-one r m s = kept_run-true r (tail_in (suc m) (take r s)) (omega (arith
 
 run_bits-one : (r m : ℕ) (s : List Bool) → run_bits (suc r) (suc (suc m)) (true ∷ s) ≡ suc (tail_bits r (suc m) s)
 unfolding run_bits tail_bits
-run_bits-one r m s =
-    let ds = tail_in (suc m) (take r s) in
-    let more = ap length (code_from_run-true ds (omega (arith, length-tail_in (suc m) (take r s)))) in
-    omega arith
+run_bits-one r m s = search (rules, code_from_run-true, length-tail_in)
 
 -- a bit that is not there is needed
 run_bits-short : (r m : ℕ) → 1 ≤ run_bits (suc r) (suc (suc m)) []
 unfolding run_bits
-run_bits-short r m =
-    let ds = run_in (suc m) [] in
-    let more = ap length (code_from_run-false ds (omega (arith, length-run_in (suc m) []))) in
-    omega arith
+run_bits-short r m = search (rules, code_from_run-false, length-run_in)
 
 -- ---- the same steps with what is left by any name: how many bits, and what they make
 
 -- nothing is read where no bit or no digit is left
 pub tail_over : (left m : ℕ) (s : List Bool) → (left ≡ 0) ⊎ (m ≡ 0) → (tail_bits left m s ≡ 0) × (tail_ahead left m s ≡ replicate m false)
-tail_over left m s = ⊎_elim
-    (λ (spent : left ≡ 0). rw spent (tail_bits-spent m s, tail_ahead-spent m s))
-    (λ (none : m ≡ 0). rw none (tail_bits-none left s, tail_ahead-none left s))
+tail_over left m s = search (rules, tail_bits-spent, tail_ahead-spent, tail_bits-none, tail_ahead-none)
 
 pub tail_end : (left m : ℕ) (s t : List Bool) → 0 < left → 0 < m → s ≡ false ∷ t → (tail_bits left m s ≡ 1) × (tail_ahead left m s ≡ replicate m false)
 tail_end zero m s t some digit e = absurd (omega arith)
@@ -152,31 +136,19 @@ tail_short (suc r) (suc m) s some digit e = rw e (tail_bits-short r m)
 pub run_stands : (left m : ℕ) (s : List Bool) → 0 < m → (left ≡ 0) ⊎ (m ≡ 1) → (run_bits left m s ≡ tail_bits left (m - 1) s) × (run_ahead left m s ≡ true ∷ tail_ahead left (m - 1) s)
 run_stands left zero s digit here = absurd (omega arith)
 run_stands left (suc m) s digit here =
-    let less : suc m - 1 ≡ m = omega arith in
-    rw less (⊎_elim
-    (λ (spent : left ≡ 0). rw spent (run_bits-spent (suc m) s ∙ sym (tail_bits-spent m s), run_ahead-spent m s ∙ ap (λ (ds : List Bool). true ∷ ds) (sym (tail_ahead-spent m s))))
-    (λ (last : suc m ≡ 1).
-    let none : m ≡ 0 = omega arith in
-    rw none (run_bits-last left s ∙ sym (tail_bits-none left s), run_ahead-last left s ∙ ap (λ (ds : List Bool). true ∷ ds) (sym (tail_ahead-none left s))))
-    here)
+    search (rules, run_bits-spent, tail_bits-spent, run_ahead-spent, tail_ahead-spent, run_bits-last, tail_bits-none, run_ahead-last, tail_ahead-none)
 
 pub run_one : (left m : ℕ) (s t : List Bool) → 0 < left → 1 < m → s ≡ true ∷ t → (run_bits left m s ≡ suc (tail_bits (left - 1) (m - 1) t)) × (run_ahead left m s ≡ true ∷ tail_ahead (left - 1) (m - 1) t)
 run_one zero m s t some digits e = absurd (omega arith)
 run_one (suc r) zero s t some digits e = absurd (omega arith)
 run_one (suc r) (suc zero) s t some digits e = absurd (omega arith)
-run_one (suc r) (suc (suc m)) s t some digits e =
-    let less : suc r - 1 ≡ r = omega arith in
-    let fewer : suc (suc m) - 1 ≡ suc m = omega arith in
-    rw (e, less, fewer) (run_bits-one r m t, run_ahead-one r m t)
+run_one (suc r) (suc (suc m)) s t some digits e = search (rules, run_bits-one, run_ahead-one)
 
 pub run_zero : (left m : ℕ) (s t : List Bool) → 0 < left → 1 < m → s ≡ false ∷ t → (run_bits left m s ≡ suc (run_bits (left - 1) (m - 1) t)) × (run_ahead left m s ≡ false ∷ run_ahead (left - 1) (m - 1) t)
 run_zero zero m s t some digits e = absurd (omega arith)
 run_zero (suc r) zero s t some digits e = absurd (omega arith)
 run_zero (suc r) (suc zero) s t some digits e = absurd (omega arith)
-run_zero (suc r) (suc (suc m)) s t some digits e =
-    let less : suc r - 1 ≡ r = omega arith in
-    let fewer : suc (suc m) - 1 ≡ suc m = omega arith in
-    rw (e, less, fewer) (run_bits-zero r m t, run_ahead-zero r m t)
+run_zero (suc r) (suc (suc m)) s t some digits e = search (rules, run_bits-zero, run_ahead-zero)
 
 pub run_short : (left m : ℕ) (s : List Bool) → 0 < left → 1 < m → s ≡ [] → 1 ≤ run_bits left m s
 run_short zero m s some digits e = absurd (omega arith)

@@ -1,5 +1,6 @@
 -- Strings: planes of four digits in one number, and their code.
-use Rattle.std.proofs.Common.{◌≡◌, ℕ, zero, suc, ◌+◌, ◌-◌, ◌*◌, ◌/◌, ◌%◌, ◌<◌, ◌≤◌, max, Bool, List, [], ◌∷◌, ◌++◌, length, append_assoc, take, ⊎_elim, refl, sym, ap, ◌∙◌, arith}
+use Rattle.std.proofs.Common.{rules}
+use Rattle.std.proofs.Common.{◌≡◌, ℕ, zero, suc, ◌+◌, ◌-◌, ◌*◌, ◌/◌, ◌%◌, ◌<◌, ◌≤◌, max, Bool, List, [], ◌∷◌, ◌++◌, length, append_assoc, take, refl, sym, ap, ◌∙◌, arith}
 use Rattle.std.proofs.lemmas.Bool.{cases_lt}
 use Rattle.zf_spec.specs.Numbers.{field}
 use Rattle.std.proofs.lemmas.List.Elements.{All-nil, All-cons}
@@ -10,7 +11,6 @@ use Rattle.zf_bits.specs.Writer.{Writer}
 use Rattle.zf_planes.specs.Fours.{string_planes, IsAsGood}
 use Rattle.zf_planes.proofs.Doubled.{plane_whole}
 use Rattle.zf_planes.specs.Writes.{Remains}
-use Rattle.zf_planes.proofs.Budgets.{Remains-same}
 use Rattle.zf_planes.proofs.LastRank.{code_of_three, code_as_good}
 
 -- ---- the code of planes goes on behind bits that were put together
@@ -33,17 +33,7 @@ GoesOn-more {n} {m} {k} {planes} {rest} {last} {prefix} {back} both first second
 pub plane_of_string : (n k string next : ℕ) (bits : List Bool) → bits ≡ plane_code n (field 4 (string % 16)) → next ≡ max n (reach (field 4 (string % 16)))
     → GoesOn n (string_planes (suc k) string) bits next (string_planes k (string / 16))
 unfolding string_planes
-plane_of_string n k string next bits is reached =
-    let low : field 4 (string % 16) ≡ field 4 string = field-mod 4 string in
-    let far : next ≡ max n (reach (field 4 string)) = reached ∙ ap (λ (ds : List Bool). max n (reach ds)) low in
-    let rest = string_planes k (string / 16) in
-    record {
-      code =
-          ap (λ m. plane_code n (field 4 string) ++ code_from m rest) (sym far)
-          ∙ ap (λ (ds : List Bool). plane_code n ds ++ code_from next rest) (sym low)
-          ∙ ap (λ (bs : List Bool). bs ++ code_from next rest) (sym is);
-      reached = omega (arith, far);
-    }
+plane_of_string n k string next bits is reached = grind (arith, field-mod)
 
 -- by two
 pub pair_of_string : (n k string next : ℕ) (bits : List Bool) → 1 < k
@@ -121,18 +111,9 @@ reach_of_string-le (suc k) string = omega (arith, reach-le (field 4 string), len
 
 -- where no bit is left of the budget, no matter what is still to come
 pub Remains-none : {old now : Writer} {budget left : ℕ} {whole : List Bool} (rest rest' : List Bool) → left ≡ 0 → Remains old now budget left whole rest → Remains old now budget left whole rest'
-Remains-none {old} {now} {budget} {left} {whole} rest rest' none remains = record {
-  bits = ap (λ k. now.bits ++ take k rest') none ∙ sym (ap (λ k. now.bits ++ take k rest) none) ∙ remains.bits;
-  spent = omega (arith, remains.spent);
-  fits = omega arith;
-  room = omega (arith, remains.room);
-  within = remains.within;
-}
+Remains-none {old} {now} {budget} {left} {whole} rest rest' none remains = search rules
 
 -- how far the ones reach above counts only while bits are left
 pub Remains-above : {old now : Writer} {budget left : ℕ} {whole : List Bool} (m n : ℕ) (planes : List (List Bool)) → (0 < left → IsAsGood m n) → m ≤ 4 → n ≤ 4 → AreOfSize 4 planes
     → Remains old now budget left whole (code_from n planes) → Remains old now budget left whole (code_from m planes)
-Remains-above {old} {now} {budget} {left} {whole} m n planes same high high' sizes remains = ⊎_elim
-    (λ (some : 0 < left). Remains-same remains (sym (code_as_good m n planes (same some) high high' sizes)))
-    (λ (none : left ≤ 0). Remains-none (code_from n planes) (code_from m planes) (omega arith) remains)
-    (cases_lt 0 left)
+Remains-above {old} {now} {budget} {left} {whole} m n planes same high high' sizes remains = search (rules, code_as_good, Remains-none, cases_lt)

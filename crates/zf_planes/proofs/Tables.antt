@@ -1,4 +1,5 @@
 -- Tables of planes of four digits, each entry of which is what the definitions say, by computation.
+use Rattle.std.proofs.Common.{rules}
 use Rattle.std.proofs.Common.{◌≡◌, ℕ, zero, suc, ◌+◌, ◌-◌, ◌*◌, ◌/◌, ◌%◌, ◌^◌, ◌<◌, ◌≤◌, ⊎_elim, min, max, Bool, true, false, ◌&&◌, eqb, ltb, List, [], ◌∷◌, ◌++◌, get_or, refl, sym, ap, subst, ◌∙◌, arith}
 use Rattle.std.proofs.lemmas.Bool.{cases_lt, false≢true, and_parts, eqb-true, ltb-true}
 use Rattle.zf_spec.specs.Numbers.{field}
@@ -74,19 +75,7 @@ code_of_entry n digits e in_plane four is =
     ∙ ap (λ k. test_code (i / 16) k e) (sym low)
     ∙ ap (test_code (i / 16) (i % 16)) (is ∙ ap (λ k. get_or PAIRS k 0) place)
     ∙ each_below-true (λ j. test_code (j / 16) (j % 16) (get_or PAIRS (256 * (j / 16) + j % 16) 0)) 48 i test_codes (omega arith) in
-    let one = and_parts (same_digits (field (len_of_first e) (e % 16384)) (plane_code n (field 4 digits))) _ test in
-    let two = and_parts (ltb (e % 16384) (2 ^ len_of_first e)) _ one.1 in
-    let three = and_parts (ltb (min (e / 262144 + 1) 4) (e / 16384 % 16 + 1)) _ two.1 in
-    let four = and_parts (ltb (len_of_first e) 8) _ three.1 in
-    let five = and_parts (eqb (e / 262144) (max n (reach (field 4 digits)))) _ four.1 in
-    record {
-      bits = same_digits-true _ _ one.0;
-      small = ltb-true _ _ two.0;
-      some = ltb-true _ _ three.0;
-      len = ltb-true _ _ four.0;
-      above = eqb-true _ _ five.0;
-      within = ltb-true _ _ five.1;
-    }
+    search (rules, and_parts, same_digits-true, ltb-true, eqb-true)
 
 -- ---- codes of two planes
 
@@ -121,11 +110,4 @@ pair_of_entry n first second e in_plane four other is =
     let one = and_parts (same_digits (field (e / 16384 % 16) (e % 16384)) (plane_code n (field 4 first) ++ plane_code (max n (reach (field 4 first))) (field 4 second))) _ test in
     let two = and_parts (ltb (e % 16384) (2 ^ (e / 16384 % 16))) _ one.1 in
     let three = and_parts (ltb (e / 16384 % 16) 15) _ two.1 in
-    let four = and_parts (eqb (e / 262144) (max (max n (reach (field 4 first))) (reach (field 4 second)))) _ three.1 in
-    record {
-      bits = same_digits-true _ _ one.0;
-      small = ltb-true _ _ two.0;
-      len = ltb-true _ _ three.0;
-      above = eqb-true _ _ four.0;
-      within = ltb-true _ _ four.1;
-    }
+    let four = and_parts (eqb (e / 262144) (max (max n (reach (field 4 first))) (reach (field 4 second)))) _ three.1 in search (rules, same_digits-true, ltb-true, eqb-true)

@@ -1,4 +1,5 @@
 -- The top planes of words: some and those below them, planes of fewer digits, and sixteen planes of four words as a string.
+use Rattle.std.proofs.Common.{rules}
 use Rattle.std.proofs.Common.{◌≡◌, ℕ, zero, suc, ◌+◌, ◌-◌, ◌*◌, ◌/◌, ◌%◌, ◌^◌, ◌<◌, ◌≤◌, min, Bool, true, false, eqb, List, [], ◌∷◌, ◌++◌, length, map, take, drop, get_or, get_or-take, replicate, ⊎_elim, take-take, refl, sym, ap, ◌∙◌, arith, pow-suc, length-drop}
 use Rattle.std.proofs.Math.Nat.{pow-zero}
 use Rattle.std.proofs.lemmas.Bool.{eqb-true, cases_lt}
@@ -63,9 +64,7 @@ map_each f g (x ∷ xs) same = ap (λ y. y ∷ map f xs) (same x) ∙ ap (λ ys.
 
 -- plane i of words whose top m digits are gone
 plane-below : (words : List ℕ) (m i : ℕ) → m + i < 64 → map (λ word. top_digit word (m + i)) words ≡ map (λ word. top_digit word i) (map (below m) words)
-plane-below words m i within =
-    map_each (λ word. top_digit word (m + i)) (λ word. top_digit (below m word) i) words (λ word. sym (top_digit-below word m i within))
-    ∙ sym (map-map (λ word. top_digit word i) (below m) words)
+plane-below words m i within = search (rules, map_each, top_digit-below, map-map)
 
 pub top_planes-split : (k m : ℕ) (words : List ℕ) → m ≤ k → k ≤ 64 → top_planes k words ≡ top_planes m words ++ top_planes (k - m) (map (below m) words)
 unfolding top_planes
@@ -126,11 +125,7 @@ spread_same b (suc k) f g same =
 -- some digits and those behind them
 spread-add : (b m k : ℕ) (f g : ℕ → Bool) → ((i : ℕ) → i < k → f (m + i) ≡ g i) → spread b (m + k) f ≡ spread b m f + b ^ m * spread b k g
 unfolding spread
-spread-add b zero k f g same =
-    let none : zero + k ≡ k = omega arith in
-    ap (λ n. spread b n f) none
-    ∙ spread_same b k f g (λ i here. let first : i ≡ zero + i = omega arith in ap f first ∙ same i here)
-    ∙ omega (arith, ap (λ p. p * spread b k g) (pow-zero b))
+spread-add b zero k f g same = search (rules, spread_same, pow-zero)
 spread-add b (suc m) k f g same =
     let more : suc m + k ≡ suc (m + k) = omega arith in
     let rest : spread b (m + k) (λ i. f (suc i)) ≡ spread b m (λ i. f (suc i)) + b ^ m * spread b k g =
@@ -208,9 +203,7 @@ string-is (suc k) f g h e =
 pub string_of_words : (k : ℕ) (words : List ℕ) → length words ≡ 4
     → string_planes k (spread 16 k (top_digit (get_or words 0 0)) + 2 * spread 16 k (top_digit (get_or words 1 0)) + 4 * spread 16 k (top_digit (get_or words 2 0)) + 8 * spread 16 k (top_digit (get_or words 3 0))) ≡ top_planes k words
 unfolding top_planes
-string_of_words k words four =
-    string-is k (top_digit (get_or words 0 0)) (top_digit (get_or words 1 0)) (top_digit (get_or words 2 0)) (top_digit (get_or words 3 0))
-    ∙ ap (λ (ws : List ℕ). map (λ i. map (λ word. top_digit word i) ws) (upto k)) (four_elements words four)
+string_of_words k words four = grind (arith, string-is, four_elements)
 
 -- the planes of a string of sixteen, as many as there are, and those below them
 pub string-split : (planes count string : ℕ) (words : List ℕ) → planes ≤ 64 → count ≡ min planes 16 → string_planes 16 string ≡ top_planes 16 words
@@ -226,11 +219,7 @@ string-split planes count string words most is same = ⊎_elim
     ∙ take_at (top_planes planes words) (top_planes (16 - planes) (map (below planes) words)) planes (length-top_planes planes words) in
     let none : top_planes (planes - count) (map (below 16) words) ≡ [] = no_top_planes (planes - count) (map (below 16) words) (omega arith) in
     sym (ap (λ (ps : List (List Bool)). string_planes count string ++ ps) none ∙ append-nil (string_planes count string) ∙ ap (λ n. string_planes n string) all ∙ first))
-    (λ (many : 16 ≤ planes).
-    let all : 16 ≡ count = omega arith in
-    top_planes-split planes 16 words many most
-    ∙ ap (λ (ps : List (List Bool)). ps ++ top_planes (planes - 16) (map (below 16) words)) (sym same)
-    ∙ ap (λ n. string_planes n string ++ top_planes (planes - n) (map (below 16) words)) all)
+    (search (rules, top_planes-split))
     (cases_lt planes 16)
 
 -- ---- digits of four coefficients, behind planes without a one

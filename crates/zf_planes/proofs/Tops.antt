@@ -1,4 +1,5 @@
 -- The top planes, with one plane more.
+use Rattle.std.proofs.Common.{rules}
 use Rattle.std.proofs.Common.{◌≡◌, ℕ, zero, suc, ◌+◌, ◌<◌, max, Bool, List, [], ◌∷◌, length, take, get_or, ap, arith}
 use Rattle.std.proofs.lemmas.List.{length-append}
 use Rattle.zf_spec.specs.Planes.{code, code_from, plane_code, reach, reach_of_all}
@@ -13,10 +14,7 @@ reach_of_all-more (ds ∷ ps) (suc k) below = omega (arith, reach_of_all-more ps
 code_from-more : (n : ℕ) (ps : List (List Bool)) (k : ℕ) → k < length ps
     → length (code_from n (take (suc k) ps)) ≡ length (code_from n (take k ps)) + length (plane_code (max n (reach_of_all (take k ps))) (get_or ps k []))
 code_from-more n [] k below = absurd (omega arith)
-code_from-more n (ds ∷ ps) zero below =
-    let first : max n 0 ≡ n = omega arith in
-    let same = ap (λ m. length (plane_code m ds)) first in
-    omega (arith, length-append (plane_code n ds) [], same)
+code_from-more n (ds ∷ ps) zero below = search (rules, length-append)
 code_from-more n (ds ∷ ps) (suc k) below =
     let c = plane_code n ds in
     let m = max n (reach ds) in
@@ -27,7 +25,4 @@ code_from-more n (ds ∷ ps) (suc k) below =
 
 pub code-more : (ps : List (List Bool)) (k : ℕ) → k < length ps
     → length (code (take (suc k) ps)) ≡ length (code (take k ps)) + length (plane_code (reach_of_all (take k ps)) (get_or ps k []))
-code-more ps k below =
-    let r = reach_of_all (take k ps) in
-    let same : max 0 r ≡ r = omega arith in
-    omega (arith, code_from-more 0 ps k below, ap (λ a. length (plane_code a (get_or ps k []))) same)
+code-more ps k below = search (rules, code_from-more)

@@ -1,5 +1,6 @@
 -- The digits that planes hold in words.
-use Rattle.std.proofs.Common.{◌≡◌, ℕ, zero, suc, map, ◌+◌, ◌-◌, ◌*◌, ◌<◌, ◌≤◌, ◌≢◌, ⊎_elim, Bool, false, max, List, [], ◌∷◌, ◌++◌, length, take, drop, get_or, set, replicate, refl, sym, ap, subst, ◌∙◌, arith, ext_get_or, length-set, get_or-set_same, get_or-set_other}
+use Rattle.std.proofs.Common.{rules}
+use Rattle.std.proofs.Common.{◌≡◌, ℕ, zero, suc, map, ◌+◌, ◌-◌, ◌*◌, ◌<◌, ◌≤◌, ◌≢◌, Bool, false, max, List, [], ◌∷◌, ◌++◌, length, take, drop, get_or, set, replicate, refl, sym, ap, ◌∙◌, arith, ext_get_or, length-set, get_or-set_same, get_or-set_other}
 use Rattle.zf_planes.proofs.Filling.{behind_next}
 use Rattle.std.proofs.lemmas.List.{map-set, take_more_set, length-map, get_or-map, get_or-take, length-take, drop_more, length-replicate, get_or-replicate}
 use Rattle.std.proofs.lemmas.Bool.{cases_eq}
@@ -24,13 +25,7 @@ drop-top_held prec size planes i below within =
 
 -- each of them has this size
 pub sizes-top_words : (prec size : ℕ) (planes : List (List ℕ)) → ((i : ℕ) → i < length planes → size ≤ 64 * length (get_or planes i [])) → All (λ ds. length ds ≡ size) (take prec (planes_held size planes))
-sizes-top_words prec size planes enough =
-    let long = length-take prec (planes_held size planes) in
-    let same = length-planes_held size planes in
-    λ k d high.
-    let P : List Bool → Type 0 = λ ds. length ds ≡ size in
-    subst P (sym (get_or-take prec (planes_held size planes) k d (omega arith) ∙ get_or-planes_held size planes k d (omega arith)))
-    (length-digits_held size _ (enough (length planes - 1 - k) (omega arith)))
+sizes-top_words prec size planes enough = search (rules, length-take, length-planes_held, get_or-take, get_or-planes_held, length-digits_held)
 
 -- ---- planes of any type that has words
 
@@ -44,31 +39,18 @@ each_long words n long (plane ∷ planes) (suc i) below = each_long words n long
 pub code_next : {A : Type 0} (words : A → List ℕ) (above prec size i : ℕ) (planes : List A) (plane : A) → plane ≡ get_or planes (length planes - 1 - i) plane → i < prec → prec ≤ length planes
     → code_from above (drop i (take prec (planes_held size (map words planes))))
     ≡ plane_code above (digits_held size (words plane)) ++ code_from (max above (reach (digits_held size (words plane)))) (drop (i + 1) (take prec (planes_held size (map words planes))))
-code_next words above prec size i planes plane is below within =
-    let all = map words planes in
-    let long = length-map planes words in
-    let place : length all - 1 - i ≡ length planes - 1 - i = omega arith in
-    let same : get_or all (length all - 1 - i) [] ≡ words plane =
-    ap (λ k. get_or all k []) place ∙ get_or-map words planes (length planes - 1 - i) plane [] (omega arith) ∙ ap words (sym is) in
-    ap (code_from above) (drop-top_held prec size all i below (omega arith) ∙ ap (λ (ws : List ℕ). digits_held size ws ∷ drop (i + 1) (take prec (planes_held size all))) same)
+code_next words above prec size i planes plane is below within = search (rules, length-map, get_or-map, drop-top_held)
 
 -- the digits of the i-th plane
 pub held_at : {A : Type 0} (words : A → List ℕ) (size i : ℕ) (planes : List A) (plane : A) → plane ≡ get_or planes (length planes - 1 - i) plane → i < length planes
     → get_or (planes_held size (map words planes)) i [] ≡ digits_held size (words plane)
-held_at words size i planes plane is below =
-    let all = map words planes in
-    let long = length-map planes words in
-    let place : length all - 1 - i ≡ length planes - 1 - i = omega arith in
-    get_or-planes_held size all i [] (omega arith)
-    ∙ ap (digits_held size) (ap (λ k. get_or all k []) place ∙ get_or-map words planes (length planes - 1 - i) plane [] (omega arith) ∙ ap words (sym is))
+held_at words size i planes plane is below = search (rules, length-map, get_or-planes_held, get_or-map)
 
 -- the code from the i-th plane on begins with that of the plane
 pub code_held : (above prec size i : ℕ) (all : List (List ℕ)) → i < prec → prec ≤ length all
     → code_from above (drop i (take prec (planes_held size all)))
     ≡ plane_code above (get_or (planes_held size all) i []) ++ code_from (max above (reach (get_or (planes_held size all) i []))) (drop (i + 1) (take prec (planes_held size all)))
-code_held above prec size i all below within =
-    ap (code_from above)
-    (drop-top_held prec size all i below within ∙ ap (λ (ds : List Bool). ds ∷ drop (i + 1) (take prec (planes_held size all))) (sym (get_or-planes_held size all i [] (omega arith))))
+code_held above prec size i all below within = search (rules, drop-top_held, get_or-planes_held)
 
 -- planes of four words are those of their words by number
 pub arrays_as_words : (planes : List (List ℕ)) → ((i : ℕ) → i < length planes → length (get_or planes i []) ≡ 4)
@@ -86,11 +68,7 @@ pub planes_held-set : (size : ℕ) (planes : List (List ℕ)) (i : ℕ) (words :
 planes_held-set size planes i words within =
     ext_get_or [] (planes_held size after) (set (planes_held size planes) i (digits_held size words))
     (omega (arith, length-planes_held size after, long, length-set (planes_held size planes) i (digits_held size words), length-planes_held size planes))
-    (λ j low.
-    let in_planes : j < length planes = omega (arith, length-planes_held size after, long) in
-    get_or-planes_held size after j [] (omega (arith, long))
-    ∙ ap (λ n. digits_held size (get_or after (n - 1 - j) [])) long
-    ∙ ⊎_elim (same j) (other j in_planes) (cases_eq j i))
+    (search (rules, length-planes_held, get_or-planes_held, cases_eq))
   where
     after : List (List ℕ)
     after = set planes (length planes - 1 - i) words
@@ -119,12 +97,7 @@ planes_held-zeros size n k within =
     let long = length-replicate n words in
     ext_get_or [] (planes_held size (replicate n words)) (replicate n (replicate size false))
     (omega (arith, length-planes_held size (replicate n words), long, length-replicate n (replicate size false)))
-    (λ j low.
-    let below : j < n = omega (arith, length-planes_held size (replicate n words), long) in
-    get_or-planes_held size (replicate n words) j [] (omega (arith, long))
-    ∙ ap (digits_held size) (get_or-replicate n (length (replicate n words) - 1 - j) words [] (omega (arith, long)))
-    ∙ held_zeros size k within
-    ∙ sym (get_or-replicate n j (replicate size false) [] below))
+    (search (rules, length-planes_held, get_or-planes_held, get_or-replicate, held_zeros))
 
 -- the digits of planes, of which one more is written
 pub top_more : (size : ℕ) (planes : List (List ℕ)) (i : ℕ) (words : List ℕ) → i < length planes
@@ -134,15 +107,7 @@ top_more size planes i words within =
 
 pub top_behind : (size : ℕ) (planes : List (List ℕ)) (i : ℕ) (words : List ℕ) → i < length planes → drop i (planes_held size planes) ≡ replicate (length planes - i) (replicate size false)
     → drop (i + 1) (planes_held size (set planes (length planes - 1 - i) words)) ≡ replicate (length (set planes (length planes - 1 - i) words) - (i + 1)) (replicate size false)
-top_behind size planes i words within back =
-    let held = planes_held size planes in
-    let ds = digits_held size words in
-    let long = length-planes_held size planes in
-    let same : length (set held i ds) - (i + 1) ≡ length (set planes (length planes - 1 - i) words) - (i + 1) =
-    omega (arith, length-set held i ds, length-set planes (length planes - 1 - i) words) in
-    ap (drop (i + 1)) (planes_held-set size planes i words within)
-    ∙ behind_next held ds (replicate size false) i (back ∙ ap (λ n. replicate (n - i) (replicate size false)) (sym long))
-    ∙ ap (λ n. replicate n (replicate size false)) same
+top_behind size planes i words within back = search (rules, length-planes_held, length-set, planes_held-set, behind_next)
 
 -- a plane set among planes, as words
 pub set_words : {A : Type 0} (words : A → List ℕ) (planes : List A) (i : ℕ) (plane : A)

@@ -1,4 +1,5 @@
 -- Planes in one word by the bits of their code, with a table of tails.
+use Rattle.std.proofs.Common.{rules}
 use Rattle.std.proofs.Common.{◌≡◌, ℕ, suc, ◌+◌, ◌-◌, ◌*◌, ◌/◌, ◌%◌, ◌^◌, ◌<◌, ◌≤◌, ⊎_elim, min, Bool, true, false, ◌&&◌, ◌||◌, ltb, eqb, List, [], ◌∷◌, ◌++◌, length, drop, get_or, replicate, refl, sym, ap, ◌∙◌, arith, lit<, take_at, drop_at, pow_pos}
 use Rattle.std.specs.Int.Bits.{bit_or}
 use Rattle.std.proofs.Math.Nat.{pow-le-pow_right, div-eq_of_lt}
@@ -54,22 +55,7 @@ entry_to_9 most bits e some nine eight is =
     ∙ ap (λ k. test_tail (i / 256 + 1) k e && test_some e) (sym low)
     ∙ ap (λ x. test_tail (i / 256 + 1) (i % 256) x && test_some x) is
     ∙ each_below-true (λ j. test_tail (j / 256 + 1) (j % 256) (get_or TAILS j 0) && test_some (get_or TAILS j 0)) 2304 i test_tails (omega arith) in
-    let parts = and_parts (test_tail most bits e) (test_some e) whole in
-    record {
-      some = ltb-true _ _ parts.1;
-      tail = λ known. tail_by (ltb 64 (e / 4096)) refl known parts.0;
-    }
-  where
-    tail_by : (t : Bool) → ltb 64 (e / 4096) ≡ t → e / 4096 ≤ 64
-        → t || (same_digits (tail (field most (e % 256))) (field (e / 4096) (2 * bits + 1))
-        && (ltb 0 (e % 256) && (ltb (e % 256) (2 ^ most) && (ltb (e / 4096) 10 && eqb (e / 256 % 16) (reach (field most (e % 256))))))) ≡ true → IsTail most bits e
-    tail_by true far known test = absurd (omega (arith, ltb-true 64 (e / 4096) far))
-    tail_by false near known test =
-        let one = and_parts (same_digits (tail (field most (e % 256))) (field (e / 4096) (2 * bits + 1))) _ test in
-        let two = and_parts (ltb 0 (e % 256)) _ one.1 in
-        let three = and_parts (ltb (e % 256) (2 ^ most)) _ two.1 in
-        let four = and_parts (ltb (e / 4096) 10) _ three.1 in
-        record { code = same_digits-true _ _ one.0; some = ltb-true _ _ two.0; small = ltb-true _ _ three.0; len = ltb-true _ _ four.0; above = eqb-true _ _ four.1 }
+    let parts = and_parts (test_tail most bits e) (test_some e) whole in search (rules, ltb-true, same_digits, and_parts, same_digits-true, eqb-true)
 
 -- more digits make no difference, where they are zeros
 tail_of_nine : (most digits : ℕ) → 9 ≤ most → 0 < digits → digits < 256 → tail (field most digits) ≡ tail (field 9 digits)
@@ -131,18 +117,7 @@ read_with n size bits e within narrow odd found =
     let low : 2 * (next / 2 % 256) + 1 ≡ next % 2 ^ 9 = omega arith in
     let code : tail (field (size - n) t) ≡ field len next =
     found.code ∙ ap (field len) (low ∙ ap (λ k. next % 2 ^ k) nine) ∙ wide.field-mod len (9 - len) next in
-    let one = has_one-field (size - n) t found.some found.small in
-    record {
-      code =
-          ap (plane_code n) digits
-          ∙ code_of_parts n (field n bits) (field (size - n) t) (length-field n bits)
-          ∙ ap (λ (bs : List Bool). field n bits ++ bs) code
-          ∙ sym (field-add n len bits);
-      small = rw parts at (small_behind n (size - n) (bits % 2 ^ n) t prefix_small found.small);
-      reached =
-          let reached = ap reach digits ∙ reach_behind_all (field n bits) (field (size - n) t) one in
-          omega (arith, reached, found.above, length-field n bits);
-    }
+    let one = has_one-field (size - n) t found.some found.small in search (rules, code_of_parts, length-field, field-add, small_behind, reach_behind_all)
 
 -- no one follows
 pub read_without : (n size bits : ℕ) → n < size → bits / 2 ^ n % 2 ≡ 0 → IsReadAs n size bits (bits % 2 ^ n) (n + 1) n
@@ -155,23 +130,8 @@ read_without n size bits within even =
     let last : is_odd (v / 2 ^ n) ≡ is_odd (bits / 2 ^ n) = ap is_odd none ∙ sym (ap (λ b. eqb b 1) even) in
     let digits : field size v ≡ field n v ++ replicate (size - n) false =
     ap (λ k. field k v) (sym parts) ∙ field-add n (size - n) v ∙ ap (λ u. field n v ++ field (size - n) u) none ∙ ap (λ (bs : List Bool). field n v ++ bs) (field-zero (size - n)) in
-    record {
-      code =
-          plane_without size n v within none
-          ∙ field_more n v
-          ∙ ap (λ (bs : List Bool). bs ++ is_odd (v / 2 ^ n) ∷ []) (field-mod n bits)
-          ∙ ap (λ b. field n bits ++ b ∷ []) last
-          ∙ sym (field_more n bits);
-      small = omega (arith, pow-le-pow_right {n = 2} (lit< tt) order);
-      reached =
-          let reached = ap reach digits ∙ reach_behind (field n v) (size - n) in
-          omega (arith, reached, reach-le (field n v), length-field n v);
-    }
+    search (rules, plane_without, field_more, field-mod, pow-le-pow_right, reach_behind, reach-le, length-field)
 
 -- all ranks have had a one
 pub read_all : (size bits : ℕ) → IsReadAs size size bits (bits % 2 ^ size) size size
-read_all size bits = record {
-  code = plane_whole size (bits % 2 ^ size) ∙ field-mod size bits;
-  small = omega (arith, pow_pos size);
-  reached = omega (arith, reach-le (field size (bits % 2 ^ size)), length-field size (bits % 2 ^ size));
-}
+read_all size bits = search (rules, plane_whole, field-mod, reach-le, length-field)

@@ -1,5 +1,6 @@
 -- The code of zeros and of a run as numbers: planes without a one, and a group bit with the run behind it.
-use Rattle.std.proofs.Common.{◌≡◌, ℕ, zero, suc, ◌+◌, ◌-◌, ◌*◌, ◌%◌, ◌^◌, ◌<◌, ◌≤◌, ⊎_elim, min, max, Bool, true, false, List, [], ◌∷◌, ◌++◌, length, take, replicate, refl, sym, ap, ◌∙◌, arith, append_assoc, length-append, length-take, lit<}
+use Rattle.std.proofs.Common.{rules}
+use Rattle.std.proofs.Common.{◌≡◌, ℕ, zero, suc, ◌+◌, ◌-◌, ◌*◌, ◌%◌, ◌^◌, ◌<◌, ◌≤◌, min, max, Bool, true, false, List, [], ◌∷◌, ◌++◌, length, take, replicate, refl, sym, ap, ◌∙◌, arith, append_assoc, length-append, length-take, lit<}
 use Rattle.std.specs.Int.Bits.{bit_or}
 use Rattle.std.proofs.Math.Nat.{pow-le-pow_right}
 use Rattle.std.proofs.lemmas.Bool.{cases_lt}
@@ -15,16 +16,10 @@ use Rattle.zf_planes.proofs.Runs.{tail_none}
 -- ---- a prefix as far as two limits reach
 
 pub take_both : {A : Type 0} (left n : ℕ) (xs : List A) → take left (take n xs) ≡ take (min left n) xs
-take_both {A} left n xs = ⊎_elim
-    (λ (cut : left < n). let less : min left n ≡ left = omega arith in rw less (take-take left n xs (omega arith)))
-    (λ (all : n ≤ left). let less : min left n ≡ n = omega arith in rw less (take_all left (take n xs) (omega (arith, length-take n xs))))
-    (cases_lt left n)
+take_both {A} left n xs = search (rules, take-take, take_all, length-take, cases_lt)
 
 pub take_zeros : (left k : ℕ) → take left (replicate k false) ≡ replicate (min left k) false
-take_zeros left k = ⊎_elim
-    (λ (cut : left < k). let less : min left k ≡ left = omega arith in rw less (take-replicate left k false (omega arith)))
-    (λ (all : k ≤ left). let less : min left k ≡ k = omega arith in rw less (take_all left (replicate k false) (omega (arith, length-replicate k false))))
-    (cases_lt left k)
+take_zeros left k = search (rules, take-replicate, take_all, length-replicate, cases_lt)
 
 -- ---- planes without a one
 

@@ -1,11 +1,11 @@
 -- What an act on owned blocks needs and leaves: states that are alike in the owned blocks stay alike, and the codes of all other blocks stay.
-use Rattle.std.proofs.Common.{◌≡◌, ◌≢◌, refl, sym, ap, subst, ◌∙◌, ℕ, zero, suc, ◌%◌, ℤ, pos, ◌+ℤ◌, Bool, true, false, cond, Option, Some, None, List, get_or, set, ◌⊎◌, inl, inr}
+use Rattle.std.proofs.Common.{◌≡◌, ◌≢◌, refl, sym, ap, subst, ◌∙◌, ℕ, zero, suc, ℤ, pos, ◌+ℤ◌, Bool, true, false, Option, Some, None, get_or, rules}
 use Rattle.std.proofs.lemmas.Bool.{cases_eq}
 use Rattle.std.specs.Int.{Width}
 use Rattle.zf_spec.specs.Numbers.{wrap}
-use Rattle.zf_base.specs.Formats.{Format, meant, encoded, with_at}
+use Rattle.zf_base.specs.Formats.{Format, with_at}
 use Rattle.zf_base.proofs.Formats.{with_at-same, with_at-other}
-use Rattle.zf_cached.specs.State.{State, risen, own_line, is_block, is_here}
+use Rattle.zf_cached.specs.State.{State, own_line}
 use Rattle.zf_cached.specs.Touch.{write_back, write_back_dirty, write_back_line, hit, miss, touch, soiled, with_values, touch_for_writing_at, touch_at}
 use Rattle.zf_cached.specs.Changes.{write_back_lines, emptied, flush, discard}
 use Rattle.zf_cached.specs.Placing.{direct}
@@ -16,11 +16,7 @@ use Rattle.zf_cached.specs.Views.{changed, acted, answered, IsWithin, HasOwn, Ar
 
 -- functions that are changed alike
 with_at-alike : {A : Type 0} (f g : ℕ → A) (k : ℕ) (x y : A) (n : ℕ) → x ≡ y → (n ≢ k → f n ≡ g n) → with_at f k x n ≡ with_at g k y n
-with_at-alike f g k x y n here other = by (cases_eq n k)
-  where
-    by : (n ≡ k) ⊎ (n ≡ k → ⊥) → with_at f k x n ≡ with_at g k y n
-    by (inl e) = ap (with_at f k x) e ∙ with_at-same f k x ∙ here ∙ sym (with_at-same g k y) ∙ ap (with_at g k y) (sym e)
-    by (inr ne) = with_at-other f k x n ne ∙ other ne ∙ sym (with_at-other g k y n ne)
+with_at-alike f g k x y n here other = search (rules, cases_eq, with_at-same, with_at-other)
 
 module _ {Code : Type 0} (f : Format Code) (owned : ℕ → Type 0) where
   -- ---- what is in the lines, or dirty, stays owned
@@ -110,11 +106,7 @@ module _ {Code : Type 0} (f : Format Code) (owned : ℕ → Type 0) where
 
   quiet-discard : (s : State Code) (b : ℕ) → HasOwn owned s → (owned b → ⊥) → (discard f s).values b ≡ s.values b
   unfolding discard
-  quiet-discard s b h not = by (s.dirty b) refl
-    where
-      by : (t : Bool) → s.dirty b ≡ t → cond (s.dirty b) (meant f b (s.codes b)) (s.values b) ≡ s.values b
-      by true e = absurd (not (h.dirty b e))
-      by false e = ap (λ t. cond t (meant f b (s.codes b)) (s.values b)) e
+  quiet-discard s b h not = search rules
 
   pub quiet-acted : (w : Width) (s : State Code) (a : Act) (b : ℕ) → IsWithin owned a → HasOwn owned s → (owned b → ⊥) → (acted w f s a).values b ≡ s.values b
   unfolding acted flush emptied
@@ -131,15 +123,7 @@ module _ {Code : Type 0} (f : Format Code) (owned : ℕ → Type 0) where
 
   alike-write_back : (s t : State Code) (a : ℕ) → owned a → AreAlike owned s t → AreAlike owned (write_back f s a) (write_back f t a)
   unfolding write_back
-  alike-write_back s t a own h =
-      let code : encoded f a (s.values a) ≡ encoded f a (t.values a) = ap (encoded f a) (h.values a own) in record {
-        lines = h.lines;
-        held = h.held;
-        dirty = ap (λ (d : ℕ → Bool). with_at d a false) h.dirty;
-        counts = λ i. record { hits = (h.counts i).hits; misses = (h.counts i).misses; writes = risen (h.counts i).writes };
-        values = λ b o. with_at-alike s.values t.values a _ _ b (ap (meant f a) code) (λ ne. h.values b o);
-        codes = λ b o. with_at-alike s.codes t.codes a _ _ b code (λ ne. h.codes b o);
-      }
+  alike-write_back s t a own h = search (rules, with_at-alike)
 
   alike-write_back_line : (s t : State Code) (l : ℕ) → HasOwn owned s → AreAlike owned s t → AreAlike owned (write_back_line f s l) (write_back_line f t l)
   alike-write_back_line s t l own h = by (s.held l) refl
@@ -164,80 +148,27 @@ module _ {Code : Type 0} (f : Format Code) (owned : ℕ → Type 0) where
 
   alike-hit : (s t : State Code) → AreAlike owned s t → AreAlike owned (hit s) (hit t)
   unfolding hit
-  alike-hit s t h = record {
-    lines = h.lines;
-    held = h.held;
-    dirty = h.dirty;
-    counts = λ i. record { hits = risen (h.counts i).hits; misses = (h.counts i).misses; writes = (h.counts i).writes };
-    values = h.values;
-    codes = h.codes;
-  }
+  alike-hit s t h = search rules
 
   alike-miss : (s t : State Code) (l b : ℕ) → HasOwn owned s → AreAlike owned s t → AreAlike owned (miss f s l b) (miss f t l b)
   unfolding miss
-  alike-miss s t l b own h =
-      let k = alike-write_back_line s t l own h in record {
-        lines = k.lines;
-        held = ap (λ (g : ℕ → Option ℕ). with_at g l (Some b)) k.held;
-        dirty = k.dirty;
-        counts = λ i. record { hits = (k.counts i).hits; misses = risen (k.counts i).misses; writes = (k.counts i).writes };
-        values = k.values;
-        codes = k.codes;
-      }
+  alike-miss s t l b own h = search (rules, alike-write_back_line)
 
   alike-touch : (s t : State Code) (b : ℕ) → HasOwn owned s → AreAlike owned s t → AreAlike owned (touch f s b) (touch f t b)
   unfolding touch_at
-  alike-touch s t b own h = by (is_here s b) refl
-    where
-      here : is_here s b ≡ is_here t b
-      here = λ i. is_block ((h.held i) (b % h.lines i)) b
-
-      at_line : AreAlike owned (miss f s (own_line s b) b) (miss f t (own_line t b) b)
-      at_line = subst (λ n. AreAlike owned (miss f s (own_line s b) b) (miss f t (b % n) b)) h.lines (alike-miss s t (own_line s b) b own h)
-
-      by : (d : Bool) → is_here s b ≡ d → AreAlike owned (elim (is_here s b) [ true ↦ hit s | false ↦ miss f s (own_line s b) b ]) (elim (is_here t b) [ true ↦ hit t | false ↦ miss f t (own_line t b) b ])
-      by true e = alike-same (hit s) _ (hit t) _
-          (ap (λ (d : Bool). elim d [ true ↦ hit s | false ↦ miss f s (own_line s b) b ]) e)
-          (ap (λ (d : Bool). elim d [ true ↦ hit t | false ↦ miss f t (own_line t b) b ]) (sym here ∙ e)) (alike-hit s t h)
-      by false e = alike-same (miss f s (own_line s b) b) _ (miss f t (own_line t b) b) _
-          (ap (λ (d : Bool). elim d [ true ↦ hit s | false ↦ miss f s (own_line s b) b ]) e)
-          (ap (λ (d : Bool). elim d [ true ↦ hit t | false ↦ miss f t (own_line t b) b ]) (sym here ∙ e)) at_line
+  alike-touch s t b own h = search (rules, alike-miss, alike-same, alike-hit)
 
   alike-changed : (s t : State Code) (b p : ℕ) (change : ℤ → ℤ) → owned b → HasOwn owned s → AreAlike owned s t → AreAlike owned (changed f s b p change) (changed f t b p change)
   unfolding touch_for_writing_at soiled with_values
-  alike-changed s t b p change o own h =
-      let k = alike-touch s t b own h in
-      let new : List ℤ → List ℤ = λ vs. set vs p (change (get_or vs p (pos 0))) in record {
-        lines = k.lines;
-        held = k.held;
-        dirty = ap (λ (d : ℕ → Bool). with_at d b true) k.dirty;
-        counts = k.counts;
-        values = λ a oa. with_at-alike (touch f s b).values (touch f t b).values b _ _ a (ap new (k.values b o)) (λ ne. k.values a oa);
-        codes = k.codes;
-      }
+  alike-changed s t b p change o own h = search (rules, alike-touch, with_at-alike)
 
   alike-flush : (s t : State Code) → HasOwn owned s → AreAlike owned s t → AreAlike owned (flush f s) (flush f t)
   unfolding flush emptied
-  alike-flush s t own h =
-      let k = subst (λ n. AreAlike owned (write_back_lines f s s.lines) (write_back_lines f t n)) h.lines (alike-write_back_lines s t s.lines own h) in record {
-        lines = k.lines;
-        held = refl;
-        dirty = k.dirty;
-        counts = k.counts;
-        values = k.values;
-        codes = k.codes;
-      }
+  alike-flush s t own h = search (rules, alike-write_back_lines)
 
   alike-discard : (s t : State Code) → AreAlike owned s t → AreAlike owned (discard f s) (discard f t)
   unfolding discard
-  alike-discard s t h = record {
-    lines = h.lines;
-    held = refl;
-    dirty = refl;
-    counts = h.counts;
-    values = λ b o. λ i. cond (h.dirty i b) (meant f b (h.codes b o i)) (h.values b o i);
-    codes = h.codes;
-  }
+  alike-discard s t h = search rules
 
   pub alike-acted : (w : Width) (s t : State Code) (a : Act) → IsWithin owned a → HasOwn owned s → AreAlike owned s t → AreAlike owned (acted w f s a) (acted w f t a)
   unfolding acted

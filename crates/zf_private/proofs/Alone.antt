@@ -1,7 +1,7 @@
 -- However the steps of several views are mixed, each view goes as it goes alone.
-use Rattle.std.proofs.Common.{◌≡◌, ◌≢◌, refl, sym, ap, subst, ◌∙◌, ℕ, ◌==◌, ℤ, Bool, true, false, eqb-true, eq-eqb, Option, List, [], ◌∷◌}
+use Rattle.std.proofs.Common.{◌≡◌, ◌≢◌, refl, sym, ap, subst, ◌∙◌, ℕ, ◌==◌, ℤ, Bool, true, false, eqb-true, eq-eqb, Option, List, [], ◌∷◌, rules}
 use Rattle.std.specs.Int.{Width}
-use Rattle.zf_base.specs.Formats.{Format, with_at}
+use Rattle.zf_base.specs.Formats.{Format}
 use Rattle.zf_base.proofs.Formats.{with_at-same, with_at-other}
 use Rattle.zf_cached.proofs.Caching.{at_change}
 use Rattle.zf_cached.specs.Views.{View, Views, Step, acted, answered, with_codes, without_codes, state_of_view, stepped, ran, answers, steps_of, NoneShared, IsUnowned, IsWithin, AreWithin, HasOwn, AreAlike}
@@ -48,27 +48,12 @@ module _ {Code : Type 0} (w : Width) (f : Format Code) (owns : ℕ → ℕ → T
 
     -- a step of view i keeps it so
     alike-step : (s s' : Views Code) (st : Step) → st.view ≡ i → IsWithin (owns st.view) st.act → AllOwn s → Alike s s' → Alike (stepped w f s st) (stepped w f s' st)
-    alike-step s s' st is within own h =
-        let P : ℕ → Type 0 = λ j. AreAlike (owns j) (state_of_view s j) (state_of_view s' j) → AreAlike (owns j) (state_of_view (stepped w f s st) j) (state_of_view (stepped w f s' st) j) in
-        let by : P st.view = λ g.
-        let k = alike-acted f (owns st.view) w (state_of_view s st.view) (state_of_view s' st.view) st.act within (own st.view) g in
-        subst (λ u. AreAlike (owns st.view) u (state_of_view (stepped w f s' st) st.view)) (sym (there s st))
-        (subst (AreAlike (owns st.view) (acted w f (state_of_view s st.view) st.act)) (sym (there s' st)) k) in
-        subst P is by h
+    alike-step s s' st is within own h = search (rules, alike-acted, there)
 
     -- and so does a step of another view in one of the two
     pub alike-other : (s s' : Views Code) (st : Step) → st.view ≢ i → AllOwn s → Alike s s' → Alike (stepped w f s st) s'
     unfolding stepped
-    alike-other s s' st not own h =
-        let t = acted w f (state_of_view s st.view) st.act in
-        let same : with_at s.view st.view (without_codes t) i ≡ s.view i = with_at-other s.view st.view (without_codes t) i (λ e. not (sym e)) in record {
-          lines = ap (λ (v : View). v.lines) same ∙ h.lines;
-          held = ap (λ (v : View). v.held) same ∙ h.held;
-          dirty = ap (λ (v : View). v.dirty) same ∙ h.dirty;
-          counts = ap (λ (v : View). v.counts) same ∙ h.counts;
-          values = λ b o. ap (λ (v : View). v.values b) same ∙ h.values b o;
-          codes = λ b o. stays s st b own (λ other. not (shared st.view i b other o)) ∙ h.codes b o;
-        }
+    alike-other s s' st not own h = search (rules, with_at-other, stays)
 
     pub alike-ran : (s s' : Views Code) (steps : List Step) → AreWithin owns steps → AllOwn s → Alike s s' → Alike (ran w f s steps) (ran w f s' (steps_of i steps))
     unfolding ran steps_of

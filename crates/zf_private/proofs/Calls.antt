@@ -1,5 +1,5 @@
 -- What a call of the cache makes of a view.
-use Rattle.std.proofs.Common.{◌≡◌, refl, sym, ap, subst, ◌∙◌, ℕ, suc, ◌+◌, ◌^◌, ◌<◌, ℤ, pos, ◌+ℤ◌, Bool, true, false, eqb-true, Some, List, [], ◌∷◌, ◌++◌, map, length, get_or, set, take, drop, arith}
+use Rattle.std.proofs.Common.{◌≡◌, refl, sym, ap, subst, ◌∙◌, ℕ, suc, ◌+◌, ◌^◌, ◌<◌, ℤ, pos, ◌+ℤ◌, true, eqb-true, Some, List, [], ◌∷◌, ◌++◌, map, length, get_or, set, take, drop, arith, rules}
 use Rattle.std.specs.Int.{Width}
 use Rattle.std.proofs.lemmas.List.{length-take-le, set_split, map-set, length-map, length-drop, drop-drop, get_or-map}
 use Rattle.zf_spec.specs.Numbers.{wrap}
@@ -7,17 +7,17 @@ use Rattle.zf_base.specs.declared.backing.Reading.{Ghosts as Reading}
 use Rattle.zf_base.specs.declared.position.Pos.{Pos}
 use Rattle.zf_base.specs.Positions.{used_axes}
 use Rattle.zf_base.specs.Places.{IsAt}
-use Rattle.zf_base.specs.Formats.{Format, existing_of, meant}
+use Rattle.zf_base.specs.Formats.{Format, existing_of}
 use Rattle.zf_base.proofs.Formats.{existing_of-existing_of, existing_of-meant, existing_of-set, get_or-existing_of_exists}
 use Rattle.zf_base.proofs.Sizes.{blocks_le}
-use Rattle.zf_cached.specs.State.{State, is_block}
+use Rattle.zf_cached.specs.State.{State}
 use Rattle.zf_cached.specs.Touch.{touch, soiled, touch_for_writing, with_values, touch_for_writing_at}
 use Rattle.zf_cached.specs.Placing.{direct}
 use Rattle.zf_cached.proofs.Caching.{touch-left}
 use Rattle.zf_lines.specs.Rows.{line_at, part, over_part, with_part}
 use Rattle.zf_lines.proofs.Sizes.{over_same}
 use Rattle.zf_cache.specs.Kept.{Kept, HasBlocks, HasRow, IsIn, IsDirty, tag_at, block_in, dirty_tag, line_of}
-use Rattle.zf_cache.specs.Standing.{state_of, values_of, line_values, Fits, state_at}
+use Rattle.zf_cache.specs.Standing.{state_of, values_of, Fits, state_at}
 use Rattle.zf_cache.specs.Steps.{with_value, put, put_at}
 use Rattle.zf_cache.proofs.Tags.{names-dirty, named}
 use Rattle.zf_cache.specs.Backed.{BackedAt}
@@ -35,14 +35,7 @@ module _ {X Code : Type 0} (value : X → ℤ) where
   -- the values of a block are 0 where no place exists
   pub values_whole : (c : Kept X) (f : Format Code) (k : ℕ → Code) (b : ℕ) → existing_of f b ((state_of value c f k).values b) ≡ (state_of value c f k).values b
   unfolding state_at
-  values_whole c f k b = by (is_block (block_in (tag_at c.tags (line_of c b))) b)
-    where
-      vals : Bool → List ℤ
-      vals t = elim t [ true ↦ line_values value c f (line_of c b) b | false ↦ meant f b (k b) ]
-
-      by : (t : Bool) → existing_of f b (vals t) ≡ vals t
-      by true = existing_of-existing_of f b (map value (line_at c.lines (line_of c b)))
-      by false = existing_of-meant f b (k b)
+  values_whole c f k b = search (rules, existing_of-existing_of, existing_of-meant)
 
   -- what a view that is whole has in its lines, or dirty, is its own
   pub own_state : (d : ℕ) (v : Held X) (f : Format Code) (k : ℕ → Code) → IsWhole d v → HasOwn (Own v) (state value v f k)
@@ -63,9 +56,7 @@ module _ {X Code : Type 0} (value : X → ℤ) where
 
 module _ {X Code : Type 0} (value : X → ℤ) (w : Width) (d : ℕ) (v now : Held X) (is : v ≡ now) (whole : IsWhole d v) (f : Format Code) (k : ℕ → Code) where
   pub has_blocks : IsOver now f → HasBlocks f d
-  has_blocks over =
-      let mine : IsOver v f = subst (λ u. IsOver u f) (sym is) over in
-      (mine.1 ∙ ap (λ n. 4 ^ n) whole.dims, omega (arith, mine.0, blocks_le v.shape whole.shape.not_zero, whole.shape.not_too_large))
+  has_blocks over = search (rules, blocks_le)
 
   pub fits_mine : Fits value now.cache f k → Fits value v.cache f k
   fits_mine fits = subst (λ (u : Held X). Fits value u.cache f k) (sym is) fits
@@ -90,15 +81,11 @@ module _ {X Code : Type 0} (value : X → ℤ) (w : Width) (d : ℕ) (v now : He
     pub answer_is : (new : Kept X) (h : Format Code) (j : ℕ → Code) (r : ℤ) → r ≡ get_or (values_of value new h j b) place (pos 0)
         → Some r ≡ answered (state_of value new h j) (Act.get (block_at now p) (place_at now p))
     unfolding answered state_at
-    answer_is new h j r e =
-        ap Some (e ∙ ap (λ n. get_or (values_of value new h j n) place (pos 0)) (block ∙ ap (λ u. block_at u p) is)
-        ∙ ap (λ n. get_or (values_of value new h j (block_at now p)) n (pos 0)) (at_place ∙ ap (λ u. place_at u p) is))
+    answer_is new h j r e = search rules
 
     -- an act at the block and the place of the position
     pub acts_at : (act : ℕ → ℕ → Act) (t : State Code) → t ≡ acted w f (state value v f k) (act b place) → t ≡ acted w f (state value now f k) (act (block_at now p) (place_at now p))
-    acts_at act t e =
-        e ∙ ap (λ n. acted w f (state value v f k) (act n place)) block ∙ ap (λ n. acted w f (state value v f k) (act (block_at v p) n)) at_place
-        ∙ ap (λ u. acted w f (state value u f k) (act (block_at u p) (place_at u p))) is
+    acts_at act t e = search rules
 
   -- a step of the state leaves the other codes, and nothing but owned blocks in the lines
   module _ (new : Kept X) (h : Format Code) (j : ℕ → Code) (a : Act) (step : state_of value new h j ≡ acted w f (state value now f k) a) where
@@ -113,21 +100,13 @@ module _ {X Code : Type 0} (value : X → ℤ) (w : Width) (d : ℕ) (v now : He
     unfolding state_at
     still_whole within =
         let own : HasOwn (Own now) (state_of value new h j) = subst (HasOwn (Own now)) (sym step) (own-acted f (Own now) w (state value now f k) a within own_now) in
-        let back : HasOwn (Own v) (state_of value new h j) = subst (λ u. HasOwn (Own u) (state_of value new h j)) (sym is) own in
-        record { dims = whole.dims; shape = whole.shape; some = whole.some; inside = whole.inside; own = back.held }
+        search rules
 
 -- what the cache is called with at a position of a view's own
 pub backed_at : {B X : Type 0} (R : Reading B X) (value : X → ℤ) (w : Width) (d : ℕ) (v now : Held X) (is : v ≡ now) (whole : IsWhole d v) (back : B) (p : Pos) → SitsOnAt R value now back p
     → (b place : ℕ) → b ≡ block_at v p → place ≡ place_at v p → IsAt v.shape (used_axes (length v.shape) p) b place → BackedAt R (Fits value) d v.cache back b × (place < 4 ^ d)
 backed_at R value w d v now is whole back p sits b place block at_place at =
-    let f = R.format back in let k = R.codes back in (
-      record {
-        fits = fits_mine value w d v now is whole f k sits.fits;
-        blocks = has_blocks value w d v now is whole f k sits.blocks;
-        below = block_below value w d v now is whole f k p b place block at_place at sits.blocks;
-      },
-      place_below value w d v now is whole f k p b place block at_place at,
-    )
+    let f = R.format back in let k = R.codes back in search (rules, fits_mine, has_blocks, block_below, place_below)
 
 -- a call of the cache that leaves it fitting has done an act of the view
 pub does : {B X : Type 0} (R : Reading B X) (value : X → ℤ) (w : Width) (d : ℕ) (v now : Held X) (is : v ≡ now) → IsWhole d v → (back : B) (new : Kept X) (past : B) (a : Act)
@@ -173,10 +152,7 @@ module _ {X Code : Type 0} (value : X → ℤ) (w : Width) (f h : Format Code) (
       ∙ ap (λ ws. take p row ++ sum ∷ ws) rest ∙ sym there
 
   was : value r ≡ get_or vals p (pos 0)
-  was =
-      let in_row : p < length row = omega (arith, within, long) in
-      ap value (sym read) ∙ sym (get_or-map value row p r (pos 0) in_row)
-      ∙ sym (get_or-existing_of_exists h b (map value row) p within (ap (λ (g : Format Code). g.exists b p) same ∙ exists)) ∙ ap (λ xs. get_or xs p (pos 0)) row_is
+  was = search (rules, long, get_or-map, get_or-existing_of_exists, row_is)
 
   written : existing_of h b (map value (over_part row p 1 (sum ∷ []))) ≡ existing_of h b (set vals p (value sum))
   written =

@@ -1,15 +1,15 @@
 -- What the laws say of views over a backing, and of the parts of an array.
-use Rattle.std.proofs.Common.{◌≡◌, refl, sym, ap, subst, ◌∙◌, ◌⊎◌, inl, inr, ℕ, zero, suc, ◌+◌, ◌*◌, ◌/◌, ◌<◌, ◌≤◌, ℤ, ◌+ℤ◌, true, false, List, arith}
+use Rattle.std.proofs.Common.{◌≡◌, refl, sym, ap, subst, ◌∙◌, ◌⊎◌, inl, inr, ℕ, zero, suc, ◌+◌, ◌*◌, ◌/◌, ◌<◌, ◌≤◌, ℤ, ◌+ℤ◌, arith, rules}
 use Rattle.std.specs.Int.{Width}
 use Rattle.std.proofs.lemmas.Bool.{cases_lt}
 use Rattle.std.proofs.Math.Nat.{zero-div, mul-div_cancel_left}
 use Rattle.zf_spec.specs.Numbers.{wrap}
 use Rattle.zf_base.specs.Formats.{Format, meant}
-use Rattle.zf_cached.specs.State.{State, is_block}
+use Rattle.zf_cached.specs.State.{State}
 use Rattle.zf_cached.specs.Touch.{touch}
 use Rattle.zf_cached.specs.Changes.{flush, discard}
-use Rattle.zf_cache.specs.Kept.{tag_at, block_in, line_of}
-use Rattle.zf_cache.specs.Standing.{line_values, Fits, state_at}
+use Rattle.zf_cache.specs.Kept.{block_in}
+use Rattle.zf_cache.specs.Standing.{Fits, state_at}
 use Rattle.zf_cache.proofs.Tags.{names-clean}
 use Rattle.zf_cached.specs.Acts.{Act}
 use Rattle.zf_cached.specs.Views.{changed, acted, AreAlike}
@@ -48,17 +48,7 @@ module _ {X Code : Type 0} (value : X → ℤ) (d : ℕ) (v : Held X) (f g : For
 
   pub other_codes_alike : AreAlike (Own v) (state value v f k) (state value v g j)
   unfolding state_at
-  other_codes_alike = subst (λ h. AreAlike (Own v) (state value v f k) (state value v h j)) (sym same) (record {
-    lines = refl;
-    held = refl;
-    dirty = refl;
-    counts = refl;
-    values = λ b own. ap (λ code. vals b (meant f b code)) (sym (codes b own));
-    codes = λ b own. sym (codes b own);
-  })
-    where
-      vals : ℕ → List ℤ → List ℤ
-      vals b ms = elim (is_block (block_in (tag_at v.cache.tags (line_of v.cache b))) b) [ true ↦ line_values value v.cache f (line_of v.cache b) b | false ↦ ms ]
+  other_codes_alike = search rules
 
 -- ---- the parts of an array
 

@@ -1,5 +1,5 @@
 -- What a call of one view leaves of it, and of another over the same backing.
-use Rattle.std.proofs.Common.{◌≡◌, sym, subst, ℕ, ◌^◌, ◌<◌, ◌≤◌, ℤ, List, length, arith}
+use Rattle.std.proofs.Common.{◌≡◌, sym, subst, ℕ, ◌^◌, ◌<◌, ◌≤◌, ℤ, List, length, arith, rules}
 use Rattle.zf_spec.specs.Grid.{blocks, is_inside, indices, extent_of}
 use Rattle.zf_base.specs.Formats.{Format}
 use Rattle.zf_cache.specs.Standing.{Fits}
@@ -17,11 +17,7 @@ HasBlocksOf format t =
 module _ {X Code : Type 0} (value : X → ℤ) (d : ℕ) (f g : Format Code) (k j : ℕ → Code) (same : g ≡ f) where
   -- a view that was called
   pub ready_after : (v n : Held X) → IsReady value d v f k → IsSameView v n → IsWhole d n → Fits value n.cache g j → IsReady value d n g j
-  ready_after v n ready kept whole fits =
-      let of_view : HasBlocksOf f (v.shape, (v.first, v.count)) = (ready.over.0, ready.over.1, ready.places) in
-      let e : (v.shape, (v.first, v.count)) ≡ (n.shape, (n.first, n.count)) = λ i. (sym kept.shape i, (sym kept.first i, sym kept.count i)) in
-      let new : HasBlocksOf g (n.shape, (n.first, n.count)) = subst (λ (h : Format Code). HasBlocksOf h (n.shape, (n.first, n.count))) (sym same) (subst (HasBlocksOf f) e of_view) in
-      record { whole = whole; fits = fits; over = (new.0, new.1); places = new.2 }
+  ready_after v n ready kept whole fits = search rules
 
   -- another view
   pub ready_beside : (v o : Held X) → IsReady value d o f k → ((b : ℕ) → (Own v b → ⊥) → j b ≡ k b) → ((b : ℕ) → Own v b → Own o b → ⊥) → IsReady value d o g j

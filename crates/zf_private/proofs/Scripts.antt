@@ -1,11 +1,11 @@
 -- The lines of one split: what a view answers does not depend on the lines on other views.
-use Rattle.std.proofs.Common.{◌≡◌, ◌≢◌, refl, sym, ap, subst, ◌∙◌, ◌⊎◌, inl, inr, ℕ, suc, ◌<◌, ℤ, Bool, true, false, not, ◌&&◌, cond, ltb, leb, eqb, eq-eqb, ne_eqb, List, [], ◌∷◌, ◌++◌, map, length, set, Option, Some, None, is_some, arith}
+use Rattle.std.proofs.Common.{◌≡◌, ◌≢◌, refl, sym, ap, subst, ◌∙◌, ◌⊎◌, inl, inr, ℕ, suc, ◌<◌, ℤ, Bool, true, false, not, ◌&&◌, cond, ltb, eqb, eq-eqb, ne_eqb, List, [], ◌∷◌, ◌++◌, map, length, set, Option, Some, None, is_some, arith, rules}
 use Rattle.std.specs.Int.{Width}
 use Rattle.std.specs.List.{AllByRecursion, list_any, flat_map, filter}
 use Rattle.std.specs.Option.{option_map, option_to_list}
 use Rattle.std.proofs.lemmas.Bool.{and_parts, not-false, ltb-true, cases_eq, cond-true, cond-false}
 use Rattle.std.proofs.lemmas.List.{length-set, length-map, get_or-set_same, get_or-set_other}
-use Rattle.zf_spec.specs.Grid.{upto, blocks, is_inside}
+use Rattle.zf_spec.specs.Grid.{blocks, is_inside}
 use Rattle.zf_spec.proofs.Counting.{length-upto, get_or-map-upto}
 use Rattle.zf_base.specs.Formats.{Format}
 use Rattle.zf_base.specs.Places.{block_number, place_of}
@@ -13,7 +13,7 @@ use Rattle.zf_cached.specs.State.{State, is_block}
 use Rattle.zf_cached.specs.Arrays.{array_format}
 use Rattle.zf_cached.specs.Commands.{Command}
 use Rattle.zf_cached.specs.Replies.{Refusal, Reply}
-use Rattle.zf_cached.specs.Changes.{flush, raised}
+use Rattle.zf_cached.specs.Changes.{raised}
 use Rattle.zf_cached.specs.Grammar.{line_of, read_line}
 use Rattle.zf_cached.proofs.ReadLines.{read_line-None}
 use Rattle.zf_cached.specs.Acts.{Act}
@@ -48,10 +48,7 @@ module _ {Code : Type 0} (setting : Setting Code) (ns : List ℕ) (n : ℕ) (som
   by_view_is : (s : Session Code) (j : ℕ) (a : Act) → s.shape ≡ ns → by_view setting s j a
       ≡ (let t = acted w f (state_of_view s j) a in (record s { state = coded f s.state t.codes; split = Some (set (views_of s) j (without_codes t)) }, option_map Reply.number (answered t a)))
   unfolding by_view with_view
-  by_view_is s j a same =
-      let made : List ℕ → Session Code × Option Reply = λ ms. let g = array_format setting.coding ms in
-      let t = acted w g (state_of_view s j) a in (record s { state = coded g s.state t.codes; split = Some (set (views_of s) j (without_codes t)) }, option_map Reply.number (answered t a)) in
-      ap made same
+  by_view_is s j a same = search rules
 
   module _ (s : Session Code) (parted : IsParted s) (j : ℕ) (lt : j < n) (a : Act) (within : IsWithin (owns j) a) where
     abbrev t : State Code
@@ -138,20 +135,10 @@ module _ {Code : Type 0} (setting : Setting Code) (ns : List ℕ) (n : ℕ) (som
 
   -- what is not refused is on a view that there is, and on a block of its own
   within_flush : (j : ℕ) → first_refusal false false (not (ltb j n)) false false ≡ None → j < n
-  within_flush j e = ltb-true j n (not-false (ltb j n) (range_false (not (ltb j n)) false e))
-    where
-      range_false : (r v : Bool) → first_refusal false false r v false ≡ None → r ≡ false
-      range_false true v e = absurd (cc)
-      range_false false v e = refl
+  within_flush j e = search (rules, ltb-true, not-false)
 
   within_at : (j : ℕ) (ps : List ℕ) (value : Bool) → first_refusal false false (not (has j ps)) value false ≡ None → (j < n) × (owns j (block_number ns ps))
-  within_at j ps value e =
-      let all = and_parts (ltb j n) (is_inside ns ps && is_owner (blocks ns) n j (block_number ns ps)) (not-false (has j ps) (range_false (not (has j ps)) value e)) in
-      (ltb-true j n all.0, (and_parts (is_inside ns ps) (is_owner (blocks ns) n j (block_number ns ps)) all.1).1)
-    where
-      range_false : (r v : Bool) → first_refusal false false r v false ≡ None → r ≡ false
-      range_false true v e = absurd (cc)
-      range_false false v e = refl
+  within_at j ps value e = search (rules, and_parts, not-false, ltb-true)
 
   -- ---- a line in two sessions
 
@@ -191,11 +178,7 @@ module _ {Code : Type 0} (setting : Setting Code) (ns : List ℕ) (n : ℕ) (som
     away_is j reply accepted ne = ap (λ t. t && (true && not (eqb j i))) accepted ∙ ap not (ne_eqb j i ne)
 
     here_is : (j : ℕ) (reply : Option Reply) → j ≡ i → is_away (Some j) reply ≡ false
-    here_is j reply e = ap (λ t. is_accepted reply && (true && not t)) (eq-eqb j i e) ∙ none (is_accepted reply)
-      where
-        none : (t : Bool) → (t && false) ≡ false
-        none true = refl
-        none false = refl
+    here_is j reply e = search (rules, eq-eqb)
 
     module _ (s s' : Session Code) (h : Together s s') (j : ℕ) (lt : j < n) (a : Act) (within : IsWithin (owns j) a) where
       -- an act of view i
@@ -211,9 +194,7 @@ module _ {Code : Type 0} (setting : Setting Code) (ns : List ℕ) (n : ℕ) (som
             together = record {
               one = subst (λ (r : Session Code × Option Reply). IsParted r.0) (sym x) (parted-next s h.one j lt a within);
               two = subst (λ (r : Session Code × Option Reply). IsParted r.0) (sym y) (parted-next s' h.two j lt a within);
-              alike = λ below. subst (λ m. AreAlike (owns m) (state_of_view (by_view setting s j a).0 m) (state_of_view (by_view setting s' j a).0 m)) e
-                  (subst (λ u. AreAlike (owns j) u (state_of_view (by_view setting s' j a).0 j)) (sym (ap (λ (r : Session Code × Option Reply). state_of_view r.0 j) x ∙ there s h.one j lt a within))
-                  (subst (AreAlike (owns j) t) (sym (ap (λ (r : Session Code × Option Reply). state_of_view r.0 j) y ∙ there s' h.two j lt a within)) acts));
+              alike = λ below. search (rules, there);
             };
             replies = ap (λ (r : Session Code × Option Reply). r.1) y ∙ ap (option_map Reply.number) (sym (alike-answered f (owns j) t t' a within acts)) ∙ sym (ap (λ (r : Session Code × Option Reply). r.1) x);
             here = here_is j (by_view setting s j a).1 e;
@@ -240,25 +221,12 @@ module _ {Code : Type 0} (setting : Setting Code) (ns : List ℕ) (n : ℕ) (som
     -- the counts of a view
     counts_either : (s s' : Session Code) → Together s s' → (j : ℕ) → j < n
         → Outcome (s, Some (counts_reply (view_at (views_of s) j).counts)) (s', Some (counts_reply (view_at (views_of s') j).counts)) s' (Some j)
-    counts_either s s' h j lt = by (cases_eq j i)
-      where
-        by : (j ≡ i) ⊎ (j ≡ i → ⊥) → Outcome (s, Some (counts_reply (view_at (views_of s) j).counts)) (s', Some (counts_reply (view_at (views_of s') j).counts)) s' (Some j)
-        by (inl e) = inl (record {
-          together = h;
-          replies = let alike = subst (λ m. m < n → AreAlike (owns m) (state_of_view s m) (state_of_view s' m)) (sym e) h.alike lt in ap (λ k. Some (counts_reply k)) (sym alike.counts);
-          here = here_is j (Some (counts_reply (view_at (views_of s) j).counts)) e;
-        })
-        by (inr ne) = inr (record { together = h; away = away_is j (Some (counts_reply (view_at (views_of s) j).counts)) refl ne })
+    counts_either s s' h j lt = search (rules, cases_eq, here_is, away_is)
 
     -- an act at a position
     at_positions : (s s' : Session Code) → Together s s' → (j : ℕ) (act : ℕ → ℕ → Act) (ps : List ℕ) → j < n → (owns j (block_number ns ps) → IsWithin (owns j) (act (block_number ns ps) (place_of ps))) → owns j (block_number ns ps)
         → Outcome (by_view setting s j (at_position s act ps)) (by_view setting s' j (at_position s' act ps)) s' (Some j)
-    at_positions s s' h j act ps lt within own =
-        let a = act (block_number ns ps) (place_of ps) in
-        let x : at_position s act ps ≡ a = ap (λ ms. act (block_number ms ps) (place_of ps)) h.one.shape in
-        let y : at_position s' act ps ≡ a = ap (λ ms. act (block_number ms ps) (place_of ps)) h.two.shape in
-        subst (λ b. Outcome (by_view setting s j b) (by_view setting s' j (at_position s' act ps)) s' (Some j)) (sym x)
-        (subst (λ b. Outcome (by_view setting s j a) (by_view setting s' j b) s' (Some j)) (sym y) (acts_either s s' h j lt a (within own)))
+    at_positions s s' h j act ps lt within own = search (rules, acts_either)
 
     -- a command that is refused in both, or is done in both
     module _ (s s' : Session Code) (h : Together s s') (c : Command) (x y : Bool) where
@@ -283,15 +251,9 @@ module _ {Code : Type 0} (setting : Setting Code) (ns : List ℕ) (n : ℕ) (som
     stepped s s' h (Command.padd j ps v) x y other =
         by_refusal s s' h (Command.padd j ps v) x y (refusal_of (Command.padd j ps v)) (refusal_is s h.one (Command.padd j ps v) refl x) (refusal_is s' h.two (Command.padd j ps v) refl y)
         (λ none. let ok = within_at j ps (not (is_of_type w v)) none in at_positions s s' h j (λ b p. Act.add b p v) ps ok.0 (λ e. e) ok.1)
-    stepped s s' h (Command.pflush j) x y other =
-        by_refusal s s' h (Command.pflush j) x y (refusal_of (Command.pflush j)) (refusal_is s h.one (Command.pflush j) refl x) (refusal_is s' h.two (Command.pflush j) refl y)
-        (λ none. acts_either s s' h j (within_flush j none) Act.flush tt)
-    stepped s s' h (Command.pdiscard j) x y other =
-        by_refusal s s' h (Command.pdiscard j) x y (refusal_of (Command.pdiscard j)) (refusal_is s h.one (Command.pdiscard j) refl x) (refusal_is s' h.two (Command.pdiscard j) refl y)
-        (λ none. acts_either s s' h j (within_flush j none) Act.discard tt)
-    stepped s s' h (Command.pstats j) x y other =
-        by_refusal s s' h (Command.pstats j) x y (refusal_of (Command.pstats j)) (refusal_is s h.one (Command.pstats j) refl x) (refusal_is s' h.two (Command.pstats j) refl y)
-        (λ none. counts_either s s' h j (within_flush j none))
+    stepped s s' h (Command.pflush j) x y other = search (rules, by_refusal, refusal_of, refusal_is, acts_either, within_flush)
+    stepped s s' h (Command.pdiscard j) x y other = search (rules, by_refusal, refusal_of, refusal_is, acts_either, within_flush)
+    stepped s s' h (Command.pstats j) x y other = search (rules, by_refusal, refusal_of, refusal_is, counts_either, within_flush)
     stepped s s' h Command.join x y other = absurd (other refl)
     stepped s s' h c x y other =
         by_refusal s s' h c x y (Some Refusal.split) (whole_refused s h.one c refl x) (whole_refused s' h.two c refl y) (λ none. absurd (cc))
@@ -307,12 +269,7 @@ module _ {Code : Type 0} (setting : Setting Code) (ns : List ℕ) (n : ℕ) (som
     read_stepped : (s s' : Session Code) → Together s s' → (o : Option Command) (x y : Bool) → o ≢ Some Command.join → Outcome (read_step setting s o x) (read_step setting s' o y) s' (named o)
     unfolding read_step
     read_stepped s s' h None x y other = word s s' h None
-    read_stepped s s' h (Some c) x y other = by (setting.allows c)
-      where
-        by : (t : Bool) → Outcome (elim t as (λ z. Session Code × Option Reply) [ true ↦ step setting s c x | false ↦ (s, Some (Reply.refused Refusal.word)) ])
-            (elim t as (λ z. Session Code × Option Reply) [ true ↦ step setting s' c y | false ↦ (s', Some (Reply.refused Refusal.word)) ]) s' (view_named c)
-        by true = stepped s s' h c x y (λ e. other (ap Some e))
-        by false = word s s' h (view_named c)
+    read_stepped s s' h (Some c) x y other = search (rules, stepped, other, word)
 
     empty_text : (c : Command) → [] ≡ line_of c → ⊥
     empty_text (Command.get ps) e = omega (arith, ap length e)
@@ -324,19 +281,10 @@ module _ {Code : Type 0} (setting : Setting Code) (ns : List ℕ) (n : ℕ) (som
     line_stepped : (s s' : Session Code) → Together s s' → (line : List ℕ) (x y : Bool) → read_line d line ≢ Some Command.join → Outcome (line_step setting s line x) (line_step setting s' line y) s' (named (read_line d line))
     unfolding line_step
     line_stepped s s' h [] x y other = inl (record { together = h; replies = refl; here = ap (λ o. is_away (named o) None) no_line })
-    line_stepped s s' h (b ∷ bs) x y other =
-        let at : List ℕ → Option Command = λ ms. read_line (length ms) (b ∷ bs) in
-        subst (λ o. Outcome (read_step setting s o x) (read_step setting s' (at s'.shape) y) s' (named (read_line d (b ∷ bs)))) (sym (ap at h.one.shape))
-        (subst (λ o. Outcome (read_step setting s (at ns) x) (read_step setting s' o y) s' (named (read_line d (b ∷ bs)))) (sym (ap at h.two.shape)) (read_stepped s s' h (at ns) x y other))
+    line_stepped s s' h (b ∷ bs) x y other = search (rules, read_stepped, other)
 
     on_not_away : (v : Option ℕ) (reply : Option Reply) → is_away v reply ≡ true → (is_accepted reply && is_block v i) ≡ false
-    on_not_away v reply e = by (is_accepted reply) (is_some v) (is_block v i) e
-      where
-        by : (a b t : Bool) → (a && (b && not t)) ≡ true → (a && t) ≡ false
-        by true true true e = absurd (cc)
-        by true true false e = refl
-        by true false t e = absurd (cc)
-        by false b t e = refl
+    on_not_away v reply e = search rules
 
     pub alone : (starved others : List ℕ) (k m : ℕ) (lines : List (List ℕ)) (s s' : Session Code) → Together s s' → AllByRecursion (λ (line : List ℕ). read_line d line ≢ Some Command.join) lines
         → filter (is_on d i) (answered_lines setting others m (without_others d i (answered_lines setting starved k lines s)) s') ≡ filter (is_on d i) (answered_lines setting starved k lines s)
@@ -392,9 +340,7 @@ module _ {Code : Type 0} (setting : Setting Code) (start : Session Code) (n line
   counted = not-false (is_view_count (format_of setting start).blocks n && is_line_count lines) (size_false (refuses_split start (Command.split n lines)) (not (is_view_count (format_of setting start).blocks n && is_line_count lines)) false false false taken)
 
   pub some_views : 0 < n
-  some_views =
-      let count = (and_parts (is_view_count (format_of setting start).blocks n) (is_line_count lines) counted).0 in
-      ltb-true 0 n (and_parts (ltb 0 n) (ltb n 17 && leb n (format_of setting start).blocks) count).0
+  some_views = search (rules, and_parts, counted, ltb-true)
 
   nothing : (f : Format Code) (codes : ℕ → Code) (j : ℕ) → HasOwn (λ b. is_owner (blocks start.shape) n j b ≡ true) (with_codes (opened_view f codes (raised lines) (is_owner (blocks start.shape) n j)) codes)
   unfolding opened_view
@@ -402,15 +348,7 @@ module _ {Code : Type 0} (setting : Setting Code) (start : Session Code) (n line
 
   opened : IsParted setting start.shape n some_views (split_into setting start n (raised lines))
   unfolding split_into opened_views array_format
-  opened =
-      let f = format_of setting start in
-      let codes = (flush f start.state).codes in
-      let made : ℕ → View = λ i. opened_view f codes (raised lines) (is_owner (blocks start.shape) n i) in record {
-        shape = refl;
-        split = refl;
-        many = length-map (upto n) made ∙ length-upto n;
-        own = λ j lt. subst (λ v. HasOwn (λ b. is_owner (blocks start.shape) n j b ≡ true) (with_codes v codes)) (sym (get_or-map-upto made n j no_view lt)) (nothing f codes j);
-      }
+  opened = search (rules, length-map, length-upto, get_or-map-upto, nothing)
 
   pub begins : (i : ℕ) → Together setting start.shape n some_views i (step setting start (Command.split n lines) false).0 (step setting start (Command.split n lines) false).0
   unfolding done

@@ -1,5 +1,5 @@
 -- The calls of several views over one backing are the steps of the definition.
-use Rattle.std.proofs.Common.{◌≡◌, ◌≢◌, sym, ap, subst, ◌∙◌, ◌⊎◌, inl, inr, ℕ, ◌+◌, ◌<◌, ◌≤◌, ℤ, Bool, Option, arith}
+use Rattle.std.proofs.Common.{◌≡◌, ◌≢◌, sym, ap, subst, ◌∙◌, ◌⊎◌, inl, inr, ℕ, ℤ, rules}
 use Rattle.std.specs.Int.{Width}
 use Rattle.std.proofs.lemmas.Bool.{cases_lt}
 use Rattle.zf_base.specs.Formats.{Format}
@@ -24,28 +24,13 @@ module _ {Code : Type 0} (owned : ℕ → Type 0) where
   alike-sym s t h = record { lines = sym h.lines; held = sym h.held; dirty = sym h.dirty; counts = sym h.counts; values = λ b o. sym (h.values b o); codes = λ b o. sym (h.codes b o) }
 
   pub alike-trans : (s t u : State Code) → AreAlike owned s t → AreAlike owned t u → AreAlike owned s u
-  alike-trans s t u h k = record {
-    lines = h.lines ∙ k.lines;
-    held = h.held ∙ k.held;
-    dirty = h.dirty ∙ k.dirty;
-    counts = h.counts ∙ k.counts;
-    values = λ b o. h.values b o ∙ k.values b o;
-    codes = λ b o. h.codes b o ∙ k.codes b o;
-  }
+  alike-trans s t u h k = search rules
 
   own-alike : (s t : State Code) → AreAlike owned s t → HasOwn owned s → HasOwn owned t
-  own-alike s t h own = record {
-    held = λ l b e. own.held l b (ap (λ (g : ℕ → Option ℕ). g l) h.held ∙ e);
-    dirty = λ b e. own.dirty b (ap (λ (g : ℕ → Bool). g b) h.dirty ∙ e);
-  }
+  own-alike s t h own = search rules
 
 own-or-not : {X : Type 0} (v : Held X) (b : ℕ) → Own v b ⊎ (Own v b → ⊥)
-own-or-not v b = by (cases_lt b v.first) (cases_lt b (v.first + v.count))
-  where
-    by : (b < v.first) ⊎ (v.first ≤ b) → (b < v.first + v.count) ⊎ (v.first + v.count ≤ b) → Own v b ⊎ (Own v b → ⊥)
-    by (inl lt) k = inr (λ o. omega (arith, lt, o.0))
-    by (inr ge) (inl lt) = inl (ge, lt)
-    by (inr ge) (inr past) = inr (λ o. omega (arith, past, o.1))
+own-or-not v b = search (rules, cases_lt)
 
 -- a call of view i: the act a
 module _ {X Code : Type 0} (value : X → ℤ) (d : ℕ) (w : Width) (views news : ℕ → Held X) (f g : Format Code) (k j : ℕ → Code) (i : ℕ) (a : Act)
@@ -56,11 +41,7 @@ module _ {X Code : Type 0} (value : X → ℤ) (d : ℕ) (w : Width) (views news
 
   -- which blocks a view owns stays
   own-before : (m b : ℕ) → Own (news m) b → Own (views m) b
-  own-before m b = by (same_or_not m i)
-    where
-      by : (m ≡ i) ⊎ (m ≢ i) → Own (news m) b → Own (views m) b
-      by (inl e) = subst (λ n. Own (news n) b → Own (views n) b) (sym e) (own_before (views i) (news i) kept b)
-      by (inr ne) = subst (λ (v : Held X). Own v b) (others m ne)
+  own-before m b = search (rules, same_or_not, own_before)
 
   codes-stay : (b : ℕ) → (Own (views i) b → ⊥) → j b ≡ k b
   unfolding state_at
@@ -117,12 +98,7 @@ module _ {X Code : Type 0} (value : X → ℤ) (d : ℕ) (w : Width) (views news
         by (inr not) = codes-stay b not ∙ stand.same_codes b ∙ sym (stays w f owns s st b own_all not)
 
     pub stands_for : StandFor value news g j (stepped w f s st)
-    stands_for = record { same_codes = codes-stand; alike = λ m. by m (same_or_not m i) }
-      where
-        by : (m : ℕ) → (m ≡ i) ⊎ (m ≢ i) → AreAlike (Own (news m)) (state value (news m) g j) (state_of_view (stepped w f s st) m)
-        by m (inl e) = subst (λ n. AreAlike (Own (news n)) (state value (news n) g j) (state_of_view (stepped w f s st) n)) (sym e)
-            (alike-of (Own (views i)) (Own (news i)) (state value (news i) g j) (state_of_view (stepped w f s st) i) (own-before i) acts_alike)
-        by m (inr ne) = alike-of (Own (views m)) (Own (news m)) (state value (news m) g j) (state_of_view (stepped w f s st) m) (own-before m) (other_alike m ne)
+    stands_for = search (rules, codes-stand, same_or_not, alike-of, own-before, acts_alike, other_alike)
 
     pub same_answer : answered (state value (news i) g j) a ≡ answered (state_of_view (stepped w f s st) i) a
     same_answer = alike-answered f (Own (views i)) (state value (news i) g j) (state_of_view (stepped w f s st) i) a within acts_alike

@@ -1,5 +1,6 @@
 -- The code of planes, and what a budget keeps of them, plane by plane.
-use Rattle.std.proofs.Common.{◌≡◌, refl, sym, ap, ◌∙◌, ℕ, zero, suc, ◌+◌, ◌-◌, ◌<◌, ◌≤◌, max, Bool, true, false, List, [], ◌∷◌, ◌++◌, map, length, get_or, take, ⊎_elim, arith}
+use Rattle.std.proofs.Common.{rules}
+use Rattle.std.proofs.Common.{◌≡◌, refl, sym, ap, ◌∙◌, ℕ, zero, suc, ◌-◌, ◌<◌, ◌≤◌, max, Bool, true, false, List, [], ◌∷◌, ◌++◌, map, length, get_or, take, ⊎_elim, arith}
 use Rattle.std.proofs.lemmas.Bool.{true≢false, cases_lt, cases_order}
 use Rattle.std.proofs.lemmas.List.{length-append}
 use Rattle.std.specs.List.{flat_map}
@@ -101,13 +102,8 @@ map_same f g (k ∷ ks) same = ap (λ b. b ∷ map f ks) (same k) ∙ ap (λ bs.
 
 pub code-apart : (ps : List (List Bool)) → code ps ≡ flat_map (code_at ps) (upto (length ps))
 unfolding code_after
-code-apart ps =
-    code_from-apart 0 ps
-    ∙ flat_map_same (code_after 0 ps) (code_at ps) (upto (length ps)) (λ k. ap (λ n. plane_code n (get_or ps k [])) (none_above (reach_of_all (take k ps))))
+code-apart ps = search (rules, code_from-apart, flat_map_same, code_after, none_above)
 
 pub kept_planes-apart : (budget : ℕ) (ps : List (List Bool)) → kept_planes budget ps ≡ map (kept_at budget ps) (upto (length ps))
 unfolding kept_after
-kept_planes-apart budget ps =
-    kept_planes_from-apart budget 0 ps
-    ∙ map_same (kept_after budget 0 ps) (kept_at budget ps) (upto (length ps))
-    (λ k. ap (λ n. kept_plane (budget - length (code (take k ps))) n (get_or ps k [])) (none_above (reach_of_all (take k ps))))
+kept_planes-apart budget ps = search (rules, kept_planes_from-apart, map_same, kept_after, none_above)

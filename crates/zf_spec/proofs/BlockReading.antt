@@ -1,11 +1,12 @@
 -- What reading the code of a block gives.
-use Rattle.std.proofs.Common.{◌≡◌, sym, ap, ◌∙◌, ℕ, ◌+◌, ◌-◌, ◌*◌, ◌^◌, ◌<◌, ◌≤◌, min, max, Bool, false, cond, ltb, le-ltb, ℤ, FitsSigned, Some, None, Option, List, ◌++◌, length, take, drop, All, append_assoc, take_at, drop_at, mod-eq_of_lt, mul-le-mul_left, arith}
+use Rattle.std.proofs.Common.{rules}
+use Rattle.std.proofs.Common.{◌≡◌, sym, ap, ◌∙◌, ℕ, ◌+◌, ◌-◌, ◌*◌, ◌^◌, ◌≤◌, min, max, Bool, false, cond, ltb, le-ltb, ℤ, FitsSigned, Some, None, Option, List, ◌++◌, length, take, All, mod-eq_of_lt, mul-le-mul_left, arith}
 use Rattle.std.proofs.lemmas.List.{length-append, length-take}
 use Rattle.std.proofs.lemmas.List.Elements.{All-take}
 use Rattle.std.specs.Int.{Width, w8, w16, w32, w64, w128}
 use Rattle.std.proofs.Math.Nat.{one-le-pow}
 use mir.Val.{bits}
-use Rattle.zf_spec.specs.Numbers.{field, number}
+use Rattle.zf_spec.specs.Numbers.{field}
 use Rattle.zf_spec.specs.Padding.{pad}
 use Rattle.zf_spec.specs.Lorenzo.{lorenzo, unlorenzo}
 use Rattle.zf_spec.specs.Planes.{needed_planes, code}
@@ -43,44 +44,7 @@ read_rev-planes : (w : Width) (es : List ℕ) (qs : List (List Bool)) (more : Li
     → read_rev w es (field (count_bits w) (length qs - 1) ++ code qs ++ more)
     ≡ Some (existing_values es (unlorenzo w (length es) (coefficients_of w (length es) qs)), count_bits w + length (code qs))
 unfolding read_rev
-read_rev-planes w es qs more some few all = ap answer same ∙ ap (λ t. cond t None (Some (read qs, n + length (code qs)))) enough
-  where
-    n : ℕ
-    n = count_bits w
-
-    prefix : List Bool
-    prefix = field (count_bits w) (length qs - 1)
-
-    s : List Bool
-    s = prefix ++ code qs ++ more
-
-    read : List (List Bool) → List ℤ
-    read ps = existing_values es (unlorenzo w (length es) (coefficients_of w (length es) ps))
-
-    answer : List (List Bool) → Option (List ℤ × ℕ)
-    answer ps = cond (ltb (length s) (n + length (code ps))) None (Some (read ps, n + length (code ps)))
-
-    together : s ≡ prefix ++ (code qs ++ more)
-    together = append_assoc prefix (code qs) more
-
-    count : number (take n s) + 1 ≡ length qs
-    count =
-        let prefix_is : take n s ≡ prefix = ap (take n) together ∙ take_at prefix (code qs ++ more) n (length-field n (length qs - 1)) in
-        let small : length qs - 1 < 2 ^ n = omega arith in
-        let value : number prefix ≡ length qs - 1 = number-field n (length qs - 1) ∙ mod-eq_of_lt small in
-        omega (arith, ap number prefix_is, value)
-
-    rest : drop n s ≡ code qs ++ more
-    rest = ap (drop n) together ∙ drop_at prefix (code qs ++ more) n (length-field n (length qs - 1))
-
-    same : planes_in (number (take n s) + 1) (4 ^ length es) (drop n s) ≡ qs
-    same =
-        ap (λ p. planes_in p (4 ^ length es) (drop n s)) count
-        ∙ ap (planes_in (length qs) (4 ^ length es)) rest
-        ∙ sym (full_only (4 ^ length es) qs (code qs ++ more) all (begins_itself (code qs) more))
-
-    enough : ltb (length s) (n + length (code qs)) ≡ false
-    enough = le-ltb (length s) (n + length (code qs)) (omega (arith, length-append (prefix ++ code qs) more, length-append prefix (code qs), length-field n (length qs - 1)))
+read_rev-planes w es qs more some few all = search (rules, length-field, number-field, mod-eq_of_lt, full_only, begins_itself, le-ltb, length-append)
 
 -- the existing values of a block come back from its code, whatever comes after, with the length of the code
 pub read_rev-rev : (w : Width) (es : List ℕ) (block : List ℤ) (more : List Bool) → bits w ≤ 64 → All IsExtent es → All (λ v. FitsSigned w v) block

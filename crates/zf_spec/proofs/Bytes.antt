@@ -1,4 +1,5 @@
 -- Bytes of bits, and the bytes of numbers.
+use Rattle.std.proofs.Common.{rules}
 use Rattle.std.proofs.Common.{◌≡◌, refl, sym, ap, subst, ◌∙◌, ℕ, zero, suc, ◌+◌, ◌-◌, ◌*◌, ◌/◌, ◌%◌, ◌^◌, ◌<◌, ◌≤◌, Bool, false, List, [], ◌∷◌, ◌++◌, length, get_or, take, drop, replicate, All, pow-suc, mod-eq_of_lt, take-append-drop, take_at, drop_at, take_all, take-take, get_or-take, arith}
 use Rattle.std.proofs.Math.Nat.{div-one, div-div-eq-div-mul}
 use Rattle.std.proofs.lemmas.List.{length-append, length-take, length-drop, length-replicate}
@@ -48,9 +49,7 @@ bytes_from-to_bits (b ∷ bytes) all =
 
 -- bytes come back from their bits
 pub to_bytes-to_bits : (bytes : List ℕ) → All (λ b. b < 256) bytes → to_bytes (to_bits bytes) ≡ bytes
-to_bytes-to_bits bytes all =
-    let n : length (to_bits bytes) / 8 ≡ length bytes = omega (arith, length-to_bits bytes) in
-    ap (λ n. bytes_from n (to_bits bytes)) n ∙ bytes_from-to_bits bytes all
+to_bytes-to_bits bytes all = grind (arith, length-to_bits bytes, bytes_from-to_bits bytes all)
 
 -- ---- the fill
 
@@ -75,9 +74,7 @@ filled_zeros bs = ((64 - length bs % 64) % 64, omega arith, refl)
 
 -- the fill is the only one of less than 64 zeros that ends a word
 pub filled_only : (bs : List Bool) (n : ℕ) → n < 64 → (length bs + n) % 64 ≡ 0 → with_fill bs ≡ bs ++ replicate n false
-filled_only bs n h e =
-    let same : (64 - length bs % 64) % 64 ≡ n = omega arith in
-    ap (λ k. bs ++ replicate k false) same
+filled_only bs n h e = search rules
 
 -- ---- the first bytes of bytes that are continued with zeros
 
@@ -136,7 +133,6 @@ low_number-low_bytes : (k n : ℕ) → n < 256 ^ k → low_number (low_bytes k n
 unfolding low_bytes low_number
 low_number-low_bytes zero n h = omega arith
 low_number-low_bytes (suc k) n h =
-    let power = pow-suc 256 k in
     let rest = low_number-low_bytes k (n / 256) (omega arith) in
     omega arith
 
@@ -194,10 +190,7 @@ sum_through-is bs (suc k) l =
     let push = low_number-push prefix (suc k) (length-take (suc (suc k)) bs ∙ omega arith) in
     let less : take (suc k) prefix ≡ take (suc k) bs = take-take (suc k) (suc (suc k)) bs (omega arith) in
     let last : get_or prefix (suc k) 0 ≡ get_or bs (suc k) 0 = get_or-take (suc (suc k)) bs (suc k) 0 (omega arith) in
-    let rest = sum_through-is bs k (omega arith) in
-    ap (λ n. n + get_or bs (suc k) 0 * 256 ^ suc k) (rest ∙ ap low_number (sym less))
-    ∙ ap (λ b. low_number (take (suc k) prefix) + b * 256 ^ suc k) (sym last)
-    ∙ sym push
+    let rest = sum_through-is bs k (omega arith) in search (rules, low_number)
 
 byte_len-some : (w : Width) → suc (byte_len w - 1) ≡ byte_len w
 byte_len-some w8 = refl
@@ -236,11 +229,7 @@ from_le_bytes-to_le_bytes w n h =
     ∙ low_number-low_bytes (byte_len w) n (omega (arith, h, byte_len-bits w))
 
 pub to_le_bytes-from_le_bytes : (w : Width) (bs : List ℕ) → length bs ≡ byte_len w → All (λ b. b < 256) bs → to_le_bytes w (from_le_bytes w bs) ≡ bs
-to_le_bytes-from_le_bytes w bs l all =
-    ap (to_le_bytes w) (from_le_bytes-is w bs l)
-    ∙ to_le_bytes-is w (low_number bs)
-    ∙ ap (λ k. low_bytes k (low_number bs)) (sym l)
-    ∙ low_bytes-low_number bs all
+to_le_bytes-from_le_bytes w bs l all = search (rules, from_le_bytes-is, to_le_bytes-is, low_number, low_bytes, low_bytes-low_number)
 
 pub from_le_bytes_below : (w : Width) (bs : List ℕ) → length bs ≡ byte_len w → All (λ b. b < 256) bs → from_le_bytes w bs < 2 ^ bits w
 from_le_bytes_below w bs l all =

@@ -1,4 +1,5 @@
 -- The numbers from one number on, lists that a function makes of them, and lists of four.
+use Rattle.std.proofs.Common.{rules}
 use Rattle.std.proofs.Common.{◌≡◌, refl, sym, ap, ◌∙◌, ℕ, zero, suc, ◌+◌, ◌-◌, ◌<◌, ◌≤◌, List, [], ◌∷◌, ◌++◌, map, length, get_or, Contains, ext_get_or, arith}
 use Rattle.std.proofs.lemmas.List.{length-map, get_or-map}
 use Rattle.std.proofs.lemmas.List.FromFn.{length-range_with_len, get_or-range_with_len}
@@ -15,10 +16,7 @@ length-count_from k n = ap length (count_from-range k n) ∙ length-range_with_l
 
 -- the numbers from k on begin with k
 pub count_from-below : (k n : ℕ) → k < n → count_from k (n - k) ≡ k ∷ count_from (k + 1) (n - (k + 1))
-count_from-below k n below =
-    let left : n - k ≡ suc (n - (k + 1)) = omega arith in
-    let next : suc k ≡ k + 1 = omega arith in
-    ap (count_from k) left ∙ ap (λ i. k ∷ count_from i (n - (k + 1))) next
+count_from-below k n below = search rules
 
 pub get_or-count_from : (k n i d : ℕ) → i < n → get_or (count_from k n) i d ≡ k + i
 get_or-count_from k n i d h = ap (λ ks. get_or ks i d) (count_from-range k n) ∙ get_or-range_with_len k n i d h
@@ -32,10 +30,7 @@ count_from-add k (suc m) n =
 
 -- what is among the numbers from k on, n of them, lies from k to below k + n
 pub count_from_bounds : (k n q : ℕ) → Contains (count_from k n) q → (k ≤ q) × (q < k + n)
-count_from_bounds k n q (i, h, e) =
-    let small : i < n = omega (arith, h, length-count_from k n) in
-    let at : q ≡ k + i = sym e ∙ get_or-count_from k n i q small in
-    (omega arith, omega arith)
+count_from_bounds k n q (i, h, e) = search (rules, length-count_from, get_or-count_from)
 
 pub Contains-count_from : (k n q : ℕ) → k ≤ q → q < k + n → Contains (count_from k n) q
 Contains-count_from k n q low high =

@@ -1,10 +1,11 @@
 -- A plane that a budget cuts has a code that is too long for the bits that were left, as its whole plane has.
-use Rattle.std.proofs.Common.{◌≡◌, refl, ap, ◌∙◌, ℕ, zero, suc, ◌+◌, ◌-◌, ◌<◌, ◌≤◌, min, max, Bool, true, false, cond, ◌&&◌, ltb, List, [], ◌∷◌, ◌++◌, length, take, drop, All, ⊎_elim, arith}
+use Rattle.std.proofs.Common.{rules}
+use Rattle.std.proofs.Common.{◌≡◌, refl, ap, ◌∙◌, ℕ, zero, suc, ◌-◌, ◌<◌, ◌≤◌, max, Bool, true, false, cond, List, [], ◌∷◌, length, take, All, ⊎_elim, arith}
 use Rattle.std.proofs.lemmas.Bool.{cases_lt}
 use Rattle.std.proofs.lemmas.List.{length-append, length-take, length-drop, length-replicate, take_at, drop_at}
 use Rattle.std.proofs.lemmas.List.Elements.{All-head, All-tail}
 use Rattle.zf_spec.specs.Planes.{has_one, reach, code_from_run, tail, plane_code, code_from, code}
-use Rattle.zf_spec.specs.Kept.{zeros, kept_group, kept_run, kept_tail, cut_plane, kept_plane, kept_planes_from, kept_planes}
+use Rattle.zf_spec.specs.Kept.{zeros, kept_group, kept_run, kept_tail, cut_plane, kept_planes_from, kept_planes}
 use Rattle.zf_spec.proofs.Full.{code_from_run-true, code_from_run-false, tail-some}
 use Rattle.zf_spec.proofs.KeptCases.{kept_tail-one}
 use Rattle.zf_spec.proofs.KeptSame.{kept_whole, kept_cut}
@@ -17,11 +18,7 @@ length-zeros : (ds : List Bool) → length (zeros ds) ≡ length ds
 length-zeros ds = length-replicate (length ds) false
 
 length-kept_group : (left : ℕ) (ds run : List Bool) → length run ≡ length ds → length (kept_group left ds run) ≡ length ds
-length-kept_group left ds run long = by (ltb 0 left && has_one ds)
-  where
-    by : (t : Bool) → length (cond t run (zeros ds)) ≡ length ds
-    by true = long
-    by false = length-zeros ds
+length-kept_group left ds run long = search (rules, length-zeros)
 
 length-kept_run : (behind : ℕ) (ds : List Bool) → length (kept_run behind ds) ≡ length ds
 length-kept_run behind [] = refl
@@ -77,33 +74,7 @@ cut_tail r ds more = cut_tail_of r ds (cut_run ds) more
 -- ---- of a plane
 
 cut_plane_code : (r n : ℕ) (ds : List Bool) → n ≤ length ds → r < length (plane_code n ds) → r < length (plane_code n (cut_plane r n ds))
-cut_plane_code r n ds within more = ⊎_elim
-    (λ few. omega (arith, code, few))
-    (λ enough.
-    let q : min n r ≡ n = omega arith in
-    let behind = ap (λ k. length (tail (kept_tail (r - k) (drop n ds)))) q in
-    let kept = cut_tail (r - n) (drop n ds) (omega (arith, more, whole)) in
-    omega (arith, code, behind, kept))
-    (cases_lt r n)
-  where
-    prefix : List Bool
-    prefix = take (min n r) ds ++ zeros (drop (min n r) (take n ds))
-
-    behind : List Bool
-    behind = kept_tail (r - min n r) (drop n ds)
-
-    long : length (take (min n r) ds ++ zeros (drop (min n r) (take n ds))) ≡ n
-    long = omega (arith, length-append (take (min n r) ds) (zeros (drop (min n r) (take n ds))), length-zeros (drop (min n r) (take n ds)), length-take (min n r) ds, length-drop (min n r) (take n ds), length-take n ds)
-
-    whole : length (plane_code n ds) ≡ n + length (tail (drop n ds))
-    whole = omega (arith, length-append (take n ds) (tail (drop n ds)), length-take n ds)
-
-    code : length (plane_code n (prefix ++ behind)) ≡ n + length (tail (kept_tail (r - min n r) (drop n ds)))
-    code =
-        length-append (take n (prefix ++ behind)) (tail (drop n (prefix ++ behind)))
-        ∙ ap (λ ks. length ks + length (tail (drop n (prefix ++ behind)))) (take_at prefix behind n long)
-        ∙ ap (λ ks. length prefix + length (tail ks)) (drop_at prefix behind n long)
-        ∙ ap (λ k. k + length (tail behind)) long
+cut_plane_code r n ds within more = search (rules, cut_tail, cases_lt, length-append, length-zeros, length-take, length-drop, take_at, drop_at)
 
 -- ---- of planes: where the codes of the top ones are too long for a budget, those of what it keeps are too
 
@@ -117,10 +88,7 @@ planes_cut size r n (ds ∷ ps) (suc m) within all more =
     let rest = take m (kept_planes_from (r - length c) above ps) in
     let long : length ds ≡ size = All-head (λ ds. length ds ≡ size) ds ps all in
     ⊎_elim
-    (λ few.
-    let kept = kept_plane r n ds in
-    let own = ap (λ k. length (plane_code n k)) (kept_cut r n ds few) in
-    omega (arith, length-append (plane_code n kept) (code_from (max n (reach kept)) rest), own, cut_plane_code r n ds (omega (arith, within, long)) few))
+    (search (rules, kept_cut, length-append, cut_plane_code))
     (λ fits.
     let same = ap (λ k. length (code_from n (k ∷ rest))) (kept_whole r n ds fits) in
     let next = planes_cut size (r - length c) above ps m (reach_within size n ds within long) (All-tail (λ ds. length ds ≡ size) ds ps all)

@@ -15,7 +15,6 @@ number-field zero v = sym (mod-one v)
 number-field (suc n) v =
     let split : v % 2 ^ (n + 1) ≡ (v / 2 ^ 1 % 2 ^ n) * 2 ^ 1 + v % 2 ^ 1 = mod-pow-add v n 1 in
     let e : suc n ≡ n + 1 = omega arith in
-    let one : v / 2 ^ 1 ≡ v / 2 = refl in
     let here : number (field (suc n) v) ≡ v % 2 ^ (n + 1) = omega (arith, split, digit_value-is_odd v, number-field n (v / 2)) in
     here ∙ ap (λ k. v % 2 ^ k) (sym e)
 

@@ -1,9 +1,10 @@
 -- How long a file is whose codes all have one length.
-use Rattle.std.proofs.Common.{◌≡◌, ap, ◌∙◌, ℕ, ◌+◌, ◌*◌, Bool, List, [], ◌∷◌, ◌++◌, map, length, arith, suc-mul}
+use Rattle.std.proofs.Common.{rules}
+use Rattle.std.proofs.Common.{◌≡◌, ◌∙◌, ℕ, ◌+◌, ◌*◌, Bool, List, [], ◌∷◌, map, length, arith, suc-mul}
 use Rattle.std.specs.Int.{Width, div_ceil}
 use Rattle.std.specs.List.{flat_map}
 use Rattle.std.proofs.lemmas.List.{length-append}
-use Rattle.zf_spec.specs.Stream.{Mode, header, with_fill, file}
+use Rattle.zf_spec.specs.Stream.{Mode, header, file}
 use Rattle.zf_spec.proofs.Bytes.{length-to_bytes, length-filled_bytes}
 
 -- codes of one length, end to end
@@ -15,8 +16,4 @@ length-codes code n (x ∷ xs) each =
 pub length-file : {X : Type 0} (w : Width) (ns : List ℕ) (mode : Mode) (code : X → List Bool) (n : ℕ) (xs : List X) → ((x : X) → length (code x) ≡ n)
     → length (file w ns mode (map code xs)) ≡ 8 * div_ceil (length (header w ns mode) + length xs * n) 64
 unfolding file
-length-file w ns mode code n xs each =
-    let prefix = header w ns mode in
-    let behind = flat_map (λ c. c) (map code xs) in
-    let bits : length (prefix ++ behind) ≡ length prefix + length xs * n = length-append prefix behind ∙ ap (λ k. length prefix + k) (length-codes code n xs each) in
-    length-to_bytes (with_fill (prefix ++ behind)) ∙ length-filled_bytes (prefix ++ behind) ∙ ap (λ k. 8 * div_ceil k 64) bits
+length-file w ns mode code n xs each = search (rules, length-append, length-codes, length-to_bytes, length-filled_bytes)

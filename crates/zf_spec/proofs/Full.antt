@@ -1,12 +1,13 @@
 -- The only planes whose code begins a list of bits.
-use Rattle.std.proofs.Common.{◌≡◌, refl, sym, ap, subst, ◌∙◌, ℕ, zero, suc, ◌-◌, ◌≤◌, max, Bool, true, false, cond, List, [], ◌∷◌, ◌++◌, length, take, drop, replicate, All, take_at, drop_at, take-append-drop, arith}
+use Rattle.std.proofs.Common.{rules}
+use Rattle.std.proofs.Common.{◌≡◌, refl, sym, ap, subst, ◌∙◌, ℕ, zero, suc, ◌-◌, ◌≤◌, max, Bool, true, false, cond, List, [], ◌∷◌, length, take, drop, replicate, All, take_at, drop_at, take-append-drop, arith}
 use Rattle.std.proofs.lemmas.Bool.{true≢false, false≢true}
 use Rattle.std.proofs.lemmas.List.{length-append, length-take, length-drop, length-replicate}
 use Rattle.std.proofs.lemmas.List.Elements.{All-nil, All-cons, All-head, All-tail}
 use Rattle.zf_spec.specs.Planes.{has_one, reach, group, code_from_run, tail, plane_code, code_from, code}
 use Rattle.zf_spec.specs.ReadPlanes.{Begins, first_bits, group_in, run_in, tail_in, plane_in, planes_in_from, planes_in}
 use Rattle.zf_spec.proofs.Beginnings.{length-first_bits, first_begins, begins_is_first, begins_append, begins_prefix, begins_rest}
-use Rattle.zf_spec.proofs.Reach.{zeros_from_none, reach-le, reach_within}
+use Rattle.zf_spec.proofs.Reach.{zeros_from_none, reach_within}
 use Rattle.zf_spec.proofs.PlaneCode.{tail-zeros}
 
 -- ---- runs and tails
@@ -56,13 +57,9 @@ full_group_begins m (true ∷ s) h run = subst (λ c. Begins c (true ∷ s)) (sy
 pub full_run_begins : (m : ℕ) (s : List Bool) → FullRun (suc m) s
 full_run_begins zero s = (refl, tt)
 full_run_begins (suc m) [] =
-    let rest = full_run_begins m [] in
-    let code = code_from_run-false (run_in (suc m) []) (omega (arith, length-run_in (suc m) [])) in
-    (rest.0, subst (λ c. Begins c []) (sym code) (refl, rest.1))
+    let rest = full_run_begins m [] in search (rules, code_from_run-false, length-run_in)
 full_run_begins (suc m) (false ∷ s) =
-    let rest = full_run_begins m s in
-    let code = code_from_run-false (run_in (suc m) s) (omega (arith, length-run_in (suc m) s)) in
-    (rest.0, subst (λ c. Begins c (false ∷ s)) (sym code) (refl, rest.1))
+    let rest = full_run_begins m s in search (rules, code_from_run-false, length-run_in)
 full_run_begins (suc m) (true ∷ s) =
     let code = code_from_run-true (tail_in (suc m) s) (omega (arith, length-tail_in (suc m) s)) in
     (refl, subst (λ c. Begins c (true ∷ s)) (sym code) (refl, full_group_begins (suc m) s (omega arith) (full_run_begins m)))
@@ -77,18 +74,7 @@ full_tail_begins (suc m) s = full_group_begins (suc m) s (omega arith) (full_run
 
 -- a list whose group begins s, where what is known of its run is a function
 full_group_only : (ds s : List Bool) → ((t : List Bool) → has_one ds ≡ true → Begins (code_from_run ds) t → ds ≡ run_in (length ds) t) → Begins (group ds (code_from_run ds)) s → ds ≡ tail_in (length ds) s
-full_group_only ds s run h = by (has_one ds) refl s h
-  where
-    none : has_one ds ≡ false → ds ≡ replicate (length ds) false
-    none e = zeros_from_none ds e
-
-    by : (t : Bool) → has_one ds ≡ t → (s : List Bool) → Begins (cond t (true ∷ code_from_run ds) (false ∷ [])) s → ds ≡ tail_in (length ds) s
-    by true e [] h = absurd (true≢false h.0)
-    by true e (false ∷ s) h = absurd (true≢false h.0)
-    by true e (true ∷ s) h = run s e h.1
-    by false e [] h = none e
-    by false e (false ∷ s) h = none e
-    by false e (true ∷ s) h = absurd (false≢true h.0)
+full_group_only ds s run h = search (rules, zeros_from_none, true≢false, false≢true)
 
 full_run_only : (ds t : List Bool) → has_one ds ≡ true → Begins (code_from_run ds) t → ds ≡ run_in (length ds) t
 full_run_only [] t e h = absurd (false≢true e)
@@ -117,20 +103,13 @@ full_plane_begins size n s =
     let prefix = first_bits n s in
     let rest = tail_in (size - n) (drop n s) in
     let a = take_at prefix rest n (length-first_bits n s) in
-    let b = drop_at prefix rest n (length-first_bits n s) in
-    let l = length-first_bits n s in
-    let same : plane_code n (prefix ++ rest) ≡ prefix ++ tail rest = ap (λ c. c ++ tail (drop n (prefix ++ rest))) a ∙ ap (λ c. prefix ++ tail c) b in
-    subst (λ c. Begins c s) (sym same) (begins_append prefix (tail rest) s (first_begins n s) (rw l (full_tail_begins (size - n) (drop n s))))
+    let b = drop_at prefix rest n (length-first_bits n s) in search (rules, length-first_bits, begins_append, first_begins, full_tail_begins)
 
 pub full_plane_only : (n : ℕ) (ds s : List Bool) → n ≤ length ds → Begins (plane_code n ds) s → ds ≡ plane_in (length ds) n s
 full_plane_only n ds s h b =
     let l : length (take n ds) ≡ n = omega (arith, length-take n ds) in
     let m : length (drop n ds) ≡ length ds - n = length-drop n ds in
-    let prefix = begins_is_first (take n ds) s (begins_prefix (take n ds) (tail (drop n ds)) s b) ∙ ap (λ k. first_bits k s) l in
-    let rest = full_tail_only (drop n ds) (drop (length (take n ds)) s) (begins_rest (take n ds) (tail (drop n ds)) s b) in
-    sym (take-append-drop n ds)
-    ∙ ap (λ c. c ++ drop n ds) prefix
-    ∙ ap (λ c. first_bits n s ++ c) (rest ∙ ap (λ k. tail_in k (drop (length (take n ds)) s)) m ∙ ap (λ k. tail_in (length ds - n) (drop k s)) l)
+    search (rules, begins_is_first, begins_prefix, full_tail_only, begins_rest, take-append-drop)
 
 pub length-planes_in_from : (p size n : ℕ) (s : List Bool) → length (planes_in_from p size n s) ≡ p
 length-planes_in_from zero size n s = refl

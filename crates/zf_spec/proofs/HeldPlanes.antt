@@ -1,9 +1,10 @@
 -- The digits that planes hold in words.
-use Rattle.std.proofs.Common.{◌≡◌, ℕ, ◌+◌, ◌-◌, ◌*◌, ◌/◌, ◌%◌, ◌^◌, ◌<◌, ◌≤◌, Bool, false, List, [], ◌∷◌, ◌++◌, length, take, get_or, reverse, refl, ap, ◌∙◌, arith}
-use Rattle.std.proofs.lemmas.List.{take_more, get_or-map, get_or-reverse, length-take, length-map, length-reverse, get_or_past}
-use Rattle.zf_spec.specs.Numbers.{is_odd, word_bits}
+use Rattle.std.proofs.Common.{rules}
+use Rattle.std.proofs.Common.{◌≡◌, ℕ, ◌-◌, ◌*◌, ◌<◌, ◌≤◌, Bool, List, [], length, get_or, reverse, refl, ◌∙◌, arith}
+use Rattle.std.proofs.lemmas.List.{get_or-map, get_or-reverse, length-take, length-map, length-reverse}
+use Rattle.zf_spec.specs.Numbers.{word_bits}
 use Rattle.zf_spec.specs.HeldPlanes.{digits_held, planes_held}
-use Rattle.zf_spec.proofs.WordBits.{length-word_bits, get_or-word_bits}
+use Rattle.zf_spec.proofs.WordBits.{length-word_bits}
 
 -- ---- the digits of one plane
 
@@ -25,6 +26,4 @@ length-planes_held size planes = length-map (reverse planes) (digits_held size) 
 pub get_or-planes_held : (size : ℕ) (planes : List (List ℕ)) (i : ℕ) (d : List Bool) → i < length planes
     → get_or (planes_held size planes) i d ≡ digits_held size (get_or planes (length planes - 1 - i) [])
 unfolding planes_held
-get_or-planes_held size planes i d below =
-    get_or-map (digits_held size) (reverse planes) i [] d (omega (arith, length-reverse planes))
-    ∙ ap (digits_held size) (get_or-reverse planes i [] below)
+get_or-planes_held size planes i d below = search (rules, get_or-map, length-reverse, get_or-reverse)

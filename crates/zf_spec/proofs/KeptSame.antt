@@ -1,4 +1,5 @@
 -- What a budget keeps of planes is known from as many bits of their code.
+use Rattle.std.proofs.Common.{rules}
 use Rattle.std.proofs.Common.{◌≡◌, refl, sym, ap, subst, ◌∙◌, ℕ, zero, suc, ◌+◌, ◌-◌, ◌<◌, ◌≤◌, min, max, Bool, true, false, cond, le-leb, List, [], ◌∷◌, ◌++◌, length, take, drop, replicate, All, ◌⊎◌, inl, inr, append_assoc, append-nil, take-take, arith}
 use Rattle.std.proofs.lemmas.Bool.{true≢false, false≢true, cases_lt, lt-leb}
 use Rattle.std.proofs.lemmas.List.{length-append, length-take, length-drop, replicate-append-replicate}
@@ -22,18 +23,7 @@ RunsSame a b = (s : ℕ) → has_one a ≡ true → has_one b ≡ true → first
 
 groups_same : (a b : List Bool) (r : ℕ) → length a ≡ length b → RunsSame a b → first_bits r (group a (code_from_run a)) ≡ first_bits r (group b (code_from_run b)) → kept_tail r a ≡ kept_tail r b
 groups_same a b zero l runs e = zeros_same a b l
-groups_same a b (suc r) l runs e = by (has_one a) (has_one b) refl refl e
-  where
-    n : suc r - 1 ≡ r
-    n = omega arith
-
-    by : (t u : Bool) → has_one a ≡ t → has_one b ≡ u → first_bits (suc r) (cond t (true ∷ code_from_run a) (false ∷ [])) ≡ first_bits (suc r) (cond u (true ∷ code_from_run b) (false ∷ [])) → kept_tail (suc r) a ≡ kept_tail (suc r) b
-    by true true f g e =
-        let rest : first_bits r (code_from_run a) ≡ first_bits r (code_from_run b) = cc in
-        kept_tail-one (suc r) a (omega arith) f ∙ ap (λ s. kept_run s a) n ∙ runs r f g rest ∙ ap (λ s. kept_run s b) (sym n) ∙ sym (kept_tail-one (suc r) b (omega arith) g)
-    by false false f g e = kept_tail-zeros (suc r) a f ∙ zeros_same a b l ∙ sym (kept_tail-zeros (suc r) b g)
-    by true false f g e = let no : true ≡ false = cc in absurd (true≢false no)
-    by false true f g e = let no : false ≡ true = cc in absurd (false≢true no)
+groups_same a b (suc r) l runs e = search (rules, kept_tail-one, kept_tail-zeros, zeros_same, true≢false, false≢true)
 
 runs_same : (a b : List Bool) → length a ≡ length b → RunsSame a b
 runs_same [] [] l s f g e = refl
@@ -128,11 +118,7 @@ kept_cut r n ds h = ap (λ t. cond t ds (cut_plane r n ds)) (lt-leb (length (pla
 -- a plane with a digit has a code
 pub plane_code_some : (n : ℕ) (ds : List Bool) → 1 ≤ length ds → 1 ≤ length (plane_code n ds)
 plane_code_some n [] h = absurd (omega arith)
-plane_code_some zero (d ∷ ds) h = by (has_one (d ∷ ds))
-  where
-    by : (t : Bool) → 1 ≤ length (cond t (true ∷ code_from_run (d ∷ ds)) (false ∷ []))
-    by true = omega arith
-    by false = omega arith
+plane_code_some zero (d ∷ ds) h = search rules
 plane_code_some (suc n) (d ∷ ds) h = omega arith
 
 -- no bit keeps nothing
@@ -144,11 +130,7 @@ kept_planes_from-none size n (ds ∷ ps) some all =
     let none : 0 - length (plane_code n ds) ≡ 0 = omega arith in
     let q : min n 0 ≡ 0 = omega arith in
     let whole : length (take n ds) + length (drop n ds) ≡ size = omega (arith, length-take n ds, length-drop n ds) in
-    let plane : kept_plane 0 n ds ≡ replicate size false =
-    kept_cut 0 n ds (omega arith)
-    ∙ ap (λ q. take q ds ++ zeros (drop q (take n ds)) ++ kept_tail (0 - q) (drop n ds)) q
-    ∙ replicate-append-replicate (length (take n ds)) (length (drop n ds)) false
-    ∙ ap (λ n. replicate n false) whole in
+    let plane : kept_plane 0 n ds ≡ replicate size false = search (rules, kept_cut, replicate-append-replicate) in
     ap (λ es. es ∷ kept_planes_from (0 - length (plane_code n ds)) (max n (reach ds)) ps) plane
     ∙ ap (λ r. replicate size false ∷ kept_planes_from r (max n (reach ds)) ps) none
     ∙ ap (λ ks. replicate size false ∷ ks) (kept_planes_from-none size (max n (reach ds)) ps some (All-tail (λ ds. length ds ≡ size) ds ps all))

@@ -1,5 +1,6 @@
 -- The Lorenzo transform and its inverse undo each other.
-use Rattle.std.proofs.Common.{◌≡◌, refl, sym, ap, ◌∙◌, ℕ, zero, suc, ◌*◌, ◌/◌, ◌%◌, ◌^◌, ◌<◌, ℤ, pos, ◌*ℤ◌, FitsSigned, List, map, length, get_or, All, pow-suc, arith}
+use Rattle.std.proofs.Common.{rules}
+use Rattle.std.proofs.Common.{◌≡◌, refl, sym, ap, ◌∙◌, ℕ, zero, suc, ◌*◌, ◌/◌, ◌%◌, ◌^◌, ◌<◌, ℤ, pos, ◌*ℤ◌, FitsSigned, List, map, length, get_or, All, arith}
 use Rattle.std.proofs.Math.IntN.{*ℤ_comm}
 use Rattle.std.proofs.lemmas.List.Elements.{All-get_or, All-map}
 use Rattle.std.specs.Int.{Width}
@@ -48,18 +49,11 @@ signed_undoes_plain m k h l =
 
 -- two products of two, regrouped
 regroup : (a b c d : ℤ) → (a *ℤ b) *ℤ (c *ℤ d) ≡ (a *ℤ c) *ℤ (b *ℤ d)
-regroup a b c d =
-    *ℤ_assoc a b (c *ℤ d)
-    ∙ ap (λ x. a *ℤ x) (sym (*ℤ_assoc b c d) ∙ ap (λ x. x *ℤ d) (*ℤ_comm b c) ∙ *ℤ_assoc c b d)
-    ∙ sym (*ℤ_assoc a c (b *ℤ d))
+regroup a b c d = search (rules, *ℤ_assoc, *ℤ_comm)
 
 pub weights_undo : (f g : ℕ → ℕ → ℤ) (d m k : ℕ) → Undoes f g → m < 4 ^ d → k < 4 ^ d → total (λ i. weight f d m i *ℤ weight g d i k) 0 (4 ^ d) ≡ same_number m k
-weights_undo f g zero m k undoes p q =
-    let first : m ≡ 0 = omega arith in
-    let second : k ≡ 0 = omega arith in
-    sym (ap (λ m. same_number m k) first ∙ ap (same_number 0) second)
+weights_undo f g zero m k undoes p q = search (rules, same_number)
 weights_undo f g (suc d) m k undoes p q =
-    let power = pow-suc 4 d in
     let count : 4 ^ suc d ≡ 4 * 4 ^ d = omega arith in
     let line : ℕ → ℤ = λ r. f (m % 4) r *ℤ g r (k % 4) in
     let others : ℕ → ℤ = λ a. weight f d (m / 4) a *ℤ weight g d a (k / 4) in

@@ -1,17 +1,15 @@
 -- The order of keys: it is strict, any two keys of one length are in it, and a place is known by its key.
-use Rattle.std.proofs.Common.{◌≡◌, refl, sym, ap, ◌∙◌, ℕ, zero, suc, ◌-◌, ◌/◌, ◌%◌, ◌^◌, ◌<◌, true, false, ◌&&◌, eqb, ltb, eqb-true, ltb-true, lt-ltb, eq-eqb, List, [], ◌∷◌, map, length, ◌⊎◌, inl, inr, ⊎_elim, pow-suc, arith}
+use Rattle.std.proofs.Common.{rules}
+use Rattle.std.proofs.Common.{◌≡◌, refl, sym, ap, ◌∙◌, ℕ, zero, suc, ◌-◌, ◌/◌, ◌%◌, ◌^◌, ◌<◌, true, false, ◌&&◌, eqb, ltb, eqb-true, ltb-true, lt-ltb, eq-eqb, List, [], ◌∷◌, map, length, ◌⊎◌, inl, inr, ⊎_elim, arith}
 use Rattle.std.proofs.lemmas.Bool.{or_cases, and_parts, or_left, or_right, and_from, cases_order, true≢false}
 use Rattle.std.proofs.lemmas.List.{length-map}
-use Rattle.zf_spec.specs.Grid.{coordinates, fours, indices}
+use Rattle.zf_spec.specs.Grid.{indices}
 use Rattle.zf_spec.specs.Ranks.{key, comes_before}
 use Rattle.zf_spec.proofs.Raster.{length-indices}
 
 -- what it is that one key comes before another
 comes_before_cases : (a b : ℕ) (as' bs : List ℕ) → comes_before (a ∷ as') (b ∷ bs) ≡ true → (a < b) ⊎ ((a ≡ b) × (comes_before as' bs ≡ true))
-comes_before_cases a b as' bs h = ⊎_elim
-    (λ e. inl (ltb-true a b e))
-    (λ e. let both = and_parts (eqb a b) (comes_before as' bs) e in inr (eqb-true a b both.0, both.1))
-    (or_cases (ltb a b) (eqb a b && comes_before as' bs) h)
+comes_before_cases a b as' bs h = search (rules, ltb-true, and_parts, eqb-true, or_cases)
 
 comes_before_less : (a b : ℕ) (as' bs : List ℕ) → a < b → comes_before (a ∷ as') (b ∷ bs) ≡ true
 comes_before_less a b as' bs h = or_left (ltb a b) (eqb a b && comes_before as' bs) (lt-ltb a b h)
@@ -57,7 +55,6 @@ length-key d p = ap (λ n. suc (suc n)) (length-map (indices d p) (λ i. 3 - i) 
 place_from_indices : (d p q : ℕ) → p < 4 ^ d → q < 4 ^ d → map (λ i. 3 - i) (indices d p) ≡ map (λ i. 3 - i) (indices d q) → p ≡ q
 place_from_indices zero p q f g e = omega arith
 place_from_indices (suc d) p q f g e =
-    let power = pow-suc 4 d in
     let first : 3 - p % 4 ≡ 3 - q % 4 = cc in
     let others : map (λ i. 3 - i) (indices d (p / 4)) ≡ map (λ i. 3 - i) (indices d (q / 4)) = cc in
     let rest = place_from_indices d (p / 4) (q / 4) (omega arith) (omega arith) others in
@@ -68,7 +65,4 @@ place_from_key d p q f g e = place_from_indices d p q f g (cc)
 
 -- of two places one comes before the other
 pub places_total : (d p q : ℕ) → p < 4 ^ d → q < 4 ^ d → (p ≡ q → ⊥) → comes_before (key d p) (key d q) ≡ false → comes_before (key d q) (key d p) ≡ true
-places_total d p q f g apart h = ⊎_elim
-    (λ same. absurd (apart (place_from_key d p q f g same)))
-    (⊎_elim (λ e. absurd (true≢false (sym e ∙ h))) (λ e. e))
-    (comes_before_total (key d p) (key d q) (length-key d p ∙ sym (length-key d q)))
+places_total d p q f g apart h = search (rules, place_from_key, true≢false, comes_before_total, length-key)

@@ -1,8 +1,9 @@
 -- The padded block and the values that exist.
-use Rattle.std.proofs.Common.{◌≡◌, refl, sym, ap, subst, ◌∙◌, ℕ, zero, suc, ◌+◌, ◌*◌, ◌/◌, ◌%◌, ◌^◌, ◌<◌, ◌≤◌, Bool, true, false, cond, ltb, ltb-true, lt-ltb, ℤ, pos, FitsSigned, List, [], ◌∷◌, length, get_or, All, ⊎_elim, pow-suc, arith}
+use Rattle.std.proofs.Common.{rules}
+use Rattle.std.proofs.Common.{◌≡◌, refl, sym, ap, subst, ◌∙◌, ℕ, zero, suc, ◌+◌, ◌*◌, ◌/◌, ◌%◌, ◌^◌, ◌<◌, ◌≤◌, true, cond, ltb, ltb-true, lt-ltb, ℤ, pos, FitsSigned, List, [], ◌∷◌, length, get_or, All, pow-suc, arith}
 use Rattle.std.proofs.lemmas.Bool.{and_from, and_parts, cases_lt}
 use Rattle.std.proofs.lemmas.List.{get_or_past}
-use Rattle.std.proofs.lemmas.List.Elements.{All-head, All-tail, All-get_or, All-from_get_or}
+use Rattle.std.proofs.lemmas.List.Elements.{All-head, All-tail, All-from_get_or}
 use Rattle.std.specs.Int.{Width}
 use Rattle.zf_spec.specs.Grid.{indices, is_inside}
 use Rattle.zf_spec.specs.Padding.{sources, source_place, pad}
@@ -110,13 +111,7 @@ get_or-existing_inside es block p h i = get_or-existing_values es block p h ∙ 
 -- blocks that agree at the places that exist have the same existing values
 pub existing_same : (es : List ℕ) (a b : List ℤ) → ((p : ℕ) → p < 4 ^ length es → is_inside es (indices (length es) p) ≡ true → get_or a p (pos 0) ≡ get_or b p (pos 0)) → existing_values es a ≡ existing_values es b
 unfolding existing_values
-existing_same es a b same = map-upto_same
-    (λ p. cond (is_inside es (indices (length es) p)) (get_or a p (pos 0)) (pos 0)) (λ p. cond (is_inside es (indices (length es) p)) (get_or b p (pos 0)) (pos 0)) (4 ^ length es)
-    (λ p h. by p (is_inside es (indices (length es) p)) (same p h))
-  where
-    by : (p : ℕ) (t : Bool) → (t ≡ true → get_or a p (pos 0) ≡ get_or b p (pos 0)) → cond t (get_or a p (pos 0)) (pos 0) ≡ cond t (get_or b p (pos 0)) (pos 0)
-    by p true f = f refl
-    by p false f = refl
+existing_same es a b same = search (rules, map-upto_same)
 
 -- the values that exist are those of the block
 pub existing_values-pad : (es : List ℕ) (block : List ℤ) → All IsExtent es → existing_values es (pad es block) ≡ existing_values es block
@@ -128,9 +123,7 @@ existing_values-existing_values es block = existing_same es (existing_values es 
 -- the padded block looks at existing values only
 pub pad-existing_values : (es : List ℕ) (block : List ℤ) → All IsExtent es → pad es (existing_values es block) ≡ pad es block
 unfolding pad
-pad-existing_values es block ok = map-upto_same
-    (λ p. get_or (existing_values es block) (source_place es p) (pos 0)) (λ p. get_or block (source_place es p) (pos 0)) (4 ^ length es)
-    (λ p h. get_or-existing_inside es block (source_place es p) (source_place_below es p ok) (source_place_inside es p ok))
+pad-existing_values es block ok = search (rules, map-upto_same, get_or-existing_inside, source_place_below, source_place_inside)
 
 pub pad_same : (es : List ℕ) (a b : List ℤ) → All IsExtent es → existing_values es a ≡ existing_values es b → pad es a ≡ pad es b
 pad_same es a b ok e = sym (pad-existing_values es a ok) ∙ ap (pad es) e ∙ pad-existing_values es b ok
@@ -138,10 +131,7 @@ pad_same es a b ok e = sym (pad-existing_values es a ok) ∙ ap (pad es) e ∙ p
 -- ---- what holds of each value of the block, and of 0
 
 pub get_or_all : (P : ℤ → Type 0) (vs : List ℤ) (k : ℕ) → P (pos 0) → All P vs → P (get_or vs k (pos 0))
-get_or_all P vs k z all = ⊎_elim
-    (λ l. All-get_or P vs k (pos 0) l all)
-    (λ l. subst P (sym (get_or_past vs k (pos 0) l)) z)
-    (cases_lt k (length vs))
+get_or_all P vs k z all = search (rules, get_or_past, cases_lt)
 
 pub All-pad : (P : ℤ → Type 0) (es : List ℕ) (block : List ℤ) → P (pos 0) → All P block → All P (pad es block)
 All-pad P es block z all =

@@ -1,4 +1,5 @@
 -- The code of a plane: the cases of its tail, and how long the code of planes is at most.
+use Rattle.std.proofs.Common.{rules}
 use Rattle.std.proofs.Common.{◌≡◌, refl, sym, ap, ◌∙◌, ℕ, zero, suc, ◌+◌, ◌-◌, ◌*◌, ◌≤◌, max, Bool, true, false, cond, List, [], ◌∷◌, ◌++◌, length, take, drop, replicate, All, arith}
 use Rattle.std.proofs.lemmas.Bool.{true≢false}
 use Rattle.std.proofs.lemmas.List.{length-append, length-take, length-drop}
@@ -37,11 +38,7 @@ tail-last j = tail_some j [] ∙ ap (λ ds. true ∷ ds) (code_from_run-last j)
 -- ---- how long codes are at most
 
 group_bound : (ds run : List Bool) → 1 ≤ length ds → (has_one ds ≡ true → 1 + length run ≤ length ds + reach ds) → length (group ds run) ≤ length ds + reach ds
-group_bound ds run h f = by (has_one ds) refl
-  where
-    by : (t : Bool) → has_one ds ≡ t → length (cond t (true ∷ run) (false ∷ [])) ≤ length ds + reach ds
-    by true e = let bound = f e in omega arith
-    by false e = omega arith
+group_bound ds run h f = search rules
 
 in_run_bound : (ds : List Bool) → has_one ds ≡ true → 1 + length (code_from_run ds) ≤ length ds + reach ds
 in_run_bound [] h = absurd (true≢false (sym h))
@@ -59,15 +56,7 @@ length-tail-le (d ∷ ds) = group_bound (d ∷ ds) (code_from_run (d ∷ ds)) (o
 
 -- past the first digit the reach is one less
 reach-rest : (d : Bool) (ds : List Bool) → reach ds ≤ reach (d ∷ ds) - 1
-reach-rest d ds = by (has_one ds) refl
-  where
-    some : (d : Bool) → has_one ds ≡ true → has_one (d ∷ ds) ≡ true
-    some true e = refl
-    some false e = e
-
-    by : (t : Bool) → has_one ds ≡ t → reach ds ≤ reach (d ∷ ds) - 1
-    by true e = omega (arith, reach_some d ds (some d e))
-    by false e = omega (arith, reach_none ds e)
+reach-rest d ds = search (rules, reach_some, reach_none)
 
 pub reach-drop-le : (n : ℕ) (ds : List Bool) → reach (drop n ds) ≤ reach ds - n
 reach-drop-le zero ds = omega arith

@@ -1,19 +1,20 @@
 -- Planes and the coefficients that they are the digits of.
-use Rattle.std.proofs.Common.{◌≡◌, refl, sym, ap, subst, ◌∙◌, ℕ, zero, suc, ◌-◌, ◌^◌, ◌<◌, ◌≤◌, max, Bool, false, ℤ, pos, FitsSigned, List, [], ◌∷◌, ◌++◌, map, reverse, length, get_or, take, replicate, All, ext_get_or, ⊎_elim, get_or-take, arith}
+use Rattle.std.proofs.Common.{rules}
+use Rattle.std.proofs.Common.{◌≡◌, refl, sym, ap, ◌∙◌, ℕ, zero, suc, ◌-◌, ◌^◌, ◌<◌, ◌≤◌, max, Bool, false, ℤ, pos, FitsSigned, List, [], ◌∷◌, ◌++◌, map, reverse, length, get_or, take, replicate, All, ext_get_or, ⊎_elim, get_or-take, arith}
 use Rattle.std.proofs.lemmas.Bool.{cases_lt}
 use Rattle.std.proofs.lemmas.List.{length-map, get_or-map, get_or_past, length-reverse, get_or-reverse, length-append, length-replicate, get_or-replicate, get_or_append_left, get_or-append_right, length-take}
 use Rattle.std.proofs.lemmas.Simd.{map-map}
-use Rattle.std.proofs.lemmas.List.Elements.{All-get_or, All-from_get_or, All-append, All-replicate}
+use Rattle.std.proofs.lemmas.List.Elements.{All-get_or, All-append, All-replicate}
 use Rattle.std.specs.Int.{Width}
 use mir.Val.{bits}
 use Rattle.zf_spec.specs.Numbers.{digits, value_of}
 use Rattle.zf_spec.specs.Grid.{upto}
-use Rattle.zf_spec.specs.Ranks.{order, by_rank, by_place}
+use Rattle.zf_spec.specs.Ranks.{by_rank, by_place}
 use Rattle.zf_spec.specs.Planes.{plane, planes_of, digits_in_planes, needed_planes}
 use Rattle.zf_spec.specs.Codes.{planes, coefficients_of}
 use Rattle.zf_spec.proofs.Counting.{length-upto, get_or-upto, length-map-upto, get_or-map-upto, from_places, map-upto_same}
-use Rattle.zf_spec.proofs.Negabinary.{length-digits, value_of-digits, digits-value_of, value_of_fits}
-use Rattle.zf_spec.proofs.Ranking.{order_below, length-by_rank, length-by_place, get_or-by_rank, get_or-by_place, rank_of, rank_of_below, by_place-by_rank, by_rank-by_place}
+use Rattle.zf_spec.proofs.Negabinary.{length-digits, value_of-digits, digits-value_of}
+use Rattle.zf_spec.proofs.Ranking.{order_below, length-by_rank, length-by_place, get_or-by_rank, by_place-by_rank, by_rank-by_place}
 use Rattle.zf_spec.proofs.Reach.{none_at, none_past_used}
 
 -- ---- the numbers below n, the greatest first
@@ -22,9 +23,7 @@ length-reverse-upto : (n : ℕ) → length (reverse (upto n)) ≡ n
 length-reverse-upto n = length-reverse (upto n) ∙ length-upto n
 
 get_or-reverse-upto : (n k d : ℕ) → k < n → get_or (reverse (upto n)) k d ≡ n - 1 - k
-get_or-reverse-upto n k d h =
-    let l = length-upto n in
-    get_or-reverse (upto n) k d (omega (arith, h, l)) ∙ ap (λ m. get_or (upto n) (m - 1 - k) d) l ∙ get_or-upto n (n - 1 - k) d (omega arith)
+get_or-reverse-upto n k d h = search (rules, length-upto, get_or-reverse, get_or-upto)
 
 pub length-map-reverse-upto : {X : Type 0} (f : ℕ → X) (n : ℕ) → length (map f (reverse (upto n))) ≡ n
 length-map-reverse-upto f n = length-map (reverse (upto n)) f ∙ length-reverse-upto n
@@ -54,9 +53,7 @@ get_or-planes_of w coefficients k h = get_or-map-reverse-upto (λ k. plane k coe
 
 -- each plane has a digit of each coefficient
 pub planes_of-length : (w : ℕ) (coefficients : List (List Bool)) → All (λ ds. length ds ≡ length coefficients) (planes_of w coefficients)
-planes_of-length w coefficients k d h =
-    let small : k < w = omega (arith, h, length-planes_of w coefficients) in
-    ap length (get_or-map-reverse-upto (λ k. plane k coefficients) w k d small) ∙ length-map coefficients (λ ds. get_or ds (w - 1 - k) false)
+planes_of-length w coefficients k d h = search (rules, length-planes_of, get_or-map-reverse-upto, length-map)
 
 -- digit r of plane k is a digit of coefficient r
 pub get_or-plane : (k : ℕ) (coefficients : List (List Bool)) (r : ℕ) → get_or (plane k coefficients) r false ≡ get_or (get_or coefficients r []) k false
@@ -89,18 +86,7 @@ digits_at-planes_of w coefficients r l =
 
 -- planes that have no one may be missing at the end
 pub digits_at-take : (w n : ℕ) (planes : List (List Bool)) (r : ℕ) → needed_planes planes ≤ n → digits_at w (take n planes) r ≡ digits_at w planes r
-digits_at-take w n planes r h =
-    let e = length-digits_at w (take n planes) r in
-    ext_get_or false (digits_at w (take n planes) r) (digits_at w planes r) (e ∙ sym (length-digits_at w planes r))
-    (λ i s.
-    let small : i < w = omega (arith, s, e) in
-    get_or-digits_at w (take n planes) r i small ∙ at (w - 1 - i) ∙ sym (get_or-digits_at w planes r i small))
-  where
-    at : (k : ℕ) → get_or (get_or (take n planes) k []) r false ≡ get_or (get_or planes k []) r false
-    at k = ⊎_elim
-        (λ l. ap (λ ds. get_or ds r false) (get_or-take n planes k [] l))
-        (λ l. ap (λ ds. get_or ds r false) (get_or_past (take n planes) k [] (omega (arith, length-take n planes))) ∙ sym (none_at (get_or planes k []) r (none_past_used planes k (omega arith))))
-        (cases_lt k n)
+digits_at-take w n planes r h = search (rules, length-digits_at, get_or-digits_at, get_or-take, get_or_past, length-take, none_at, none_past_used, cases_lt)
 
 -- ---- planes and coefficients of a block
 
@@ -139,18 +125,12 @@ coefficients_of-planes w d c l fits =
     let vs = by_rank d c in
     let same : values_by_rank w d (planes w d c) ≡ vs =
     from_places (λ r. value_of w (digits_at (bits w) (planes w d c) r)) (4 ^ d) (pos 0) vs (length-by_rank d c)
-    (λ r h.
-    let fit = All-get_or (λ v. FitsSigned w v) c (get_or (order d) r 0) (pos 0) (omega (arith, l, order_below d r h)) fits in
-    let at = get_or-by_rank d c r h in
-    sym (ap (value_of w) (digits_at-planes w vs r (omega (arith, h, length-by_rank d c)) ∙ ap (digits (bits w)) at) ∙ value_of-digits w (get_or c (get_or (order d) r 0) (pos 0)) fit ∙ sym at)) in
+    (search (rules, order_below, get_or-by_rank, digits_at-planes, length-by_rank, value_of-digits)) in
     coefficients_of-is w d (planes w d c) ∙ ap (by_place d) same ∙ by_place-by_rank d c l
 
 -- planes that have no one may be missing below
 pub coefficients_of-take : (w : Width) (d n : ℕ) (ps : List (List Bool)) → needed_planes ps ≤ n → coefficients_of w d (take n ps) ≡ coefficients_of w d ps
-coefficients_of-take w d n ps h =
-    coefficients_of-is w d (take n ps)
-    ∙ ap (by_place d) (map-upto_same (λ r. value_of w (digits_at (bits w) (take n ps) r)) (λ r. value_of w (digits_at (bits w) ps r)) (4 ^ d) (λ r k. ap (value_of w) (digits_at-take (bits w) n ps r h)))
-    ∙ sym (coefficients_of-is w d ps)
+coefficients_of-take w d n ps h = search (rules, coefficients_of-is, map-upto_same, digits_at-take)
 
 pub coefficients_of-needed_planes : (w : Width) (d : ℕ) (c : List ℤ) → length c ≡ 4 ^ d → All (λ v. FitsSigned w v) c → coefficients_of w d (take (max 1 (needed_planes (planes w d c))) (planes w d c)) ≡ c
 coefficients_of-needed_planes w d c l fits = coefficients_of-take w d (max 1 (needed_planes (planes w d c))) (planes w d c) (omega arith) ∙ coefficients_of-planes w d c l fits
@@ -195,10 +175,7 @@ planes-coefficients_of w d ps few all =
     there : (k r : ℕ) → k < bits w → r < 4 ^ d → get_or (get_or (ps ++ missing) k []) r false ≡ get_or (get_or ps k []) r false
     there k r h g = ⊎_elim
         (λ l. ap (λ ds. get_or ds r false) (get_or_append_left ps missing [] k l))
-        (λ l.
-        ap (λ ds. get_or ds r false) (get_or-append_right ps missing (length ps) k [] refl l ∙ get_or-replicate (bits w - length ps) (k - length ps) (replicate (4 ^ d) false) [] (omega arith))
-        ∙ get_or-replicate (4 ^ d) r false false g
-        ∙ sym (ap (λ ds. get_or ds r false) (get_or_past ps k [] l)))
+        (search (rules, get_or-append_right, get_or-replicate, get_or_past))
         (cases_lt k (length ps))
 
     plane_length : (k : ℕ) → k < bits w → length (get_or (ps ++ missing) k []) ≡ 4 ^ d

@@ -1,4 +1,5 @@
 -- The place of each rank and the rank of each place, and a block by rank and by place.
+use Rattle.std.proofs.Common.{rules}
 use Rattle.std.proofs.Common.{◌≡◌, refl, sym, ap, ◌∙◌, ℕ, zero, suc, ◌+◌, ◌^◌, ◌<◌, ◌≤◌, Bool, true, false, cond, not, eqb, eqb-true, ℤ, pos, List, [], ◌∷◌, length, get_or, ◌⊎◌, ⊎_elim, Contains, ext_get_or, arith}
 use Rattle.std.proofs.lemmas.Bool.{eqb-false}
 use Rattle.std.proofs.lemmas.List.{length-map, get_or-map}
@@ -29,11 +30,7 @@ position_of p (q ∷ ps) h = by (eqb q p) refl (contains_cases q p ps h) (positi
 -- nothing before the first place is p
 pub position_first : (p : ℕ) (ps : List ℕ) (k : ℕ) → k < length ps → get_or ps k 0 ≡ p → position_or_len (λ q. eqb q p) ps ≤ k
 position_first p [] k h e = absurd (omega arith)
-position_first p (q ∷ ps) zero h e = by (eqb q p) refl
-  where
-    by : (t : Bool) → eqb q p ≡ t → cond (not t) (1 + position_or_len (λ q. eqb q p) ps) 0 ≤ 0
-    by true f = omega arith
-    by false f = absurd (eqb-false q p f e)
+position_first p (q ∷ ps) zero h e = search (rules, eqb-false)
 position_first p (q ∷ ps) (suc k) h e = by (eqb q p) (position_first p ps k (omega arith) e)
   where
     by : (t : Bool) → position_or_len (λ q. eqb q p) ps ≤ k → cond (not t) (1 + position_or_len (λ q. eqb q p) ps) 0 ≤ suc k

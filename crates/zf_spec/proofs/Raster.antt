@@ -3,7 +3,7 @@ use Rattle.std.proofs.Common.{◌≡◌, refl, ap, ◌∙◌, ℕ, zero, suc, �
 use Rattle.std.proofs.Math.Nat.{add-mul-mod_self_left, add-mul-div_left, div-eq_of_lt}
 use Rattle.std.proofs.lemmas.Bool.{and_from, and_parts}
 use Rattle.std.proofs.lemmas.Nat.{div_below}
-use Rattle.std.proofs.lemmas.List.Elements.{All-head, All-tail, All-nil, All-cons}
+use Rattle.std.proofs.lemmas.List.Elements.{All-head, All-tail}
 use Rattle.zf_spec.specs.Grid.{product, coordinates, raster, is_inside, extents, fours, indices}
 
 pub product-fours : (d : ℕ) → product (fours d) ≡ 4 ^ d
@@ -67,6 +67,4 @@ raster_below [] (p ∷ ps) l h = cc
 raster_below (n ∷ ns) [] l h = cc
 raster_below (n ∷ ns) (p ∷ ps) l h =
     let parts = and_parts (ltb p n) (is_inside ns ps) h in
-    let small : p < n = ltb-true p n parts.0 in
-    let rest : suc (raster ns ps) ≤ product ns = raster_below ns ps (omega arith) parts.1 in
-    omega (arith, small, mul-le-mul_left n rest)
+    omega (arith, ltb-true p n parts.0, mul-le-mul_left n (raster_below ns ps (omega arith) parts.1))

@@ -1,4 +1,5 @@
 -- Values and their raw bytes, and the length of the header.
+use Rattle.std.proofs.Common.{rules}
 use Rattle.std.proofs.Common.{◌≡◌, refl, sym, ap, ◌∙◌, ℕ, zero, suc, ◌+◌, ◌-◌, ◌*◌, ◌/◌, ◌^◌, ◌<◌, ◌≤◌, cond, le-leb, ℤ, pos, negsuc, FitsSigned, List, [], ◌∷◌, ◌++◌, length, drop, flat_map, All, drop_at, suc-mul, arith}
 use Rattle.std.proofs.lemmas.Int.{of_z-to_z, to_z-of_z}
 use Rattle.std.proofs.lemmas.Bool.{lt-leb}
@@ -68,12 +69,7 @@ raw-values_from w zero s all = let none : 0 ≡ 0 * byte_len w = omega arith in 
 raw-values_from w (suc n) s all =
     let k = byte_len w in
     let here = bytes_of_value w (first_bytes k s) (length-first_bytes k s) (All-first_bytes k s all) in
-    let rest = raw-values_from w n (drop k s) (All-drop (λ b. b < 256) k s all) in
-    let more : k + n * k ≡ suc n * k = omega (arith, suc-mul n k) in
-    ap (λ bs. bs ++ raw w (values_from w n (drop k s))) here
-    ∙ ap (λ bs. first_bytes k s ++ bs) rest
-    ∙ sym (first_bytes-add k (n * k) s)
-    ∙ ap (λ m. first_bytes m s) more
+    let rest = raw-values_from w n (drop k s) (All-drop (λ b. b < 256) k s all) in search (rules, suc-mul, first_bytes-add)
 
 -- ---- the header
 

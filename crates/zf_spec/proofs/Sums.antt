@@ -1,5 +1,6 @@
 -- Sums of whole numbers over the numbers from one number on.
-use Rattle.std.proofs.Common.{◌≡◌, refl, sym, ap, ◌∙◌, ℕ, zero, suc, ◌+◌, ◌*◌, ◌/◌, ◌%◌, ◌<◌, ◌≤◌, cond, eqb, eq-eqb, ne_eqb, ℤ, pos, ◌+ℤ◌, ◌*ℤ◌, map, ◌⊎◌, inl, inr, ⊎_elim, arith}
+use Rattle.std.proofs.Common.{rules}
+use Rattle.std.proofs.Common.{◌≡◌, refl, sym, ap, ◌∙◌, ℕ, zero, suc, ◌+◌, ◌*◌, ◌/◌, ◌%◌, ◌<◌, ◌≤◌, cond, eqb, eq-eqb, ne_eqb, ℤ, pos, ◌+ℤ◌, ◌*ℤ◌, map, ◌⊎◌, inl, inr, arith}
 use Rattle.std.proofs.Math.IntN.{zero-*ℤ, *ℤ-zero, +ℤ_idl}
 use Rattle.std.proofs.lemmas.Bool.{cases_eq}
 use Rattle.std.proofs.lemmas.Int.{ints}
@@ -52,10 +53,7 @@ total_fours h k (suc n) =
     let f : ℕ → ℤ = λ i. h (i % 4) (i / 4) in
     let count : 4 * suc n ≡ suc (suc (suc (suc (4 * n)))) = omega arith in
     let from : suc (suc (suc (suc (4 * k)))) ≡ 4 * suc k = omega arith in
-    let at : (r i : ℕ) → r < 4 → i ≡ 4 * k + r → f i ≡ h r k = λ r i l e.
-    let low : i % 4 ≡ r = omega arith in
-    let high : i / 4 ≡ k = omega arith in
-    ap (λ a. h a (i / 4)) low ∙ ap (h r) high in
+    let at : (r i : ℕ) → r < 4 → i ≡ 4 * k + r → f i ≡ h r k = search rules in
     let a = at 0 (4 * k) (omega arith) (omega arith) in
     let b = at 1 (suc (4 * k)) (omega arith) (omega arith) in
     let c = at 2 (suc (suc (4 * k))) (omega arith) (omega arith) in
@@ -76,13 +74,7 @@ same_number-no m k h = ap (λ t. cond t (pos 1) (pos 0)) (ne_eqb m k h)
 
 -- two numbers are equal where their digits in base 4 are
 pub same_number-fours : (m k : ℕ) → same_number (m % 4) (k % 4) *ℤ same_number (m / 4) (k / 4) ≡ same_number m k
-same_number-fours m k = ⊎_elim
-    (λ e. ⊎_elim
-    (λ f. ap (λ x. x *ℤ same_number (m / 4) (k / 4)) (same_number-yes (m % 4) (k % 4) e) ∙ ap (λ x. pos 1 *ℤ x) (same_number-yes (m / 4) (k / 4) f) ∙ sym (same_number-yes m k (omega arith)))
-    (λ f. ap (λ x. same_number (m % 4) (k % 4) *ℤ x) (same_number-no (m / 4) (k / 4) f) ∙ *ℤ-zero (same_number (m % 4) (k % 4)) ∙ sym (same_number-no m k (λ same. f (ap (λ n. n / 4) same))))
-    (cases_eq (m / 4) (k / 4)))
-    (λ e. ap (λ x. x *ℤ same_number (m / 4) (k / 4)) (same_number-no (m % 4) (k % 4) e) ∙ zero-*ℤ (same_number (m / 4) (k / 4)) ∙ sym (same_number-no m k (λ same. e (ap (λ n. n % 4) same))))
-    (cases_eq (m % 4) (k % 4))
+same_number-fours m k = search (rules, same_number-yes, same_number-no, *ℤ-zero, cases_eq, zero-*ℤ)
 
 -- of a sum with these weights one term is left
 one_term_none : (m : ℕ) (b : ℕ → ℤ) (k n : ℕ) → m < k → total (λ i. same_number m i *ℤ b i) k n ≡ pos 0

@@ -1,20 +1,19 @@
 -- What an answer says of the input.
-use Rattle.std.proofs.Common.{◌≡◌, sym, ap, subst, ◌∙◌, ℕ, ◌⊎◌, inl, inr, ⊎_elim, List, [], ◌++◌, Option, Some, None, Result, Ok, Err}
-use Rattle.std.specs.Prelude.{IfErr, OnOk, OnErr, IsErrAnd}
+use Rattle.std.proofs.Common.{rules}
+use Rattle.std.proofs.Common.{◌≡◌, sym, ap, ◌∙◌, ℕ, inl, inr, List, [], ◌++◌, Option, Some, None, Result, Ok, Err}
+use Rattle.std.specs.Prelude.{IfErr, OnOk, OnErr}
 use Rattle.zf_dev.specs.Source.{Takes, Gives, IsAtEnd}
 use Rattle.zf_dev.proofs.Taking.{Takes-none, Takes-to_end}
 use Rattle.zf_dev.proofs.Giving.{Gives-none, Gives-from}
 use Rattle.zf_dev.proofs.Appending.{AppendsPrefix-none}
 use Rattle.zf_parse.specs.declared.fault.StreamFault.{StreamFault}
 use Rattle.zf_parse.specs.declared.fault.StreamFault.TheVariants.{Write, Memory}
-use Rattle.zf_stream.specs.Outcomes.{Answers, IsRefusal, IsFromOutside, LeavesPrefix, WritesText, WritesPrefix}
+use Rattle.zf_stream.specs.Outcomes.{Answers, IsRefusal, LeavesPrefix, WritesText, WritesPrefix}
 
 -- a refusal is an answer
 pub answer_of_refusal : (r : Result (Unit {0}) StreamFault) (e : StreamFault) (known : Option (List ℕ)) (answer : List ℕ → Result (Unit {0}) StreamFault) → r ≡ Err e → IsRefusal known answer e → Answers r known answer
 answer_of_refusal r e None answer is refusal = tt
-answer_of_refusal r e (Some input) answer is refusal =
-    let P : Result (Unit {0}) StreamFault → Type 0 = λ q. (q ≡ answer input) ⊎ IsErrAnd q IsFromOutside in
-    subst P (sym is) (⊎_elim (λ same. inl (sym same)) (λ outside. inr outside) refusal)
+answer_of_refusal r e (Some input) answer is refusal = search rules
 
 -- a good input is answered so, unless the sink fails
 pub answer_at_end : (r : Result (Unit {0}) StreamFault) (known now : Option (List ℕ)) (answer : List ℕ → Result (Unit {0}) StreamFault) (bytes : List ℕ) → IfErr r (λ e. e ≡ Write) → Takes known now bytes → IsAtEnd now
@@ -30,9 +29,7 @@ after_err (Err e) p f = f p
 -- out of memory is an answer
 pub answer_of_memory : (r : Result (Unit {0}) StreamFault) (e : StreamFault) (known : Option (List ℕ)) (answer : List ℕ → Result (Unit {0}) StreamFault) → r ≡ Err e → e ≡ Memory → Answers r known answer
 answer_of_memory r e None answer is memory = tt
-answer_of_memory r e (Some input) answer is memory =
-    let P : Result (Unit {0}) StreamFault → Type 0 = λ q. (q ≡ answer input) ⊎ IsErrAnd q IsFromOutside in
-    subst P (sym is) (inr (inr (inr memory)))
+answer_of_memory r e (Some input) answer is memory = search rules
 
 -- nothing was read, and nothing written
 pub nothing_left : (text : List ℕ → List ℕ) (src out : Option (List ℕ)) → LeavesPrefix text src src out out

@@ -1,5 +1,6 @@
 -- How compressing ends, put together.
-use Rattle.std.proofs.Common.{◌≡◌, refl, sym, subst, ◌∙◌, ℕ, ◌<◌, inr, Bool, List, [], ◌++◌, length, Option, Some, None, Result, Ok, Err}
+use Rattle.std.proofs.Common.{rules}
+use Rattle.std.proofs.Common.{◌≡◌, ◌∙◌, ℕ, ◌<◌, Bool, List, [], ◌++◌, length, Option, Result, Ok, Err}
 use Rattle.std.specs.Prelude.{IfErr, OnOk, OnErr}
 use Rattle.zf_dev.specs.Source.{Gives, IsAtEnd}
 use Rattle.zf_dev.specs.declared.source.Source.{Ghosts as Source}
@@ -9,7 +10,7 @@ use Rattle.zf_header.specs.declared.header.Header.{Header}
 use Rattle.zf_parse.specs.declared.fault.StreamFault.{StreamFault}
 use Rattle.zf_parse.specs.declared.fault.StreamFault.TheVariants.{Read, Write, Memory}
 use Rattle.zf_parse.specs.Raw.{raw_len, compress_answer, stream_text}
-use Rattle.zf_stream.specs.Outcomes.{IsRefusal, LeavesPrefix, WritesPrefix, Compressed, CompressedGiven, RefusesRaw}
+use Rattle.zf_stream.specs.Outcomes.{LeavesPrefix, WritesPrefix, Compressed, CompressedGiven, RefusesRaw}
 use Rattle.zf_stream.specs.Flows.{Flows, Spills}
 use Rattle.zf_stream.specs.Rows.{Compresses, Stops, Ends}
 use Rattle.zf_spec.specs.Stream.{fill}
@@ -23,17 +24,7 @@ use Rattle.zf_stream.proofs.RawRows.{write_refused, good_answer}
 module _ (h : Header) {src0 src1 out0 out1 : Option (List ℕ)} {gives : List ℕ → Type 0} where
   refusal : (e : StreamFault) → RefusesRaw (compress_answer h) (raw_len h) src0 src1 e → LeavesPrefix (stream_text h) src0 src1 out0 out1 → WritesPrefix (stream_text h) gives out0 out1
       → Ends h (Err e) src0 src1 gives out0 out1
-  refusal e refuses left written = let Same : Result (Unit {0}) StreamFault → Type 0 = λ q. IfErr q (λ x. e ≡ x) in record {
-    outcome = record {
-      answer = answer_of_refusal (Err e) e src0 (compress_answer h) refl refuses.refused;
-      possible = refuses.possible;
-      shows = refuses.shows;
-      ok = tt;
-      err = left;
-      unwritten = λ same. absurd (refuses.unwanted (subst Same same refl));
-    };
-    given = record { ok = tt; err = written };
-  }
+  refusal e refuses left written = let Same : Result (Unit {0}) StreamFault → Type 0 = λ q. IfErr q (λ x. e ≡ x) in search (rules, answer_of_refusal)
 
   -- where the work stopped, on a refusal
   pub stopped : (e : StreamFault) → RefusesRaw (compress_answer h) (raw_len h) src0 src1 e → Stops h src0 src1 gives out0 out1 (header_bits h) → Ends h (Err e) src0 src1 gives out0 out1
@@ -44,44 +35,17 @@ pub at_end : (h : Header) {src0 src1 out0 out1 out2 : Option (List ℕ)} {gives 
     → IfErr r (λ e. e ≡ Write) → OnOk r (Flows out1 out2 (left ++ fill left) last) → OnOk r (length last < 64) → OnErr r (Spills out1 out2 (left ++ fill left)) → Ends h r src0 src1 gives out0 out2
 at_end h {src0} {src1} {out0} {out1} {out2} {gives} {left} (Ok u) last done ended fault flows few spills =
     let good = good_answer (raw_len h) done.bytes (done.long ∙ rows_len-all h done.whole.some_axis) in
-    let written = text_at_end h done flows few in
-    record {
-      outcome = record {
-        answer = answer_at_end (Ok u) src0 src1 (compress_answer h) done.bytes tt done.taken ended good;
-        possible = tt;
-        shows = tt;
-        ok = record { bytes = done.bytes; taken = done.taken; ended = ended; good = good; written = written };
-        err = tt;
-        unwritten = λ same. absurd cc;
-      };
-      given = record { ok = record { bytes = done.bytes; given = done.given; good = good; written = written }; err = tt };
-    }
+    let written = text_at_end h done flows few in search (rules, answer_at_end)
 at_end h {src0} {src1} {out0} {out1} {out2} {gives} {left} (Err e) last done ended fault flows few spills = refusal h e (write_refused h src0 src1 e fault) (prefix_at_end h done spills) (given_at_end h done spills)
 
 -- memory was wanting
 pub no_memory : (h : Header) (e : StreamFault) (src out : Option (List ℕ)) → e ≡ Memory → Compressed (compress_answer h) (stream_text h) (raw_len h) (Err e) src src out out
-no_memory h e src out memory =
-    let P : StreamFault → Type 0 = λ f. Compressed (compress_answer h) (stream_text h) (raw_len h) (Err f) src src out out in
-    subst P (sym memory) (record {
-      answer = answer_of_refusal (Err Memory) Memory src (compress_answer h) refl (wanting src);
-      possible = inr (inr (inr refl));
-      shows = tt;
-      ok = tt;
-      err = nothing_left (stream_text h) src out;
-      unwritten = λ _. refl;
-    })
-  where
-    wanting : (known : Option (List ℕ)) → IsRefusal known (compress_answer h) Memory
-    wanting None = tt
-    wanting (Some input) = inr (inr (inr refl))
+no_memory h e src out memory = search (rules, answer_of_refusal, nothing_left)
 
 -- nothing was given before
 pub given_from : {answer : List ℕ → Result (Unit {0}) StreamFault} {text : List ℕ → List ℕ} {r : Result (Unit {0}) StreamFault} {a b c : List ℕ → Type 0} {out0 out1 : Option (List ℕ)}
     → Gives a b [] → CompressedGiven answer text r (Gives b c) out0 out1 → CompressedGiven answer text r (Gives a c) out0 out1
-given_from {answer} {text} {r} {a} {b} {c} {out0} {out1} none given = record {
-  ok = on_ok_weaker r given.ok (λ writes. text_from none writes);
-  err = after_err r given.err (λ writes. prefix_from none writes);
-}
+given_from {answer} {text} {r} {a} {b} {c} {out0} {out1} none given = search (rules, on_ok_weaker, text_from, after_err, prefix_from)
 
 -- memory was wanting before the source was asked
 pub unread : {A T : Type 0} {S : Source A} {a : A} (r : Result T StreamFault) (e : StreamFault) → r ≡ Err e → e ≡ Memory → Reads S (r ≡ Err Read) a a

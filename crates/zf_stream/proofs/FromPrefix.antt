@@ -1,24 +1,23 @@
 -- What is restored of the codes in a window, said of the whole stream: the window holds the first bytes, and stands behind their header.
-use Rattle.std.proofs.Common.{◌≡◌, refl, sym, ap, subst, ◌∙◌, ℕ, ◌+◌, inl, inr, ⊎_elim, cond, Bool, false, List, [], ◌++◌, length, drop, replicate, Option, Some, None, is_none, Result, Ok, Err, append_assoc, length-append, arith}
+use Rattle.std.proofs.Common.{rules}
+use Rattle.std.proofs.Common.{◌≡◌, refl, sym, ap, subst, ◌∙◌, ℕ, ◌+◌, inl, inr, ⊎_elim, Bool, List, [], ◌++◌, length, drop, Option, Some, None, Result, Ok, Err, append_assoc, length-append, arith}
 use Rattle.std.proofs.lemmas.List.{drop-append-le, length-drop}
 use Rattle.std.proofs.lemmas.Grind.{flat_map-append}
 use Rattle.std.specs.Prelude.{OnOk, IfErr}
 use Rattle.zf_spec.specs.Grid.{blocks}
-use Rattle.zf_spec.specs.Numbers.{field}
 use Rattle.zf_spec.specs.Stream.{to_bits}
 use Rattle.zf_spec.proofs.Bytes.{length-to_bits}
 use Rattle.zf_header.specs.declared.header.Header.{Header}
-use Rattle.zf_header.specs.declared.header.HeaderFault.{HeaderFault}
-use Rattle.zf_header.specs.HeaderBits.{header_bits, IsHeader}
+use Rattle.zf_header.specs.HeaderBits.{IsHeader}
 use Rattle.zf_header.proofs.Good.{good}
 use Rattle.zf_header.proofs.Found.{read_is_header}
 use Rattle.zf_dev.specs.Source.{Takes, TakesSome}
-use Rattle.zf_dev.specs.Sink.{Appends, AppendsPrefix}
+use Rattle.zf_dev.specs.Sink.{Appends}
 use Rattle.zf_dev.proofs.Taking.{Takes-none}
 use Rattle.zf_dev.proofs.Appending.{AppendsPrefix-none}
 use Rattle.zf_parse.specs.declared.fault.StreamFault.{StreamFault}
 use Rattle.zf_parse.specs.Raw.{raw_bytes}
-use Rattle.zf_parse.specs.Parsing.{read_codes, header_of, code_bits, longest_codes, restore_answer, restored_text}
+use Rattle.zf_parse.specs.Parsing.{read_codes, restore_answer, restored_text}
 use Rattle.zf_parse.proofs.Steps.{values_said, codes_answer, values_behind, blocks_text, without_values, restore_answer-values}
 use Rattle.zf_parse.specs.ReadStreams.{BeginsWithHeader}
 use Rattle.zf_stream.specs.Outcomes.{Answers, IsRefusal, Finishes, LeavesPrefix}
@@ -40,44 +39,27 @@ Takes-behind prefix bytes (Some left) (Some rest) taken = ap (λ (bs : List ℕ)
 pub Takes-known : (known src now : Option (List ℕ)) (prefix bytes : List ℕ) → Takes known src prefix → Takes (behind prefix src) now bytes → Takes known now bytes
 Takes-known None src now prefix bytes first taken = tt
 Takes-known (Some all) None now prefix bytes first taken = absurd first
-Takes-known (Some all) (Some left) now prefix bytes first taken =
-    let P : List ℕ → Type 0 = λ xs. Takes (Some xs) now bytes in
-    subst P (sym first) taken
+Takes-known (Some all) (Some left) now prefix bytes first taken = search rules
 
 pub Answers-known : (r : Result (Unit {0}) StreamFault) (known src : Option (List ℕ)) (prefix : List ℕ) (answer : List ℕ → Result (Unit {0}) StreamFault) → Takes known src prefix → Answers r (behind prefix src) answer → Answers r known answer
 Answers-known r None src prefix answer first answers = tt
 Answers-known r (Some all) None prefix answer first answers = absurd first
-Answers-known r (Some all) (Some left) prefix answer first answers =
-    let P : List ℕ → Type 0 = λ xs. Answers r (Some xs) answer in
-    subst P (sym first) answers
+Answers-known r (Some all) (Some left) prefix answer first answers = search (rules, answers)
 
 pub Finishes-known : (known src : Option (List ℕ)) (prefix : List ℕ) {answer : List ℕ → Result (Unit {0}) StreamFault} {text : List ℕ → List ℕ} {now out0 out : Option (List ℕ)} → Takes known src prefix
     → Finishes answer text (behind prefix src) now out0 out → Finishes answer text known now out0 out
-Finishes-known known src prefix {answer} {text} {now} first done = record {
-  bytes = done.bytes;
-  taken = Takes-known known src now prefix done.bytes first done.taken;
-  ended = done.ended;
-  good = done.good;
-  written = done.written;
-}
+Finishes-known known src prefix {answer} {text} {now} first done = search (rules, Takes-known, good)
 
 -- ---- a window that holds them
 
 -- what is restored, for the one who has the header
 text_is : (bytes : List ℕ) (h : Header) (len : ℕ) → BeginsWithHeader bytes h len → text_of_codes h (drop len (to_bits bytes)) ≡ restored_text bytes
 unfolding restored_text
-text_is bytes h len begun =
-    let s = to_bits bytes in
-    let Text : Option HeaderFault → Header → List Bool → List ℕ = λ fault g t. cond (is_none fault) (blocks_text g (read_codes g 0 (blocks g.shape) (t ++ replicate (longest_codes g) false))) [] in
-    let behind_header : drop len s ≡ code_bits bytes = sym (ap (λ g. drop (length (header_bits g)) s) (sym begun.header) ∙ ap (λ n. drop n s) (sym begun.bits_is)) in
-    ap (Text None h) behind_header ∙ ap (λ g. Text None g (code_bits bytes)) begun.header ∙ ap (λ fault. Text fault (header_of bytes) (code_bits bytes)) (sym begun.good)
+text_is bytes h len begun = search (rules, blocks_text)
 
 module _ (h : Header) (len : ℕ) (prefix : List ℕ) (begun : BeginsWithHeader prefix h len) (w : Window) (all : w.reader.all ≡ to_bits prefix) (at : w.reader.at ≡ len) where
   stream_is : (bytes : List ℕ) → stream_from w bytes ≡ drop len (to_bits (prefix ++ bytes))
-  stream_is bytes =
-      ap (λ (s : List Bool). s ++ to_bits bytes) (ap (drop w.reader.at) all ∙ ap (λ n. drop n (to_bits prefix)) at)
-      ∙ sym (drop-append-le len (to_bits prefix) (to_bits bytes) (omega (arith, begun.within, length-to_bits prefix)))
-      ∙ ap (drop len) (sym (flat_map-append (field 8) prefix bytes))
+  stream_is bytes = search (rules, drop-append-le, length-to_bits, flat_map-append)
 
   answer_is : (bytes : List ℕ) → answer_of_codes h w.reader.at (stream_from w bytes) ≡ values_said (prefix ++ bytes)
   answer_is bytes =
@@ -97,27 +79,14 @@ module _ (h : Header) (len : ℕ) (prefix : List ℕ) (begun : BeginsWithHeader 
       let bytes = prefix ++ done.bytes in
       let said : values_said bytes ≡ Ok done.values = sym (answer_is done.bytes) ∙ done.good in
       let same : raw_bytes h done.values ≡ restored_text bytes = ap (λ g. raw_bytes g done.values) (begun_more prefix done.bytes h len begun).header ∙ sym (text_of_parse bytes done.values said) in
-      let P : List ℕ → Type 0 = λ bs. Appends out0 out bs in
-      record {
-        bytes = bytes;
-        taken = Takes-behind prefix done.bytes src now done.taken;
-        ended = done.ended;
-        good = restore_answer-values bytes ∙ ap without_values said;
-        written = subst P same done.written;
-      }
+      let P : List ℕ → Type 0 = λ bs. Appends out0 out bs in search (rules, Takes-behind, good, restore_answer-values, without_values)
 
   pub finishes_behind : {src now out0 out : Option (List ℕ)} → RestoresAll h src now out0 out w → FinishesBehind prefix src now out0 out
   unfolding finishes
   finishes_behind {src} {now} {out0} {out} all_done = record { done = finishes all_done; more = all_done.bytes; begins = refl }
 
   pub leaves_prefix : {src now out0 out : Option (List ℕ)} → LeavesRows h src now out0 out w → LeavesPrefix restored_text (behind prefix src) now out0 out
-  leaves_prefix {src} {now} {out0} {out} left =
-      let P : List ℕ → Type 0 = λ bs. AppendsPrefix out0 out bs in
-      record {
-        bytes = prefix ++ left.bytes;
-        taken = Takes-behind prefix left.bytes src now left.taken;
-        written = subst P (text_of_all left.bytes) left.written;
-      }
+  leaves_prefix {src} {now} {out0} {out} left = search (rules, Takes-behind, text_of_all)
 
   fault_is : {src now : Option (List ℕ)} {e : StreamFault} (fault : HasFault h src now w e) → restore_answer (prefix ++ (fault.bytes ++ still now)) ≡ Err e
   fault_is {src} {now} {e} fault = restore_answer-values (prefix ++ (fault.bytes ++ still now)) ∙ ap without_values (sym (answer_is (fault.bytes ++ still now)) ∙ fault.answer)

@@ -1,9 +1,9 @@
 -- Raw bytes as values, one after another.
-use Rattle.std.proofs.Common.{◌≡◌, ℕ, zero, suc, ◌+◌, ◌*◌, ◌^◌, ◌<◌, ◌≤◌, ◌%◌, ◌⊎◌, ⊎_elim, ℤ, pos, List, [], ◌∷◌, ◌++◌, All, length, take, drop, refl, sym, ap, ◌∙◌, arith}
+use Rattle.std.proofs.Common.{rules}
+use Rattle.std.proofs.Common.{◌≡◌, ℕ, zero, suc, ◌+◌, ◌*◌, ◌<◌, ◌≤◌, ◌⊎◌, pos, List, [], ◌∷◌, ◌++◌, All, length, take, drop, refl, ap, ◌∙◌, arith}
 use Rattle.std.proofs.lemmas.List.{drop-drop, length-drop}
 use Rattle.std.proofs.Math.Nat.{mod-eq_of_lt}
 use Rattle.std.specs.Int.{Width, w32, w64, byte_len, from_le_bytes, cast_signed}
-use mir.Val.{bits}
 use Rattle.zf_spec.specs.Numbers.{wrap}
 use Rattle.zf_spec.specs.Stream.{first_bytes, values_from}
 use Rattle.zf_spec.proofs.Bytes.{first_bytes-all, from_le_bytes_below}
@@ -21,39 +21,20 @@ narrow_word (a ∷ b ∷ c ∷ d ∷ []) e = omega arith
 narrow_word bytes e = absurd (omega arith)
 
 word_at : (w : Width) (bytes : List ℕ) → (w ≡ w32) ⊎ (w ≡ w64) → length bytes ≡ byte_len w → from_le_bytes w64 (first_bytes 8 bytes) ≡ from_le_bytes w bytes
-word_at w bytes two size =
-    ⊎_elim
-    (λ narrow.
-    let e : length bytes ≡ 4 = size ∙ ap byte_len narrow in
-    narrow_word bytes e ∙ ap (λ v. from_le_bytes v bytes) (sym narrow))
-    (λ wide.
-    let e : 8 ≡ length bytes = sym (size ∙ ap byte_len wide) in
-    ap (λ n. from_le_bytes w64 (first_bytes n bytes)) e ∙ ap (from_le_bytes w64) (first_bytes-all bytes) ∙ ap (λ v. from_le_bytes v bytes) (sym wide))
-    two
+word_at w bytes two size = grind (arith, narrow_word, first_bytes-all)
 
 -- the word's number, wrapped, is the value
 pub value_is : (w : Width) (bytes : List ℕ) → (w ≡ w32) ⊎ (w ≡ w64) → length bytes ≡ byte_len w → All (λ b. b < 256) bytes
     → wrap w (pos (from_le_bytes w64 (first_bytes 8 bytes))) ≡ cast_signed w (from_le_bytes w bytes)
-value_is w bytes two size small =
-    let n = from_le_bytes w bytes in
-    let below = from_le_bytes_below w bytes size small in
-    let whole : n ≡ n % 2 ^ bits w = sym (mod-eq_of_lt below) in
-    ap (λ v. wrap w (pos v)) (word_at w bytes two size) ∙ sym (cast_signed_low w n n whole)
+value_is w bytes two size small = grind (arith, from_le_bytes_below, mod-eq_of_lt, word_at, cast_signed_low)
 
 -- one value more
 pub values_from-more : (w : Width) (i : ℕ) (s : List ℕ) → (i + 1) * byte_len w ≤ length s
     → values_from w (i + 1) s ≡ values_from w i s ++ cast_signed w (from_le_bytes w (take (byte_len w) (drop (i * byte_len w) s))) ∷ []
-values_from-more w zero s within =
-    let start : 0 * byte_len w ≡ 0 = omega arith in
-    let none : drop (0 * byte_len w) s ≡ s = ap (λ n. drop n s) start in
-    ap (λ (bs : List ℕ). cast_signed w (from_le_bytes w bs) ∷ [])
-    (first_bytes-take (byte_len w) s (omega arith) ∙ ap (take (byte_len w)) (sym none))
+values_from-more w zero s within = grind (arith, first_bytes-take)
 values_from-more w (suc i) s within =
     let n = byte_len w in
     let next : suc i + 1 ≡ suc (i + 1) = omega arith in
     let rest = values_from-more w i (drop n s) (omega (arith, length-drop n s)) in
     let sum : n + i * n ≡ suc i * n = omega arith in
-    let place : drop (i * n) (drop n s) ≡ drop (suc i * n) s = drop-drop (i * n) n s ∙ ap (λ k. drop k s) sum in
-    ap (λ k. values_from w k s) next
-    ∙ ap (λ (vs : List ℤ). cast_signed w (from_le_bytes w (first_bytes n s)) ∷ vs)
-    (rest ∙ ap (λ (bs : List ℕ). values_from w i (drop n s) ++ cast_signed w (from_le_bytes w (take n bs)) ∷ []) place)
+    let place : drop (i * n) (drop n s) ≡ drop (suc i * n) s = drop-drop (i * n) n s ∙ ap (λ k. drop k s) sum in search rules

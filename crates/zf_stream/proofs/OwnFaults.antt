@@ -1,20 +1,18 @@
 -- What is said of the bytes of a stream is never a fault of a device, nor one of raw values; what is said of codes is none of a header either.
-use Rattle.std.proofs.Common.{◌≡◌, ℕ, ℤ, Bool, true, false, cond, nat_lt, List, ◌++◌, Option, Some, None, Result, Ok, Err, take, length, ◌+◌, ◌-◌, ◌⊎◌, subst, ◌%◌, refl, sym, ap, ◌∙◌, ⊎_elim}
+use Rattle.std.proofs.Common.{rules}
+use Rattle.std.proofs.Common.{◌≡◌, ℕ, ℤ, Bool, true, false, cond, nat_lt, List, Option, Some, None, Result, Ok, Err, take, length, ◌-◌, ◌⊎◌, subst, ◌%◌, refl, ⊎_elim}
 use Rattle.std.specs.Prelude.{IfErr}
-use Rattle.std.proofs.lemmas.Result.{IfErr-at_err}
 use Rattle.zf_spec.specs.Grid.{blocks}
 use Rattle.zf_spec.specs.Planes.{has_one}
-use Rattle.zf_spec.specs.Stream.{to_bits}
 use Rattle.zf_header.specs.declared.header.Header.{Header}
 use Rattle.zf_header.specs.declared.header.HeaderFault.{HeaderFault}
-use Rattle.zf_header.specs.HeaderFaults.{header_fault}
 use Rattle.zf_parse.specs.declared.fault.StreamFault.{StreamFault}
 use Rattle.zf_parse.specs.declared.fault.StreamFault.TheVariants as faults
-use Rattle.zf_parse.specs.Parsing.{header_of, code_bits, read_codes, restore_answer}
+use Rattle.zf_parse.specs.Parsing.{restore_answer}
 use Rattle.zf_parse.proofs.Steps.{values_said, values_said-is, values_behind, header_or, codes_answer, values_or_fault, without_values, restore_answer-values}
 use Rattle.zf_stream.specs.Outcomes.{IsBeforeWriting}
 use Rattle.zf_stream.specs.Windows.{Window}
-use Rattle.zf_stream.specs.Restoring.{still, stream_from, Refuses}
+use Rattle.zf_stream.specs.Restoring.{Refuses}
 
 -- the faults of devices, and those of raw values
 unfoldable pub is_foreign : StreamFault → Bool
@@ -57,11 +55,7 @@ own_text (Err e) own = own
 
 -- the answer for the bytes of a stream is none
 pub own_answer : (bytes : List ℕ) → blames_foreign (restore_answer bytes) ≡ false
-own_answer bytes =
-    let h = header_of bytes in
-    let found = read_codes h 0 (blocks h.shape) (code_bits bytes) in
-    let own = own_header (header_fault bytes) (codes_answer h (length (to_bits bytes)) found) (own_codes h (length (to_bits bytes)) found) in
-    ap blames_foreign (restore_answer-values bytes) ∙ own_text (values_said bytes) (ap blames_foreign (values_said-is bytes) ∙ own)
+own_answer bytes = search (rules, own_header, codes_answer, own_codes, restore_answer-values, own_text, values_said, values_said-is)
 
 -- ---- what is said of codes is none of a header, nor out of memory
 
@@ -92,11 +86,4 @@ device_not_before e device before =
     ⊎_elim (λ read. let no : IsBeforeWriting faults.Read = subst IsBeforeWriting read before in no) (λ write. let no : IsBeforeWriting faults.Write = subst IsBeforeWriting write before in no) device
 
 pub refused_later : (h : Header) (src now : Option (List ℕ)) (w : Window) (e : StreamFault) → Refuses h src now w e → ¬ IsBeforeWriting e
-refused_later h src now w e refuses =
-    ⊎_elim
-    (λ fault.
-    let s = stream_from w (fault.bytes ++ still now) in
-    let all = w.reader.at + length s in
-    let found = read_codes h 0 (blocks h.shape) s in
-    not_before e (IfErr-at_err IsOfCodes (sym (values_behind h all s) ∙ fault.answer) (of_codes h all found)))
-    (device_not_before e) refuses
+refused_later h src now w e refuses = search (rules, not_before, values_behind, of_codes, device_not_before)

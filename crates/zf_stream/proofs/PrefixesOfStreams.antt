@@ -1,5 +1,6 @@
 -- What was written of a stream: a prefix, or all of it.
-use Rattle.std.proofs.Common.{◌≡◌, refl, sym, ap, subst, ◌∙◌, ℕ, suc, ◌+◌, ◌-◌, ◌*◌, ◌/◌, ◌<◌, ◌≤◌, Bool, false, List, [], ◌∷◌, ◌++◌, map, length, drop, replicate, All, Option, append_assoc, length-append, mul_comm, take_at, drop_at, arith}
+use Rattle.std.proofs.Common.{rules}
+use Rattle.std.proofs.Common.{◌≡◌, refl, sym, ap, subst, ◌∙◌, ℕ, suc, ◌+◌, ◌-◌, ◌*◌, ◌/◌, ◌<◌, ◌≤◌, Bool, List, [], ◌∷◌, ◌++◌, map, length, drop, All, Option, append_assoc, length-append, mul_comm, take_at, drop_at, arith}
 use Rattle.std.proofs.lemmas.List.{append-nil}
 use Rattle.std.proofs.lemmas.List.Elements.{All-head, All-tail}
 use Rattle.std.proofs.Math.Nat.{mul-le-mul_left, mod-eq_of_lt}
@@ -7,7 +8,7 @@ use Rattle.std.specs.List.{flat_map}
 use Rattle.std.specs.Int.{byte_len}
 use Rattle.zf_spec.specs.Numbers.{field, number}
 use Rattle.zf_spec.specs.Grid.{product, grid, upto, count_from}
-use Rattle.zf_spec.specs.Stream.{fill_len, fill, with_fill, bytes_from, to_bytes, to_bits, codes, values_from, file, stream, stream_of_bytes}
+use Rattle.zf_spec.specs.Stream.{fill, with_fill, bytes_from, to_bytes, to_bits, codes, values_from, file, stream, stream_of_bytes}
 use Rattle.zf_spec.proofs.Fields.{length-field, number-field}
 use Rattle.zf_spec.proofs.Bytes.{length-to_bits, to_bytes-to_bits, fill_whole}
 use Rattle.zf_base.specs.Widths.{width_of}
@@ -15,7 +16,7 @@ use Rattle.zf_pad.specs.Slabs.{rows_of, row_len, IsSlab, first_block}
 use Rattle.zf_dev.specs.Source.{Takes, Gives, GivesSome}
 use Rattle.zf_dev.specs.Sink.{Appends, AppendsPrefix}
 use Rattle.zf_dev.proofs.Taking.{Takes-append}
-use Rattle.zf_dev.proofs.Giving.{Gives-append, Gives-still}
+use Rattle.zf_dev.proofs.Giving.{Gives-append}
 use Rattle.zf_dev.proofs.Appending.{AppendsPrefix-more}
 use Rattle.zf_header.specs.declared.header.Header.{Header}
 use Rattle.zf_header.specs.HeaderBits.{coding, header_bits}
@@ -138,16 +139,7 @@ Compresses-behind h rows {src} {now} {out0} {out1} {out2} {gives} {bits} {left} 
 -- the source was read further
 pub Compresses-read : (h : Header) (rows : ℕ) {src mid now out0 out : Option (List ℕ)} {a b c : List ℕ → Type 0} {bits left : List Bool} → Compresses h rows src mid (Gives a b) out0 out bits left → Takes mid now [] → Gives b c []
     → Compresses h rows src now (Gives a c) out0 out bits left
-Compresses-read h rows {src} {mid} {now} {out0} {out} {a} {b} {c} {bits} {left} done none nothing =
-    let P : List ℕ → Type 0 = λ bs. Takes src now bs in
-    record {
-      whole = done.whole;
-      bytes = done.bytes;
-      taken = subst P (append-nil done.bytes) (Takes-append src mid now done.bytes [] done.taken none);
-      given = Gives-still done.bytes done.given nothing;
-      long = done.long;
-      flows = done.flows;
-    }
+Compresses-read h rows {src} {mid} {now} {out0} {out} {a} {b} {c} {bits} {left} done none nothing = search (rules, append-nil)
 
 pub Compresses-stop : (h : Header) (rows : ℕ) {src mid now out0 out : Option (List ℕ)} {a b c : List ℕ → Type 0} {bits left : List Bool} (more : List ℕ) → Compresses h rows src mid (Gives a b) out0 out bits left → Takes mid now more → GivesSome b c
     → Stops h src now (Gives a c) out0 out bits
@@ -166,11 +158,7 @@ Compresses-stop h rows {src} {mid} {now} {out0} {out} {a} {b} {c} {bits} {left} 
 -- the fill of what is left is that of all bits
 module _ (h : Header) {src now out0 out1 : Option (List ℕ)} {gives : List ℕ → Type 0} {left : List Bool} (done : Compresses h (rows_of h.shape) src now gives out0 out1 (header_bits h) left) where
   fill_same : fill left ≡ fill (stream_bits h done.bytes)
-  fill_same =
-      let parts = ap length done.flows.parts in
-      let both = length-append (to_bits done.flows.bytes) left in
-      let same : fill_len (length left) ≡ fill_len (length (stream_bits h done.bytes)) = omega (arith, parts, both, length-to_bits done.flows.bytes, done.flows.words) in
-      ap (λ n. replicate n false) same
+  fill_same = search (rules, length-append, length-to_bits)
 
   filled : Flows out0 out1 (with_fill (stream_bits h done.bytes)) (left ++ fill left)
   filled =

@@ -1,7 +1,8 @@
 -- Raw values that are read row by row: what is refused, and what is said of it.
-use Rattle.std.proofs.Common.{◌≡◌, refl, sym, ap, subst, ◌∙◌, ℕ, ◌+◌, ◌<◌, ◌≤◌, ◌⊎◌, inl, inr, ⊎_elim, cond, ltb, lt-ltb, le-ltb, List, [], ◌∷◌, ◌++◌, length, Option, Some, None, Ok, Err, length-append, arith}
+use Rattle.std.proofs.Common.{rules}
+use Rattle.std.proofs.Common.{◌≡◌, refl, sym, ap, subst, ℕ, ◌+◌, ◌<◌, ◌≤◌, ◌⊎◌, inl, inr, ⊎_elim, cond, ltb, lt-ltb, le-ltb, List, [], ◌∷◌, ◌++◌, length, Option, Some, None, Ok, Err, length-append, arith}
 use Rattle.zf_dev.specs.Source.{Takes, TakesSome}
-use Rattle.zf_dev.proofs.Taking.{Takes-append, Takes-to_end}
+use Rattle.zf_dev.proofs.Taking.{Takes-append}
 use Rattle.zf_header.specs.declared.header.Header.{Header}
 use Rattle.zf_parse.specs.declared.fault.StreamFault.{StreamFault}
 use Rattle.zf_parse.specs.declared.fault.StreamFault.TheVariants as faults
@@ -16,14 +17,10 @@ short_answer wanted bytes few =
     ap (λ t. cond t (Err (faults.RawShort (length bytes))) (cond (ltb wanted (length bytes)) (Err faults.RawLong) (Ok tt))) (lt-ltb (length bytes) wanted few)
 
 pub long_answer : (wanted : ℕ) (bytes : List ℕ) → wanted < length bytes → length_answer wanted bytes ≡ Err faults.RawLong
-long_answer wanted bytes many =
-    ap (λ t. cond t (Err (faults.RawShort (length bytes))) (cond (ltb wanted (length bytes)) (Err faults.RawLong) (Ok tt))) (le-ltb (length bytes) wanted (omega arith))
-    ∙ ap (λ t. cond t (Err faults.RawLong) (Ok tt)) (lt-ltb wanted (length bytes) many)
+long_answer wanted bytes many = search (rules, le-ltb, lt-ltb)
 
 pub good_answer : (wanted : ℕ) (bytes : List ℕ) → length bytes ≡ wanted → length_answer wanted bytes ≡ Ok tt
-good_answer wanted bytes same =
-    ap (λ t. cond t (Err (faults.RawShort (length bytes))) (cond (ltb wanted (length bytes)) (Err faults.RawLong) (Ok tt))) (le-ltb (length bytes) wanted (omega arith))
-    ∙ ap (λ t. cond t (Err faults.RawLong) (Ok tt)) (le-ltb wanted (length bytes) (omega arith))
+good_answer wanted bytes same = search (rules, le-ltb)
 
 -- what was not read: the source ended, or it failed
 lacks_is : (before wanted : ℕ) (old new : Option (List ℕ)) (e : StreamFault) → LacksRaw before wanted old new e
@@ -52,25 +49,16 @@ module _ (h : Header) (known now : Option (List ℕ)) where
 
   -- a device failed
   pub read_refused : (e : StreamFault) → e ≡ faults.Read → RefusesRaw (compress_answer h) (raw_len h) known now e
-  read_refused e is =
-      let P : StreamFault → Type 0 = λ f. RefusesRaw (compress_answer h) (raw_len h) known now f in
-      subst P (sym is) (record { refused = outside known faults.Read (inl refl); possible = inr (inl refl); shows = tt; unwanted = λ is. cc })
+  read_refused e is = search (rules, outside)
 
   pub write_refused : (e : StreamFault) → e ≡ faults.Write → RefusesRaw (compress_answer h) (raw_len h) known now e
-  write_refused e is =
-      let P : StreamFault → Type 0 = λ f. RefusesRaw (compress_answer h) (raw_len h) known now f in
-      subst P (sym is) (record { refused = outside known faults.Write (inr (inl refl)); possible = inr (inr (inl refl)); shows = tt; unwanted = λ is. cc })
+  write_refused e is = search (rules, outside)
 
 -- fewer bytes than the array has
 module _ (h : Header) (known mid now : Option (List ℕ)) (bytes : List ℕ) (taken : Takes known mid bytes) (wanted : ℕ) (within : length bytes + wanted ≤ raw_len h) where
   short_refusal : (n : ℕ) (known : Option (List ℕ)) → Takes known mid bytes → EndsShort (length bytes) wanted mid now n → IsRefusal known (compress_answer h) (faults.RawShort n)
   short_refusal n None from lacks = tt
-  short_refusal n (Some all) from lacks =
-      let input = bytes ++ lacks.bytes in
-      let is : all ≡ input = Takes-to_end all now input (Takes-append (Some all) mid now bytes lacks.bytes from lacks.taken) lacks.ended in
-      let count : length input ≡ n = length-append bytes lacks.bytes ∙ sym lacks.count_is in
-      let few : length input < raw_len h = omega (arith, count, lacks.count_is, lacks.few) in
-      inl (ap (compress_answer h) is ∙ short_answer (raw_len h) input few ∙ ap (λ k. Err (faults.RawShort k)) count)
+  short_refusal n (Some all) from lacks = search (rules, length-append, short_answer)
 
   pub raw_refused : (e : StreamFault) → LacksRaw (length bytes) wanted mid now e → RefusesRaw (compress_answer h) (raw_len h) known now e
   raw_refused e lacks =
@@ -90,17 +78,7 @@ module _ (h : Header) (known mid now : Option (List ℕ)) (bytes : List ℕ) (ta
 module _ (h : Header) (known mid now : Option (List ℕ)) (bytes : List ℕ) (taken : Takes known mid bytes) (all : length bytes ≡ raw_len h) where
   long_refusal : (known mid now : Option (List ℕ)) (byte : ℕ) → Takes known mid bytes → Takes mid now (byte ∷ []) → IsRefusal known (compress_answer h) faults.RawLong
   long_refusal None mid now byte from next = tt
-  long_refusal (Some input) mid now byte from next = by mid now from next
-    where
-      by : (mid now : Option (List ℕ)) → Takes (Some input) mid bytes → Takes mid now (byte ∷ []) → IsRefusal (Some input) (compress_answer h) faults.RawLong
-      by None now from next = absurd from
-      by (Some left) None from next = absurd next
-      by (Some left) (Some rest) from next =
-          let count : length input ≡ length bytes + suc_of rest = ap length from ∙ length-append bytes left ∙ ap (λ k. length bytes + k) (ap length next) in
-          inl (long_answer (raw_len h) input (omega (arith, count, all)))
-        where
-          suc_of : List ℕ → ℕ
-          suc_of rest = length (byte ∷ [] ++ rest)
+  long_refusal (Some input) mid now byte from next = search (rules, length-append, long_answer)
 
   pub more_refused : (e : StreamFault) → GoesOn mid now e → RefusesRaw (compress_answer h) (raw_len h) known now e
   more_refused e more =

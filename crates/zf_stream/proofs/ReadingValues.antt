@@ -1,5 +1,6 @@
 -- Values that are read piece by piece: some were read, and then the next ones, or fewer bytes than these have.
-use Rattle.std.proofs.Common.{◌≡◌, ℕ, ◌+◌, ◌*◌, ◌≤◌, ℤ, List, ◌++◌, map, length, take, Option, sym, ap, ◌∙◌, length-append, arith}
+use Rattle.std.proofs.Common.{rules}
+use Rattle.std.proofs.Common.{◌≡◌, ℕ, ◌+◌, ◌*◌, ◌≤◌, ℤ, List, ◌++◌, map, length, take, Option, length-append, arith}
 use Rattle.std.proofs.lemmas.List.{map-append}
 use Rattle.std.proofs.lemmas.Slice.{take-put_mid}
 use Rattle.std.proofs.Math.Nat.{add-mul}
@@ -24,10 +25,7 @@ reads_more w value at n k xs ys old mid new {a} {b} {c} more within count long a
   taken = Takes-append old mid new done.bytes more done.taken taken;
   given = Gives-append done.bytes more done.given given;
   long = omega (arith, length-append done.bytes more, done.long, long, add-mul at n (byte_len w));
-  are =
-      ap (map value) (take-put_mid at k xs ys (at + n) (omega arith) within) ∙ map-append value (take at xs) ys
-      ∙ ap (λ (vs : List ℤ). vs ++ map value ys) done.are ∙ ap (λ (vs : List ℤ). values_from w at done.bytes ++ vs) are
-      ∙ sym (values_from-append w at n done.bytes more done.long);
+  are = search (rules, take-put_mid, map-append, values_from-append);
 }
 
 -- some bytes were read, and behind them fewer than are wanted there

@@ -1,5 +1,6 @@
 -- How restoring ends, put together.
-use Rattle.std.proofs.Common.{◌≡◌, refl, subst, ℕ, inl, inr, ⊎_elim, List, ◌++◌, Option, Some, None, Result, Err, arith}
+use Rattle.std.proofs.Common.{rules}
+use Rattle.std.proofs.Common.{◌≡◌, refl, subst, ℕ, inl, inr, List, Option, Some, None, Result, Err, arith}
 use Rattle.std.specs.Prelude.{IfErr, OnOk, OnErr}
 use Rattle.std.proofs.lemmas.Result.{IfErr-weaker}
 use Rattle.zf_spec.specs.Stream.{to_bits}
@@ -11,23 +12,17 @@ use Rattle.zf_parse.specs.Parsing.{restore_answer, restored_text}
 use Rattle.zf_parse.specs.ReadStreams.{BeginsWithHeader, HasGoodHeader, IsFaultOf}
 use Rattle.zf_stream.specs.Outcomes.{Answers, LeavesPrefix, TakesFirst, Restored}
 use Rattle.zf_stream.specs.Windows.{Window}
-use Rattle.zf_stream.specs.Restoring.{behind, RestoredBehind, RestoresAll, LeavesRows, Refuses}
+use Rattle.zf_stream.specs.Restoring.{RestoredBehind, RestoresAll, LeavesRows, Refuses}
 use Rattle.zf_stream.proofs.Answering.{answer_of_refusal, answer_of_memory, after_err, on_ok_weaker}
 use Rattle.zf_dev.proofs.Appending.{AppendsPrefix-none}
 use Rattle.zf_stream.proofs.OwnFaults.{refused_later}
 use Rattle.zf_stream.proofs.Headed.{refusal_of_fault}
 use Rattle.zf_stream.proofs.Refusals.{CanRefuse-header}
-use Rattle.zf_stream.proofs.FromPrefix.{nothing_taken, finishes_behind, leaves_prefix, can_refuse, answers, Answers-known, Takes-known, Finishes-known}
+use Rattle.zf_stream.proofs.FromPrefix.{nothing_taken, finishes_behind, leaves_prefix, can_refuse, answers}
 
 -- memory was wanting
 pub no_room : (prefix : List ℕ) (e : StreamFault) (src out : Option (List ℕ)) → e ≡ Memory → RestoredBehind prefix (Err e) src src out out
-no_room prefix e src out memory = record {
-  answer = answer_of_memory (Err e) e (behind prefix src) restore_answer refl memory;
-  possible = inr (inr (inr memory));
-  ok = tt;
-  err = nothing_taken prefix src out;
-  unwritten = λ _. refl;
-}
+no_room prefix e src out memory = search (rules, answer_of_memory, nothing_taken)
 
 -- the codes behind the header were restored, or refused
 pub restored_behind : (h : Header) (len : ℕ) (prefix : List ℕ) → BeginsWithHeader prefix h len → (w : Window) → w.reader.all ≡ to_bits prefix → w.reader.at ≡ len
@@ -43,14 +38,7 @@ restored_behind h len prefix begun w all at r src now out0 out done left refused
 
 -- said of all of the source
 pub restored_known : (prefix : List ℕ) (r : Result (Unit {0}) StreamFault) (known src now out0 out : Option (List ℕ)) → Takes known src prefix → HasGoodHeader known → RestoredBehind prefix r src now out0 out → Restored r known now out0 out
-restored_known prefix r known src now out0 out taken good rest = record {
-  answer = Answers-known r known src prefix restore_answer taken rest.answer;
-  possible = IfErr-weaker r _ _ (λ e can. ⊎_elim (λ is. inl (prefix ++ is.0, is.1)) (λ outside. inr outside) can) rest.possible;
-  ok = on_ok_weaker r rest.ok (λ fin. Finishes-known known src prefix taken fin.done);
-  err = after_err r rest.err (λ left. record { bytes = left.bytes; taken = Takes-known known src now prefix left.bytes taken left.taken; written = left.written });
-  unwritten = rest.unwritten;
-  memory = λ _. good;
-}
+restored_known prefix r known src now out0 out taken good rest = search (rules, on_ok_weaker, after_err)
 
 -- ---- before the header was known
 
@@ -67,14 +55,7 @@ nothing_written known now out some = record { bytes = some.0; taken = some.1; wr
 
 -- the source failed
 pub restored_unread : (e : StreamFault) (known now out : Option (List ℕ)) → e ≡ Read → TakesSome known now → Restored (Err e) known now out out
-restored_unread e known now out is some = record {
-  answer = answer_unread known e restore_answer is;
-  possible = inr (inl is);
-  ok = tt;
-  err = nothing_written known now out some;
-  unwritten = λ _. refl;
-  memory = λ same. absurd cc;
-}
+restored_unread e known now out is some = search (rules, answer_unread, nothing_written)
 
 -- there is no good header
 pub restored_header : (prefix : List ℕ) (e : StreamFault) (known now out : Option (List ℕ)) → TakesFirst 24 known now prefix → IsFaultOf prefix e → Restored (Err e) known now out out

@@ -1,8 +1,9 @@
 -- An array that is restored slab by slab: one slab more, and where it stops.
-use Rattle.std.proofs.Common.{◌≡◌, refl, sym, ap, subst, ◌∙◌, ℕ, ◌+◌, ◌-◌, ◌*◌, ◌/◌, ◌≤◌, inl, inr, ⊎_elim, Bool, false, ℤ, List, [], ◌++◌, map, length, get_or, take, drop, replicate, Option, Some, None, Ok, Err, mul_comm, append_assoc, length-append, arith}
+use Rattle.std.proofs.Common.{rules}
+use Rattle.std.proofs.Common.{◌≡◌, refl, sym, ap, subst, ◌∙◌, ℕ, ◌+◌, ◌-◌, ◌*◌, ◌/◌, ◌≤◌, inl, inr, ⊎_elim, Bool, false, ℤ, List, [], ◌++◌, length, take, drop, replicate, Option, Some, None, Ok, Err, mul_comm, append_assoc, length-append, arith}
 use Rattle.std.proofs.lemmas.List.{append-nil, length-map, get_or_append_left}
 use Rattle.std.proofs.Math.Nat.{mul-add}
-use Rattle.zf_spec.specs.Grid.{grid, blocks, upto, block_of, blocks_of}
+use Rattle.zf_spec.specs.Grid.{grid, blocks, blocks_of}
 use Rattle.zf_spec.specs.Stream.{to_bits}
 use Rattle.zf_spec.proofs.Counting.{get_or-map-upto, length-map-upto}
 use Rattle.zf_base.specs.Widths.{width_of}
@@ -19,7 +20,7 @@ use Rattle.zf_parse.specs.Raw.{raw_bytes}
 use Rattle.zf_parse.specs.Parsing.{read_codes, values_of_blocks, longest_codes}
 use Rattle.zf_parse.proofs.Steps.{codes_answer, blocks_text, values_behind}
 use Rattle.zf_stream.specs.Windows.{Window, left_of}
-use Rattle.zf_stream.specs.Restoring.{still, stream_from, ReadsSlab, LacksSlab, blocks_of_rows, Restores, text_of_codes, answer_of_codes, LeavesRows, Refuses}
+use Rattle.zf_stream.specs.Restoring.{still, stream_from, ReadsSlab, LacksSlab, blocks_of_rows, Restores, text_of_codes, LeavesRows, Refuses}
 use Rattle.zf_parse.proofs.Enough.{enough_for_all}
 use Rattle.zf_parse.proofs.Joining.{with_blocks, with_blocks-both, with_blocks-cut, with_blocks-found, read_codes-then, read_codes-cut_more}
 use Rattle.zf_stream.proofs.RawValues.{raw-append, raw_prefix}
@@ -46,10 +47,7 @@ blocks_behind ns rows slab =
     (row_len g * m, product-rows g axes ∙ ap (λ r. row_len g * r) all ∙ mul-add (row_len g) k m)
 
 pub all_blocks : (ns : List ℕ) → 1 ≤ length ns → first_block ns ((rows_of ns + 3) / 4) ≡ blocks ns
-all_blocks ns some =
-    let g = grid ns in
-    let axes : 1 ≤ length g = omega (arith, length-map ns (λ n. (n + 3) / 4), some) in
-    ap (λ r. row_len g * r) (sym (rows_of-grid ns some)) ∙ sym (product-rows g axes)
+all_blocks ns some = search (rules, length-map, rows_of-grid, product-rows)
 
 -- ---- the codes of one slab more
 
@@ -70,22 +68,13 @@ module _ (h : Header) (c here : ℕ) (slab : IsSlab h.shape c here) (values : Li
       ∙ ap (λ k. with_blocks (blocks_of_rows h.shape (4 * c) values) (read_codes h k n (left1 ++ t))) place
 
   of_slab : read_codes h (first_block h.shape c) (blocks (with_rows here h.shape)) (left1 ++ t) ≡ counted_from (first_block h.shape c) (read_codes (part_of h here) 0 (blocks (with_rows here h.shape)) (left1 ++ t))
-  of_slab =
-      let place : first_block h.shape c ≡ first_block h.shape c + 0 = omega arith in
-      ap (λ k. read_codes h k (blocks (with_rows here h.shape)) (left1 ++ t)) place
-      ∙ read_codes-slab h (with_rows here h.shape) (first_block h.shape c) 0 (blocks (with_rows here h.shape)) (left1 ++ t) (λ j lt. extent_of-slab h.shape c here slab j (omega (arith, lt)))
+  of_slab = search (rules, read_codes-slab, extent_of-slab)
 
   pub codes_with_slab : (more : List ℤ) (left2 : List Bool) → length more ≡ row_len h.shape * here
       → read_codes (part_of h here) 0 (blocks (with_rows here h.shape)) (left1 ++ t) ≡ Ok (blocks_of (with_rows here h.shape) more, left2)
       → read_codes h 0 (first_block h.shape ((4 * c + here + 3) / 4)) (s ++ t) ≡ Ok (blocks_of_rows h.shape (4 * c + here) (values ++ more), left2)
   codes_with_slab more left2 as_long as_read =
-      let bs = blocks_of_rows h.shape (4 * c) values in
-      let cs = blocks_of (with_rows here h.shape) more in
-      ap (λ k. read_codes h 0 k (s ++ t)) (count_next h.shape c here slab values more long as_long)
-      ∙ behind_prefix (blocks (with_rows here h.shape))
-      ∙ ap (with_blocks bs) (of_slab ∙ ap (counted_from (first_block h.shape c)) as_read)
-      ∙ with_blocks-both bs cs left2
-      ∙ ap (λ (ds : List (List ℤ)). Ok (ds, left2)) (sym (blocks_next h.shape c here slab values more long as_long))
+      grind (arith, count_next, behind_prefix, with_blocks, of_slab, counted_from, with_blocks-both, blocks_next)
 
   -- they end too early
   pub codes_cut : (block : ℕ) → read_codes (part_of h here) 0 (blocks (with_rows here h.shape)) (left1 ++ t) ≡ Err block → read_codes h 0 (blocks h.shape) (s ++ t) ≡ Err (first_block h.shape c + block)
@@ -97,11 +86,7 @@ module _ (h : Header) (c here : ℕ) (slab : IsSlab h.shape c here) (values : Li
       let rounded : (4 * c + here + 3) / 4 ≡ c + (here + 3) / 4 = omega arith in
       let count : first_block h.shape ((4 * c + here + 3) / 4) ≡ first_block h.shape c + n =
       ap (λ k. row_len (grid h.shape) * k) rounded ∙ mul-add (row_len (grid h.shape)) c ((here + 3) / 4) ∙ ap (λ k. first_block h.shape c + k) (sym (blocks-with_rows here h.shape slab.some_axis)) in
-      let all : blocks h.shape ≡ first_block h.shape c + (n + behind.0) = omega (arith, behind.1, count) in
-      ap (λ k. read_codes h 0 k (s ++ t)) all
-      ∙ behind_prefix (n + behind.0)
-      ∙ ap (with_blocks bs) (read_codes-cut_more h (first_block h.shape c) n behind.0 (left1 ++ t) (first_block h.shape c + block) (of_slab ∙ ap (counted_from (first_block h.shape c)) cut))
-      ∙ with_blocks-cut bs (first_block h.shape c + block)
+      let all : blocks h.shape ≡ first_block h.shape c + (n + behind.0) = omega (arith, behind.1, count) in search (rules, behind_prefix, with_blocks, read_codes-cut_more, of_slab, counted_from, with_blocks-cut)
 
 -- ---- the text
 
@@ -115,7 +100,6 @@ text_prefix h rows values s t left slab long read =
     let zeros = replicate (longest_codes h) false in
     let all = enough_for_all h (s ++ t) in
     let behind = blocks_behind ns rows slab in
-    let place : 0 + n ≡ n = omega arith in
     let prefix : read_codes h 0 n ((s ++ t) ++ zeros) ≡ Ok (bs, left ++ (t ++ zeros)) =
     ap (read_codes h 0 n) (append_assoc s t zeros) ∙ read_codes_more h 0 n s (t ++ zeros) (bs, left) read in
     let whole : with_blocks bs (read_codes h (0 + n) behind.0 (left ++ (t ++ zeros))) ≡ Ok all.all =
@@ -123,9 +107,7 @@ text_prefix h rows values s t left slab long read =
     let found = with_blocks-found bs (read_codes h (0 + n) behind.0 (left ++ (t ++ zeros))) all.all whole in
     let joined = values_of_blocks ns all.all.0 in
     let size = row_len ns * rows in
-    let first : take size joined ≡ values =
-    prefix_joined ns rows values all.all.0 slab long
-    (λ b lt. ap (λ (ds : List (List ℤ)). get_or ds b []) (sym found.1) ∙ get_or_append_left bs found.0 [] b (omega (arith, lt, length-map-upto (block_of ns values) n)) ∙ get_or-map-upto (block_of ns values) n b [] lt) in (
+    let first : take size joined ≡ values = search (rules, prefix_joined, b, get_or_append_left, length-map-upto, get_or-map-upto) in (
       raw_bytes h (drop size joined),
       ap (λ (vs : List ℤ). raw_bytes h vs ++ raw_bytes h (drop size joined)) (sym first) ∙ sym (raw_prefix (width_of h.ty) size joined) ∙ ap (blocks_text h) (sym all.is),
     )
@@ -137,9 +119,7 @@ module _ (h : Header) (row here : ℕ) (next : IsNext h row here) {src0 mid out0
   long_before = done.long ∙ ap (λ r. row_len h.shape * r) (sym next.first)
 
   codes_before : read_codes h 0 (first_block h.shape ((4 * (row / 4) + 3) / 4)) (stream_from w0 done.bytes) ≡ Ok (blocks_of_rows h.shape (4 * (row / 4)) done.values, left_of w1)
-  codes_before =
-      let P : ℕ → Type 0 = λ r. read_codes h 0 (first_block h.shape ((r + 3) / 4)) (stream_from w0 done.bytes) ≡ Ok (blocks_of_rows h.shape r done.values, left_of w1) in
-      subst P (sym next.first) done.codes
+  codes_before = search rules
 
   more_bytes : (bytes : List ℕ) → stream_from w0 done.bytes ++ to_bits bytes ≡ stream_from w0 (done.bytes ++ bytes)
   more_bytes bytes = to_bits-append (left_of w0) done.bytes bytes
@@ -153,11 +133,7 @@ module _ (h : Header) (row here : ℕ) (next : IsNext h row here) {src0 mid out0
       subst P next.first (ap (read_codes h 0 (first_block h.shape ((4 * (row / 4) + here + 3) / 4))) (sym (more_bytes slab.bytes)) ∙ of_bytes)
 
   whole_next : IsSlab h.shape 0 (row + here)
-  whole_next = record {
-    some_axis = next.slab.some_axis;
-    within = omega (arith, next.first, next.slab.within);
-    whole = ⊎_elim (λ e. inl (omega (arith, e, next.first))) (λ e. inr (omega (arith, e, next.first))) next.slab.whole;
-  }
+  whole_next = search rules
 
   long_next : (values : List ℤ) → length values ≡ row_len h.shape * here → length (done.values ++ values) ≡ row_len h.shape * (row + here)
   long_next values as_long = length-append done.values values ∙ omega (arith, done.long, as_long) ∙ sym (mul-add (row_len h.shape) row here)
@@ -205,10 +181,7 @@ module _ (h : Header) (row here : ℕ) (next : IsNext h row here) {src0 mid out0
       inl (record {
         bytes = bytes;
         taken = Takes-append src0 mid now done.bytes cut.bytes done.goes.taken cut.taken;
-        answer = ap (λ (more : List ℕ). answer_of_codes h w0.reader.at (stream_from w0 (bytes ++ more))) none
-            ∙ ap (λ (bs : List ℕ). answer_of_codes h w0.reader.at (stream_from w0 bs)) (append-nil bytes)
-            ∙ values_behind h (w0.reader.at + length (stream_from w0 bytes)) (stream_from w0 bytes)
-            ∙ ap (codes_answer h (w0.reader.at + length (stream_from w0 bytes))) codes;
+        answer = search (rules, append-nil, values_behind, codes_answer);
       })
   slab_cut now first faults.Read is lacks = inr (inl refl)
   slab_cut now first e is lacks = absurd lacks
@@ -246,7 +219,6 @@ Restores-none h src out w some =
       goes = Goes-none src w;
       values = [];
       long = omega (arith, mul_comm (row_len h.shape) 0);
-      codes = ap (λ k. read_codes h 0 k (stream_from w [])) none ∙ ap (λ (s : List Bool). Ok ([], s)) (append-nil (left_of w))
-          ∙ ap (λ k. Ok (map (block_of h.shape []) (upto k), left_of w)) (sym none);
+      codes = search (rules, append-nil);
       written = Appends-none out;
     }

@@ -1,5 +1,6 @@
 -- The end of an array that is restored slab by slab: the fill, and what follows.
-use Rattle.std.proofs.Common.{◌≡◌, refl, sym, ap, subst, ◌∙◌, ℕ, ◌+◌, ◌-◌, ◌*◌, ◌%◌, ◌≤◌, Bool, true, false, ℤ, List, [], ◌++◌, map, length, Option, Result, Ok, Err, length-append, arith}
+use Rattle.std.proofs.Common.{rules}
+use Rattle.std.proofs.Common.{◌≡◌, refl, sym, ap, subst, ◌∙◌, ℕ, ◌+◌, ◌-◌, ◌*◌, ◌%◌, ◌≤◌, Bool, true, false, List, [], ◌++◌, map, length, Option, Result, Ok, Err, length-append, arith}
 use Rattle.std.proofs.lemmas.List.{append-nil}
 use Rattle.std.specs.Prelude.{OnOk, IfErr}
 use Rattle.zf_spec.specs.Grid.{blocks, upto, block_of, blocks_of}
@@ -51,19 +52,11 @@ module _ (h : Header) {src0 mid now out0 out : Option (List ℕ)} {w0 w1 w2 : Wi
       let read : read_codes h 0 (blocks h.shape) (stream_from w0 (bytes ++ more)) ≡ Ok (blocks_of h.shape done.values, left) =
       ap (read_codes h 0 (blocks h.shape)) (sym joined) ∙ read_codes_more h 0 (blocks h.shape) s (to_bits more) (blocks_of h.shape done.values, left_of w2) codes_all in
       let place : all - length left ≡ w2.reader.at + 64 * goes.moved = omega (arith, goes.place, ap length joined, length-append s (to_bits more), length-append (left_of w2) (to_bits more)) in
-      let same : (all - length left) % 64 ≡ w2.reader.at % 64 = omega (arith, place) in
-      values_behind h all (stream_from w0 (bytes ++ more)) ∙ ap (codes_answer h all) read
-      ∙ ap (λ (vs : List ℤ). values_or_fault vs (fill_answer h (all - length left) left)) (values_of_blocks-blocks h.shape done.values (done.long ∙ sym (product-rows h.shape done.whole.some_axis)))
-      ∙ ap (values_or_fault done.values) (fill_place h (all - length left) w2.reader.at left same)
+      let same : (all - length left) % 64 ≡ w2.reader.at % 64 = omega (arith, place) in search (rules, values_behind, codes_answer, values_or_fault, values_of_blocks-blocks, product-rows, fill_place)
 
   -- the window tells it
   told : fill_answer h w2.reader.at (left_of w2 ++ to_bits (still now)) ≡ fill_answer h w2.reader.at (left_of w2)
-  told = by w2.ended ended enough
-    where
-      by : (known : Bool) → (known ≡ true → IsAtEnd now) → (known ≡ false → 64 ≤ length (left_of w2)) → fill_answer h w2.reader.at (left_of w2 ++ to_bits (still now)) ≡ fill_answer h w2.reader.at (left_of w2)
-      by true at_end many =
-          ap (λ (bs : List ℕ). fill_answer h w2.reader.at (left_of w2 ++ to_bits bs)) (still_none now (at_end refl)) ∙ ap (fill_answer h w2.reader.at) (append-nil (left_of w2))
-      by false at_end many = fill_told h w2.reader.at (left_of w2) (to_bits (still now)) (many refl)
+  told = search (rules, still_none, append-nil, fill_told)
 
   -- the stream is good, so the source is at its end
   pub restores_all : fill_answer h w2.reader.at (left_of w2) ≡ Ok tt → RestoresAll h src0 now out0 out w0

@@ -1,14 +1,13 @@
 -- The room that an array is compressed in, and the one that a stream is restored in, as they are used.
-use Rattle.std.proofs.Common.{◌≡◌, refl, sym, ap, subst, ◌∙◌, ℕ, ◌*◌, ◌≤◌, List, length, Option, arith}
+use Rattle.std.proofs.Common.{rules}
+use Rattle.std.proofs.Common.{◌≡◌, refl, sym, ◌∙◌, ℕ, ◌≤◌, List, length, Option, arith}
 use Rattle.std.specs.Int.{Width}
 use Rattle.std.specs.declared.cmp.PartialEq.{Ghosts as PartialEq}
 use Rattle.zf_base.specs.declared.lane.Lane.{Ghosts as Lane}
-use Rattle.zf_pad.specs.Slabs.{row_len}
 use Rattle.zf_header.specs.declared.header.Header.{Header}
 use Rattle.zf_stream.specs.declared.room.Room.{Room}
 use Rattle.zf_stream.specs.declared.restore_room.RestoreRoom.{RestoreRoom}
 use Rattle.zf_stream.specs.Windows.{KnowsEnd}
-use Rattle.zf_stream.specs.Rows.{ArePieces}
 use Rattle.zf_stream.specs.Rooms.{IsRoomFor, IsRoomOf, Keeps, CanRestore, CanRestoreAll, Stays}
 use Rattle.zf_stream.proofs.Slabwise.{with_shape, longest_part}
 
@@ -17,26 +16,14 @@ module _ {X : Type 0} {l : Lane X} {e : PartialEq X} where
   Keeps-none room = record { rows = refl; scratch = refl; most = refl; room = omega arith }
 
   pub Keeps-next : {a b c : Room X l e} → Keeps a b → Keeps b c → Keeps a c
-  Keeps-next {a} {b} {c} first next = record {
-    rows = next.rows ∙ first.rows;
-    scratch = next.scratch ∙ first.scratch;
-    most = next.most ∙ first.most;
-    room = omega (arith, first.room, next.room);
-  }
+  Keeps-next {a} {b} {c} first next = search rules
 
   -- it is kept room for the array
   pub room_kept : {h : Header} {a b : Room X l e} → IsRoomFor h a → Keeps a b → IsRoomFor h b
   room_kept {h} {a} {b} room keeps = record { scratch = keeps.scratch ∙ room.scratch; fits = omega (arith, room.fits, keeps.most, keeps.room) }
 
   pub array_kept : {w : Width} {h : Header} {n m : ℕ} {a b : Room X l e} → IsRoomOf w h n a → Keeps a b → m ≡ n → IsRoomOf w h m b
-  array_kept {w} {h} {n} {m} {a} {b} room keeps same =
-      let Pieces : ℕ → Type 0 = λ rows. ArePieces h.shape rows in
-      record {
-        same_type = room.same_type;
-        rows = subst Pieces (sym keeps.rows) room.rows;
-        values = same ∙ room.values ∙ ap (λ rows. row_len h.shape * rows) (sym keeps.rows);
-        codes = room_kept room.codes keeps;
-      }
+  array_kept {w} {h} {n} {m} {a} {b} room keeps same = search (rules, room_kept)
 
   -- and is room for some rows of it
   pub room_part : {h : Header} {room : Room X l e} (shape : List ℕ) → length shape ≡ length h.shape → IsRoomFor h room → IsRoomFor (with_shape h shape) room
@@ -48,39 +35,15 @@ module _ {X : Type 0} {l : Lane X} {e : PartialEq X} where
   Stays-none room = record { rows = refl; longest = refl; held = refl; values = omega arith }
 
   pub Stays-next : {a b c : RestoreRoom X l e} → Stays a b → Stays b c → Stays a c
-  Stays-next {a} {b} {c} first next = record {
-    rows = next.rows ∙ first.rows;
-    longest = next.longest ∙ first.longest;
-    held = next.held ∙ first.held;
-    values = omega (arith, first.values, next.values);
-  }
+  Stays-next {a} {b} {c} first next = search rules
 
   -- it still is one that the array can be restored in
   pub still_restores : {h : Header} {count : ℕ} {src now : Option (List ℕ)} {a b : RestoreRoom X l e} → CanRestore h count src a → Stays a b → KnowsEnd b.window now → CanRestore h count now b
-  still_restores {h} {count} {src} {now} {a} {b} can stays ended = record {
-    longest = omega (arith, can.longest, stays.longest);
-    held = omega (arith, can.held, stays.longest, stays.held);
-    fill = omega (arith, can.fill, stays.held);
-    values = omega (arith, can.values, stays.values);
-    ended = ended;
-  }
+  still_restores {h} {count} {src} {now} {a} {b} can stays ended = search rules
 
   pub still_restores_all : {w : Width} {h : Header} {src now : Option (List ℕ)} {a b : RestoreRoom X l e} → CanRestoreAll w h src a → Stays a b → KnowsEnd b.window now → CanRestoreAll w h now b
-  still_restores_all {w} {h} {src} {now} {a} {b} can stays ended =
-      let Pieces : ℕ → Type 0 = λ rows. ArePieces h.shape rows in
-      let Values : ℕ → Type 0 = λ rows. CanRestore h (row_len h.shape * rows) now b in
-      record {
-        same_type = can.same_type;
-        rows = subst Pieces (sym stays.rows) can.rows;
-        codes = subst Values (sym stays.rows) (still_restores can.codes stays ended);
-      }
+  still_restores_all {w} {h} {src} {now} {a} {b} can stays ended = search (rules, still_restores)
 
   -- and so can some rows of it
   pub restores_part : {h : Header} {count : ℕ} {src : Option (List ℕ)} {room : RestoreRoom X l e} (shape : List ℕ) (few : ℕ) → length shape ≡ length h.shape → few ≤ count → CanRestore h count src room → CanRestore (with_shape h shape) few src room
-  restores_part {h} {count} {src} {room} shape few same fewer can = record {
-    longest = omega (arith, can.longest, longest_part h shape same);
-    held = can.held;
-    fill = can.fill;
-    values = omega (arith, can.values, fewer);
-    ended = can.ended;
-  }
+  restores_part {h} {count} {src} {room} shape few same fewer can = search (rules, longest_part)

@@ -1,4 +1,5 @@
 -- The codes of an array, row by row.
+use Rattle.std.proofs.Common.{rules}
 use Rattle.std.proofs.Common.{◌≡◌, refl, sym, ap, ◌∙◌, ℕ, zero, suc, ◌+◌, ◌-◌, ◌*◌, ◌/◌, ◌<◌, ◌≤◌, inl, Bool, ℤ, List, [], ◌∷◌, ◌++◌, map, length, take, drop, length-append, take_at, drop_at, arith}
 use Rattle.std.proofs.lemmas.List.{append-nil, length-map, take-append-le, drop-append-le, length-drop, get_or-map}
 use Rattle.std.proofs.Math.Nat.{mul-add}
@@ -55,9 +56,7 @@ slab_of-bytes h c rows before raw more slab long as_long =
     let first = values_from w a before in
     let here = values_from w n raw in
     let last = values_from w m more in
-    let parts : values_from w (product ns) (before ++ (raw ++ more)) ≡ first ++ (here ++ last) =
-    ap (λ k. values_from w k (before ++ (raw ++ more))) count ∙ values_from-append w a (n + m) before (raw ++ more) long
-    ∙ ap (λ (vs : List ℤ). first ++ vs) (values_from-append w n m raw more as_long) in
+    let parts : values_from w (product ns) (before ++ (raw ++ more)) ≡ first ++ (here ++ last) = search (rules, values_from-append) in
     ap (λ (vs : List ℤ). take n (drop a vs)) parts ∙ ap (take n) (drop_at first (here ++ last) a (length-values_from w a before)) ∙ take_at here last n (length-values_from w n raw)
 
 -- ---- the codes of first rows
@@ -123,8 +122,4 @@ codes_of_rows-next h c rows bytes raw slab long as_long =
 -- those of all rows are the codes of the array
 pub codes_of_all_rows : (h : Header) (bytes : List ℕ) → 1 ≤ length h.shape
     → codes_of_rows h (rows_of h.shape) bytes ≡ flat_map (λ c. c) (codes (width_of h.ty) h.shape (coding h.mode) (values_from (width_of h.ty) (product h.shape) bytes))
-codes_of_all_rows h bytes some =
-    let g = grid h.shape in
-    let axes : 1 ≤ length g = omega (arith, length-map h.shape (λ n. (n + 3) / 4)) in
-    let count : first_block h.shape ((rows_of h.shape + 3) / 4) ≡ blocks h.shape = ap (λ k. row_len g * k) (sym (rows_of-grid h.shape some)) ∙ sym (product-rows g axes) in
-    ap (λ n. flat_map (λ c. c) (map (code_of_block h bytes) (upto n))) count
+codes_of_all_rows h bytes some = search (rules, length-map, rows_of-grid, product-rows)

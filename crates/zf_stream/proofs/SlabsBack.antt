@@ -1,4 +1,5 @@
 -- The blocks and the values of an array, slab by slab, as they are restored.
+use Rattle.std.proofs.Common.{rules}
 use Rattle.std.proofs.Common.{◌≡◌, refl, sym, ap, ◌∙◌, ℕ, zero, suc, ◌+◌, ◌-◌, ◌*◌, ◌/◌, ◌<◌, ◌≤◌, inl, Bool, ℤ, pos, List, [], ◌++◌, map, length, get_or, take, drop, Option, Some, None, Result, Ok, Err, mul_comm, take_at, drop_at, arith}
 use Rattle.std.proofs.lemmas.List.{append-nil, length-map, map-append, take_all}
 use Rattle.std.proofs.Math.Nat.{mul-add, mul-le-mul_left}
@@ -33,9 +34,7 @@ with_block-counted first block (Err b) = refl
 read_next-counted : (first b : ℕ) (s : List Bool) (c : Option (List ℤ × ℕ)) (r q : List Bool → Result (List (List ℤ) × List Bool) ℕ) → ((t : List Bool) → r t ≡ counted_from first (q t))
     → read_next (first + b) s c r ≡ counted_from first (read_next b s c q)
 read_next-counted first b s None r q same = refl
-read_next-counted first b s (Some code) r q same =
-    let t = drop code.1 s in
-    ap (with_block code.0) (same t) ∙ with_block-counted first code.0 (q t)
+read_next-counted first b s (Some code) r q same = search (rules, with_block, with_block-counted)
 
 pub read_codes-slab : (h : Header) (shape : List ℕ) (first b n : ℕ) (s : List Bool) → ((j : ℕ) → j < b + n → extent_of h.shape (first + j) ≡ extent_of shape j)
     → read_codes h (first + b) n s ≡ counted_from first (read_codes (with_shape h shape) b n s)
@@ -69,9 +68,7 @@ block_more ns rows b values more slab long lt =
 
 module _ (ns : List ℕ) (c here : ℕ) (slab : IsSlab ns c here) (values more : List ℤ) (long : length values ≡ row_len ns * (4 * c)) (as_long : length more ≡ row_len ns * here) where
   pub count_next : first_block ns ((4 * c + here + 3) / 4) ≡ first_block ns c + blocks (with_rows here ns)
-  count_next =
-      let rounded : (4 * c + here + 3) / 4 ≡ c + (here + 3) / 4 = omega arith in
-      ap (λ k. row_len (grid ns) * k) rounded ∙ mul-add (row_len (grid ns)) c ((here + 3) / 4) ∙ ap (λ k. first_block ns c + k) (sym (blocks-with_rows here ns slab.some_axis))
+  count_next = grind (arith, mul-add, blocks-with_rows)
 
   first_rows : IsSlab ns 0 (4 * c)
   first_rows = record { some_axis = slab.some_axis; within = omega (arith, slab.within); whole = inl (omega arith) }

@@ -1,12 +1,11 @@
 -- An array that is compressed slab by slab: one slab more, and where it stops.
+use Rattle.std.proofs.Common.{rules}
 use Rattle.std.proofs.Common.{◌≡◌, refl, sym, ap, subst, ◌∙◌, ℕ, ◌+◌, ◌-◌, ◌*◌, ◌/◌, ◌%◌, ◌<◌, ◌≤◌, ◌^◌, ◌⊎◌, inl, inr, ⊎_elim, min, Bool, List, [], ◌++◌, length, map, mul_comm, Option, append_assoc, length-append, arith}
 use Rattle.std.proofs.lemmas.Bool.{cases_lt}
 use Rattle.std.proofs.lemmas.List.{append-nil}
 use Rattle.std.proofs.Math.Nat.{add-mul, mul-add, mul-le-mul_left, mul-le-mul_right}
 use Rattle.std.specs.Int.{byte_len}
 use Rattle.std.specs.List.{flat_map}
-use Rattle.zf_spec.specs.Stream.{codes, values_from}
-use Rattle.zf_header.specs.HeaderBits.{coding}
 use Rattle.zf_spec.specs.Grid.{IsShape, product, grid, upto}
 use Rattle.zf_base.specs.Widths.{width_of}
 use Rattle.zf_pad.specs.Slabs.{rows_of, row_len, with_rows, IsSlab, first_block}
@@ -16,9 +15,6 @@ use Rattle.zf_dev.specs.Source.{Takes, Gives, GivesSome}
 use Rattle.zf_dev.proofs.Taking.{Takes-append}
 use Rattle.zf_dev.proofs.Giving.{Gives-none, Gives-append}
 use Rattle.zf_parse.specs.declared.fault.StreamFault.{StreamFault}
-use Rattle.zf_header.specs.declared.header.Mode.{Mode}
-use Rattle.zf_header.specs.declared.header.Mode.TheVariants.{Reversible, Rate, Precision}
-use Rattle.zf_block.specs.Room.{longest_rev, longest_prec}
 use mir.Val.{bits}
 use Rattle.zf_parse.specs.Parsing.{longest_code}
 use Rattle.zf_parse.specs.Raw.{raw_len, compress_answer}
@@ -54,9 +50,7 @@ whole_rows rows most all n is same fours = ⊎_elim (λ lt. inl (omega arith)) (
 
 -- the most rows of a slab, or all where there are fewer, are pieces of the array
 pub are_pieces : (ns : List ℕ) (rows most all : ℕ) → IsShape ns → rows ≡ min most all → all ≡ rows_of ns → 4 ≤ most → most % 4 ≡ 0 → ArePieces ns rows
-are_pieces ns rows most all shape is same some fours =
-    let not_none = all_rows (λ n. 1 ≤ n) ns shape.some_dimension shape.not_zero in
-    record { some = omega (arith, not_none, is, same, some); few = omega (arith, is, same); whole = whole_rows rows most all (rows_of ns) is same fours }
+are_pieces ns rows most all shape is same some fours = search (rules, all_rows, whole_rows)
 
 -- the next slab: its first row is a multiple of 4
 pub record IsNext (h : Header) (row here : ℕ) : Type 0 where
@@ -64,20 +58,7 @@ pub record IsNext (h : Header) (row here : ℕ) : Type 0 where
   pub slab : IsSlab h.shape (row / 4) here
 
 next_slab : (h : Header) (rows row : ℕ) → ArePieces h.shape rows → IsSlab h.shape 0 row → row < rows_of h.shape → (here : ℕ) → (here ≡ rows) ⊎ (here ≡ rows_of h.shape - row) → here ≤ rows → here ≤ rows_of h.shape - row → IsNext h row here
-next_slab h rows row pieces whole more here least few within =
-    let fours : row % 4 ≡ 0 = ⊎_elim (λ e. e) (λ e. absurd (omega (arith, e, more))) whole.whole in
-    let first : 4 * (row / 4) ≡ row = omega arith in
-    record {
-      first = first;
-      slab = record {
-        some_axis = whole.some_axis;
-        within = omega (arith, first, within, more);
-        whole = ⊎_elim
-            (λ same. ⊎_elim (λ e. inl (ap (λ n. n % 4) same ∙ e)) (λ e. inr (omega (arith, first, same, e, within, more))) pieces.whole)
-            (λ last. inr (omega (arith, first, last, more)))
-            least;
-      };
-    }
+next_slab h rows row pieces whole more here least few within = search (rules, least)
 
 -- the smaller of two numbers is one of them
 least : (here rows all row n : ℕ) → here ≡ min rows (all - row) → all ≡ n → (here ≡ rows) ⊎ (here ≡ n - row)
@@ -89,22 +70,12 @@ next_here h rows row all here pieces whole all_is more is =
 
 module _ (h : Header) (row here : ℕ) (next : IsNext h row here) (whole : IsSlab h.shape 0 row) where
   pub next_whole : IsSlab h.shape 0 (row + here)
-  next_whole = record {
-    some_axis = whole.some_axis;
-    within = omega (arith, next.first, next.slab.within);
-    whole = ⊎_elim (λ e. inl (omega (arith, e, next.first))) (λ e. inr (omega (arith, e, next.first))) next.slab.whole;
-  }
+  next_whole = search rules
 
   -- the codes of one slab more
   codes_next : (bytes raw : List ℕ) → length bytes ≡ rows_len h row → length raw ≡ rows_len h here
       → codes_of_rows h (row + here) (bytes ++ raw) ≡ codes_of_rows h row bytes ++ slab_codes (part_of h here) raw
-  codes_next bytes raw long as_long =
-      let c = row / 4 in
-      let Sum : ℕ → Type 0 = λ r. codes_of_rows h (r + here) (bytes ++ raw) ≡ codes_of_rows h r bytes ++ slab_codes (part_of h here) raw in
-      let many : row_len h.shape * here ≡ product (with_rows here h.shape) = sym (product-with_rows here h.shape whole.some_axis) in
-      subst Sum next.first
-      (codes_of_rows-next h c here bytes raw next.slab (long ∙ ap (rows_len h) (sym next.first)) as_long
-      ∙ ap (λ n. codes_of_rows h (4 * c) bytes ++ flat_map (λ c. c) (codes (width_of h.ty) (with_rows here h.shape) (coding h.mode) (values_from (width_of h.ty) n raw))) many)
+  codes_next bytes raw long as_long = search (rules, product-with_rows, codes_of_rows-next)
 
   within_all : (bytes : List ℕ) → length bytes ≡ rows_len h row → length bytes + product (with_rows here h.shape) * byte_len (width_of h.ty) ≤ raw_len h
   within_all bytes long =
@@ -184,10 +155,7 @@ module _ (h : Header) (row here : ℕ) (next : IsNext h row here) (whole : IsSla
 
 -- the raw values of an array are not so many
 raw_small : (h : Header) (len row : ℕ) → 1 ≤ length h.shape → row ≤ rows_of h.shape → product h.shape ≤ 2 ^ 27 → len ≤ 8 → len ≡ byte_len (width_of h.ty) → rows_len h row ≤ 2 ^ 30
-raw_small h len row some within few narrow is =
-    let all = rows_len-le h row (rows_of h.shape) within in
-    let whole : rows_len h (rows_of h.shape) ≡ product h.shape * byte_len (width_of h.ty) = ap (λ n. n * byte_len (width_of h.ty)) (sym (product-rows h.shape some)) in
-    omega (arith, all, whole, mul-le-mul_right (byte_len (width_of h.ty)) few, narrow, is)
+raw_small h len row some within few narrow is = grind (arith, rows_len-le, product-rows, mul-le-mul_right)
 
 -- the slab that comes next, and its sizes
 pub record NextSlab (h : Header) (rows row here count len : ℕ) (shape : List ℕ) : Type 0 where
@@ -199,16 +167,7 @@ pub record NextSlab (h : Header) (rows row here count len : ℕ) (shape : List �
 
 pub slab_next : (h : Header) (rows row all here count len : ℕ) (shape : List ℕ) → IsShape h.shape → ArePieces h.shape rows → IsSlab h.shape 0 row → all ≡ rows_of h.shape → row < all → here ≡ min rows (all - row)
     → shape ≡ with_rows here h.shape → count ≡ product shape → len ≡ byte_len (width_of h.ty) → len ≤ 8 → NextSlab h rows row here count len shape
-slab_next h rows row all here count len shape is_shape pieces whole all_is more is shape_is count_is len_is narrow =
-    let many : count ≡ row_len h.shape * here = count_is ∙ ap product shape_is ∙ product-with_rows here h.shape whole.some_axis in
-    let few : here ≤ rows = omega (arith, is) in
-    record {
-      next = next_here h rows row all here pieces whole all_is more is;
-      bytes_are = ap (λ n. n * len) count_is ∙ ap (λ n. product shape * n) len_is;
-      bytes_len = ap (λ n. n * len) many ∙ ap (λ n. row_len h.shape * here * n) len_is;
-      values = omega (arith, many, mul-le-mul_left (row_len h.shape) few);
-      small = raw_small h len (row + here) whole.some_axis (omega (arith, is, all_is, more)) is_shape.not_too_large narrow len_is;
-    }
+slab_next h rows row all here count len shape is_shape pieces whole all_is more is shape_is count_is len_is narrow = search (rules, product-with_rows, next_here, mul-le-mul_left, raw_small)
 
 -- ---- the start, where no row is read
 
@@ -216,18 +175,7 @@ pub zero_rows : (h : Header) → 0 ≡ rows_len h 0
 zero_rows h = omega (arith, mul_comm (row_len h.shape) 0)
 
 pub no_rows : (h : Header) (bits : List Bool) {src out : Option (List ℕ)} (known : List ℕ → Type 0) → 1 ≤ length h.shape → Takes src src [] → Flows out out bits bits → Compresses h 0 src src (Gives known known) out out bits bits
-no_rows h bits {src} {out} known some taken flows =
-    let none : first_block h.shape ((0 + 3) / 4) ≡ 0 = omega (arith, mul_comm (row_len (grid h.shape)) 0) in
-    let codes : codes_of_rows h 0 [] ≡ [] = ap (λ n. flat_map (λ c. c) (map (code_of_block h []) (upto n))) none in
-    let Of : List Bool → Type 0 = λ bs. Flows out out bs bits in
-    record {
-      whole = record { some_axis = some; within = omega arith; whole = inl refl };
-      bytes = [];
-      taken = taken;
-      given = Gives-none known;
-      long = zero_rows h;
-      flows = subst Of (sym (append-nil bits) ∙ ap (λ (bs : List Bool). bits ++ bs) (sym codes)) flows;
-    }
+no_rows h bits {src} {out} known some taken flows = search (rules, zero_rows, append-nil)
 
 pub Stops-none : (h : Header) (bits : List Bool) {src out0 out : Option (List ℕ)} (known : List ℕ → Type 0) → 1 ≤ length h.shape → Takes src src [] → Spills out0 out bits → Stops h src src (Gives known known) out0 out bits
 Stops-none h bits {src} {out0} {out} known some taken spills =
@@ -248,9 +196,4 @@ Stops-none h bits {src} {out0} {out} known some taken spills =
 
 -- the longest code depends on the number of axes alone
 pub longest_part : (h : Header) (shape : List ℕ) → length shape ≡ length h.shape → longest_code (with_shape h shape) ≡ longest_code h
-longest_part h shape same = by h.mode
-  where
-    by : (m : Mode) → longest_code (record { ty = h.ty; shape = shape; mode = m }) ≡ longest_code (record { ty = h.ty; shape = h.shape; mode = m })
-    by Reversible = ap (longest_rev (bits (width_of h.ty))) same
-    by (Rate b) = refl
-    by (Precision p) = ap (longest_prec (bits (width_of h.ty))) same
+longest_part h shape same = search rules

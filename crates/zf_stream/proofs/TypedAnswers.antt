@@ -1,10 +1,10 @@
 -- What is answered where a stream is restored if its values are of one type.
+use Rattle.std.proofs.Common.{rules}
 use Rattle.std.proofs.Common.{◌≡◌, ◌≢◌, refl, sym, ap, subst, ◌∙◌, ℕ, ◌≤◌, inl, inr, ⊎_elim, Bool, true, false, List, ◌++◌, Option, Some, None, Result, Ok, Err, arith}
 use Rattle.std.specs.Prelude.{IsErrAnd}
 use Rattle.zf_base.specs.declared.lane.Ty.{Ty}
 use Rattle.zf_base.specs.declared.lane.Ty.TheVariants.{I32, I64}
 use Rattle.zf_header.specs.declared.header.Header.{Header}
-use Rattle.zf_header.specs.HeaderFaults.{header_fault}
 use Rattle.zf_dev.specs.Source.{Takes, TakesSome}
 use Rattle.zf_parse.specs.declared.fault.StreamFault.{StreamFault}
 use Rattle.zf_parse.specs.declared.fault.StreamFault.TheVariants as faults
@@ -31,17 +31,12 @@ other_types I64 I64 answer is_not = absurd (is_not refl)
 
 -- the answer where the header is known
 typed_by : (wanted : Ty) (prefix more : List ℕ) (h : Header) (len : ℕ) → BeginsWithHeader prefix h len → typed_answer wanted (prefix ++ more) ≡ answer_of_types wanted h.ty (restore_answer (prefix ++ more))
-typed_by wanted prefix more h len begun =
-    let all = begun_more prefix more h len begun in
-    ap (λ f. header_or f (answer_of_types wanted (header_of (prefix ++ more)).ty (restore_answer (prefix ++ more)))) all.good
-    ∙ ap (λ (g : Header). answer_of_types wanted g.ty (restore_answer (prefix ++ more))) (sym all.header)
+typed_by wanted prefix more h len begun = search (rules, begun_more, header_or)
 
 -- a fault of the header
 typed_fault : (wanted : Ty) (n : ℕ) (known : Option (List ℕ)) (prefix : List ℕ) (e : StreamFault) (r : Result Bool StreamFault) → 19 ≤ n → IsPrefix n known prefix → IsFaultOf prefix e → r ≡ Err e → Answers r known (typed_answer wanted)
 typed_fault wanted n None prefix e r within is fault result = tt
-typed_fault wanted n (Some all) prefix (faults.Header f) r within is fault result =
-    let known : header_fault all ≡ Some f = sym (fault_first n all within) ∙ ap header_fault (sym is) ∙ fault in
-    inl (result ∙ sym (ap (λ o. header_or o (answer_of_types wanted (header_of all).ty (restore_answer all))) known))
+typed_fault wanted n (Some all) prefix (faults.Header f) r within is fault result = search (rules, fault_first, header_or)
 typed_fault wanted n (Some all) prefix (faults.RawShort m) r within is fault result = absurd fault
 typed_fault wanted n (Some all) prefix e r within is fault result = absurd fault
 
@@ -98,14 +93,7 @@ typed_possible wanted prefix h len e begun same can =
 
 -- the source failed
 pub where_unread : (wanted : Ty) (e : StreamFault) (known now out : Option (List ℕ)) → e ≡ faults.Read → TakesSome known now → RestoredWhere wanted (Err e) known now out out
-where_unread wanted e known now out is some = record {
-  answer = answer_unread known e (typed_answer wanted) is;
-  possible = inr (inl is);
-  ok = tt;
-  err = nothing_written known now out some;
-  unwritten = λ _. refl;
-  memory = λ same. absurd cc;
-}
+where_unread wanted e known now out is some = search (rules, answer_unread, nothing_written)
 
 -- there is no good header
 pub where_header : (wanted : Ty) (prefix : List ℕ) (e : StreamFault) (known now out : Option (List ℕ)) → TakesFirst 24 known now prefix → IsFaultOf prefix e → RestoredWhere wanted (Err e) known now out out

@@ -1,4 +1,5 @@
 -- The bits of a window, as its words are moved and more are put behind them.
+use Rattle.std.proofs.Common.{rules}
 use Rattle.std.proofs.Common.{◌≡◌, sym, ap, ◌∙◌, ℕ, ◌+◌, ◌-◌, ◌*◌, ◌/◌, ◌%◌, ◌≤◌, Bool, List, [], ◌++◌, length, take, drop, ℤ, Option, Ok, append_assoc, length-append, arith}
 use Rattle.std.proofs.lemmas.List.{drop-take, drop-drop, drop-append-le, length-drop, append-nil}
 use Rattle.std.proofs.lemmas.Grind.{flat_map-append}
@@ -21,7 +22,6 @@ pub bits_moved : (words new : List ℕ) (bits at first end : ℕ) → take (end 
     → drop (at - 64 * first) (take (bits - 64 * first) (word_bits new)) ≡ drop at (take bits (word_bits words))
 bits_moved words new bits at first end same within whole bits_are before in_bits =
     let n = end - first in
-    let first_in : first ≤ end = omega arith in
     let count : bits - 64 * first ≡ 64 * n = omega arith in
     let all : 64 * first + 64 * n ≡ bits = omega arith in
     let place : 64 * first + (at - 64 * first) ≡ at = omega arith in
@@ -38,40 +38,20 @@ bits_moved words new bits at first end same within whole bits_are before in_bits
 -- ---- one step after another
 
 pub Goes-none : (src : Option (List ℕ)) (w : Window) → Goes src src w w []
-Goes-none src w = record {
-  taken = Takes-none src;
-  moved = 0;
-  place = omega (arith, ap length (append-nil (left_of w)));
-}
+Goes-none src w = search (rules, append-nil)
 
 pub Goes-next : {a b c : Option (List ℕ)} {u v w : Window} {xs ys : List ℕ} → Goes a b u v xs → Goes b c v w ys → Goes a c u w (xs ++ ys)
 Goes-next {a} {b} {c} {u} {v} {w} {xs} {ys} first next = record {
   taken = Takes-append a b c xs ys first.taken next.taken;
   moved = first.moved + next.moved;
-  place = omega (
-    arith,
-    first.place,
-    next.place,
-    length-append (left_of u) (to_bits xs),
-    length-append (left_of v) (to_bits ys),
-    length-append (left_of u) (to_bits (xs ++ ys)),
-    length-to_bits xs,
-    length-to_bits ys,
-    length-to_bits (xs ++ ys),
-    length-append xs ys,
-  );
+  place = search (rules, length-append, length-to_bits);
 }
 
 pub to_bits-append : (s : List Bool) (xs ys : List ℕ) → (s ++ to_bits xs) ++ to_bits ys ≡ s ++ to_bits (xs ++ ys)
 to_bits-append s xs ys = append_assoc s (to_bits xs) (to_bits ys) ∙ ap (λ (bs : List Bool). s ++ bs) (sym (flat_map-append (field 8) xs ys))
 
 pub Refills-next : {a b c : Option (List ℕ)} {u v w : Window} → Refills a b u v → Refills b c v w → Refills a c u w
-Refills-next {a} {b} {c} {u} {v} {w} first next = record {
-  bytes = first.bytes ++ next.bytes;
-  goes = Goes-next first.goes next.goes;
-  bits = next.bits ∙ ap (λ (bs : List Bool). bs ++ to_bits next.bytes) first.bits ∙ to_bits-append (left_of u) first.bytes next.bytes;
-  room = next.room ∙ first.room;
-}
+Refills-next {a} {b} {c} {u} {v} {w} first next = search (rules, Goes-next, to_bits-append)
 
 -- words that were read are gone
 pub Refills-moved : (src : Option (List ℕ)) (u v : Window) → left_of v ≡ left_of u → v.room ≡ u.room → v.reader.at ≡ u.reader.at % 64 → Refills src src u v

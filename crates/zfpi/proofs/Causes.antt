@@ -1,5 +1,6 @@
 -- Faults of a command and their causes.
-use Rattle.std.proofs.Common.{◌≡◌, ◌≢◌, ℕ, ◌≤◌, Bool, true, false, refl, arith}
+use Rattle.std.proofs.Common.{rules}
+use Rattle.std.proofs.Common.{◌≡◌, ◌≢◌, ℕ, ◌≤◌, Bool, true, false, refl}
 use Rattle.zfpi.specs.declared.status.Status.{Status}
 use Rattle.zfpi.specs.declared.status.Status.TheVariants.{ReadFault, WriteFault}
 use Rattle.zfpi.specs.declared.command.Command.{Command}
@@ -16,24 +17,12 @@ use Rattle.zfpi.specs.Headline.{HasCauses, IsIdle}
 
 -- a command that uses no source has its causes whatever the source is sure of
 pub HasCauses-sure : (c : Command) (status : Status) (before now : Counts) {Sure : Type 0} → HasCauses c status before now (Unit {0}) (Unit {0}) → HasCauses c status before now Sure Sure
-HasCauses-sure c status before now causes = record {
-  reading = causes.reading;
-  writing = causes.writing;
-  no_reading = causes.no_reading;
-  no_writing = causes.no_writing;
-  sure = λ sure. ((causes.sure tt).0, sure);
-}
+HasCauses-sure c status before now causes = search rules
 
 -- a command that came to the sink after the source was read without a fault has its causes over both
 pub HasCauses-taken : (c : Command) (status : Status) (src src_now out out_now : ℕ) {Sure Still : Type 0} → src ≤ src_now → IsIdle ((meaning c).reads status) src src_now → (Sure → Still)
     → HasCauses c status (counts src out) (counts src out_now) (Unit {0}) (Unit {0}) → HasCauses c status (counts src out) (counts src_now out_now) Sure Still
-HasCauses-taken c status src src_now out out_now kept idle still causes = record {
-  reading = (kept, λ is. absurd ((causes.sure tt).0 is));
-  writing = causes.writing;
-  no_reading = idle;
-  no_writing = causes.no_writing;
-  sure = λ sure. ((causes.sure tt).0, still sure);
-}
+HasCauses-taken c status src src_now out out_now kept idle still causes = search rules
 
 -- no count rose of a device, used or not
 pub IsIdle-same : (used : Bool) (n : ℕ) → IsIdle used n n
@@ -47,24 +36,12 @@ IsIdle-used false m n is = absurd (cc)
 
 -- a command that came to no device but a shelf
 pub HasCauses-refused : (c : Command) (status : Status) (src out : ℕ) {Sure : Type 0} → status ≢ ReadFault → status ≢ WriteFault → HasCauses c status (counts src out) (counts src out) Sure Sure
-HasCauses-refused c status src out no_read no_write = record {
-  reading = (omega arith, λ is. absurd (no_read is));
-  writing = (omega arith, λ is. absurd (no_write is));
-  no_reading = IsIdle-same ((meaning c).reads status) src;
-  no_writing = IsIdle-same (meaning c).writes out;
-  sure = λ sure. (no_read, sure);
-}
+HasCauses-refused c status src out no_read no_write = search (rules, IsIdle-same)
 
 -- a command that wrote and came to no source
 pub HasCauses-wrote : (c : Command) (status : Status) (src out out_now : ℕ) → (meaning c).writes ≡ true → out ≤ out_now → status ≢ ReadFault → (status ≡ WriteFault → Rose out out_now)
     → HasCauses c status (counts src out) (counts src out_now) (Unit {0}) (Unit {0})
-HasCauses-wrote c status src out out_now used kept no_read rose = record {
-  reading = (omega arith, λ is. absurd (no_read is));
-  writing = (kept, rose);
-  no_reading = IsIdle-same ((meaning c).reads status) src;
-  no_writing = IsIdle-used (meaning c).writes out out_now used;
-  sure = λ sure. (no_read, tt);
-}
+HasCauses-wrote c status src out out_now used kept no_read rose = search (rules, IsIdle-same, IsIdle-used)
 
 -- its file was not loaded
 pub HasCauses-unloaded : (c : Command) (e : LoadError) (src out : ℕ) {Sure : Type 0} → HasCauses c (load_status e) (counts src out) (counts src out) Sure Sure
@@ -91,10 +68,4 @@ reads_take taking.Memory = refl
 -- its script was not read to its end
 pub HasCauses-untaken : (c : Command) (e : TakeError) (src src_now out : ℕ) {Sure Still : Type 0} → (meaning c).reads (take_status e) ≡ true → HasCause (e ≡ taking.Failed) src src_now → (Sure → (e ≢ taking.Failed) × Still)
     → HasCauses c (take_status e) (counts src out) (counts src_now out) Sure Still
-HasCauses-untaken c e src src_now out used cause sure = record {
-  reading = (cause.0, λ is. cause.1 (take_failed e is));
-  writing = (omega arith, λ is. absurd (no_write_take e is));
-  no_reading = IsIdle-used ((meaning c).reads (take_status e)) src src_now used;
-  no_writing = IsIdle-same (meaning c).writes out;
-  sure = λ s. (λ is. (sure s).0 (take_failed e is), (sure s).1);
-}
+HasCauses-untaken c e src src_now out used cause sure = search (rules, take_failed, no_write_take, IsIdle-used, IsIdle-same)

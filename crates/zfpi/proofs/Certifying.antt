@@ -1,4 +1,5 @@
 -- What `bound` does, from what its calls answer.
+use Rattle.std.proofs.Common.{rules}
 use Rattle.std.proofs.Common.{◌≡◌, ℕ, ◌↔◌, IsTrue, List, [], length, Option, Result, Ok, Err, IsOk, IfOk, inl, inr, refl, ap, sym, subst, ◌∙◌}
 use Rattle.std.proofs.lemmas.Bool.{true≢false}
 use Rattle.std.specs.Int.{Width}
@@ -25,11 +26,9 @@ use Rattle.zfpi.specs.Faults.{index_status}
 use Rattle.zfpi.specs.Opened.{array_in, opened}
 use Rattle.zfpi.specs.Certified.{certified_text, certified_status}
 use Rattle.zfpi.specs.Loaded.{HoldsFile, RefusesFile}
-use Rattle.zfpi.specs.Steps.{is_work_done}
 use Rattle.zfpi.specs.Calls.{Certifies}
 use Rattle.zfpi.specs.World.{seen}
 use Rattle.zfpi.specs.Headline.{Behaves}
-use Rattle.zfpi.proofs.Causes.{HasCauses-refused}
 use Rattle.zfpi.proofs.Rungs.{refuses}
 use Rattle.zfpi.proofs.Exposed.{some_input, Takes-none}
 use Rattle.zfpi.proofs.Opening.{array_in-rate, header_said}
@@ -50,25 +49,12 @@ said_good (Err e) good = absurd (cc)
 
 module _ (name : List ℕ) (most : ℕ) where
   pub IsLoading-bound : IsLoading (Bound name most) name array_in
-  IsLoading-bound = record {
-    refuses = λ w status none. sym (ap certified_status none);
-    starved_are = λ w status first. refl;
-    extent = λ input status first. refl;
-    draft = λ w status taken. refl;
-    loads = λ w. tt;
-    starves = λ w. tt;
-  }
+  IsLoading-bound = search (rules, refuses)
 
   -- the file is refused with this status
   pub Certifies-refused : {B : Type 0} {O : Sink B} (bytes : List ℕ) (status : Status) (out : B) → RefusesFile status → ((src : Option (List ℕ)) (known now : Option Files) → HoldsFile known name bytes → KeepsFiles known now → Behaves (Bound name most) status (seen src (O.contents out) known) (seen src (O.contents out) now))
       → Certifies O name most bytes status out out
-  Certifies-refused {O} bytes status out why behaves =
-      let r = refuses status why in
-      record {
-        behaves = behaves;
-        causes = λ src. HasCauses-refused (Bound name most) status src (O.faults out) r.no_read r.no_write;
-        shelfless = record { no_load = r.no_load; no_save = λ is. true≢false (sym (ap is_work_done is) ∙ r.undone) };
-      }
+  Certifies-refused {O} bytes status out why behaves = search (rules, refuses, true≢false)
 
   -- the file is no stream
   pub Behaves-no_codes : (e : IndexFault) (bytes : List ℕ) (h : Header) (src out : Option (List ℕ)) (known now : Option Files) → HoldsFile known name bytes → KeepsFiles known now → HasHeader bytes h → IsRate h.mode → IsFault (parse bytes) (stream_fault e)

@@ -1,4 +1,5 @@
 -- Words that are a command are one command's.
+use Rattle.std.proofs.Common.{rules}
 use Rattle.std.proofs.Common.{◌≡◌, ℕ, ◌+◌, ◌*◌, ◌<◌, ◌≤◌, ◌^◌, List, [], ◌∷◌, ◌++◌, map, length, get_or, take, drop, Option, Some, None, codes, eqb, decimal, refl, ap, sym, subst, ◌∙◌, arith, append_assoc}
 use Rattle.std.specs.Str.{bytes_eq}
 use Rattle.std.proofs.lemmas.Bool.{true≢false}
@@ -23,7 +24,7 @@ use Rattle.zfpi.specs.declared.words.Script.{Script}
 use Rattle.zfpi.specs.declared.words.Script.TheVariants as scripts
 use Rattle.zfpi.specs.declared.words.Stage.{Stage}
 use Rattle.zfpi.specs.declared.words.Stage.TheVariants as stages
-use Rattle.zfpi.specs.Words.{type_word, narrow_word, shape_word, mode_words, compress_words, compress_narrow_words, IsLines, lines_words, IsCaching, caching_words, IsOnScript, sample_words, IsAskable, IsSpelled, BeginsCommand, IsUsage}
+use Rattle.zfpi.specs.Words.{type_word, narrow_word, shape_word, mode_words, IsLines, lines_words, IsCaching, caching_words, IsOnScript, IsAskable, IsSpelled, BeginsCommand, IsUsage}
 use Rattle.zfpi.specs.Stages.{LeadsTo, IsBegun, task_words, script_word, IsRateWord, IsLinesWord, IsPrecisionWord}
 use Rattle.zfpi.proofs.ShapeWords.{parts_of-shape, decimals_injective, sizes_small}
 use Rattle.zfpi.proofs.Completed.{header_with, BeginsCommand-reached}
@@ -63,12 +64,8 @@ mode_words_injective Reversible (Precision q) a b same = absurd (cc)
 mode_words_injective (Precision p) Reversible a b same = absurd (cc)
 mode_words_injective (Rate n) (Precision q) a b same = absurd (true≢false (ap (bytes_eq (codes "rate")) (heads_same same)))
 mode_words_injective (Precision p) (Rate n) a b same = absurd (true≢false (ap (bytes_eq (codes "precision")) (heads_same same)))
-mode_words_injective (Precision p) (Precision q) a b same =
-    let text : decimal p ≡ decimal q = cc in
-    ap Precision (decimal_injective p q (omega (arith, a.1)) (omega (arith, b.1)) text)
-mode_words_injective (Rate m) (Rate n) a b same =
-    let text : decimal m ≡ decimal n = cc in
-    ap Rate (decimal_injective m n (omega (arith, a.1)) (omega (arith, b.1)) text)
+mode_words_injective (Precision p) (Precision q) a b same = search (rules, decimal_injective)
+mode_words_injective (Rate m) (Rate n) a b same = search (rules, decimal_injective)
 
 same_header : (g h : Header) → g.ty ≡ h.ty → g.shape ≡ h.shape → g.mode ≡ h.mode → g ≡ h
 same_header g h ty shape mode =
@@ -78,9 +75,7 @@ pub lines_words_injective : (l m : Option ℕ) → IsLines l → IsLines m → l
 lines_words_injective None None a b same = refl
 lines_words_injective None (Some m) a b same = absurd (cc)
 lines_words_injective (Some l) None a b same = absurd (cc)
-lines_words_injective (Some l) (Some m) a b same =
-    let text : decimal l ≡ decimal m = cc in
-    ap Some (decimal_injective l m (omega (arith, a.1)) (omega (arith, b.1)) text)
+lines_words_injective (Some l) (Some m) a b same = search (rules, decimal_injective)
 
 pub caching_words_injective : (k l : Caching) → IsCaching k → IsCaching l → caching_words k ≡ caching_words l → k ≡ l
 caching_words_injective (Direct k) (Direct l) a b same = ap Direct (lines_words_injective k l a b same)
@@ -88,9 +83,7 @@ caching_words_injective (Direct None) (TwoWay l) a b same = absurd (omega (arith
 caching_words_injective (Direct (Some k)) (TwoWay l) a b same = absurd (omega (arith, ap length (heads_same same)))
 caching_words_injective (TwoWay k) (Direct None) a b same = absurd (omega (arith, ap length same))
 caching_words_injective (TwoWay k) (Direct (Some l)) a b same = absurd (omega (arith, ap length (heads_same same)))
-caching_words_injective (TwoWay k) (TwoWay l) a b same =
-    let text : decimal k ≡ decimal l = cc in
-    ap TwoWay (decimal_injective k l (omega (arith, a.1)) (omega (arith, b.1)) text)
+caching_words_injective (TwoWay k) (TwoWay l) a b same = search (rules, decimal_injective)
 
 -- ---- the first word tells a command from the others
 first_word : Command → List ℕ
@@ -130,11 +123,7 @@ same_mark c d words a b = let other = begins_with d words b in mark_of c words (
 
 -- the words of a command on a script tell the name and the cache
 same_script : (first : List ℕ) (n m : List ℕ) (k l : Caching) (words : List (List ℕ)) → IsOnScript first n k words → IsOnScript first m l words → (n ≡ m) × (k ≡ l)
-same_script first n m k l words a b =
-    let same : first ∷ n ∷ caching_words k ≡ first ∷ m ∷ caching_words l = sym a.words_are ∙ b.words_are in
-    let named : n ≡ m = cc in
-    let behind : caching_words k ≡ caching_words l = cc in
-    (named, caching_words_injective k l a.caching_is b.caching_is behind)
+same_script first n m k l words a b = search (rules, caching_words_injective)
 
 -- a cache in which each block has one line, by its lines
 same_lines : (k l : Option ℕ) → Direct k ≡ Direct l → k ≡ l
@@ -144,29 +133,20 @@ same_lines k l same = cc
 pub one_command : (words : List (List ℕ)) (c d : Command) → IsSpelled c words → IsSpelled d words → c ≡ d
 unfolding first_word mark
 one_command words (Compress g) (Compress h) a b =
-    let same : compress_words g ≡ compress_words h = sym a.1 ∙ b.1 in
     let ty : type_word g.ty ≡ type_word h.ty = cc in
     let shape : shape_word g.shape ≡ shape_word h.shape = cc in
     let mode : mode_words g.mode ≡ mode_words h.mode = cc in
     ap Compress (same_header g h (type_word_injective g.ty h.ty ty) (shape_word_injective g.shape h.shape a.0.header.shape b.0.header.shape shape) (mode_words_injective g.mode h.mode a.0.header.mode b.0.header.mode mode))
 one_command words (CompressNarrow m g) (CompressNarrow n h) a b =
-    let same : compress_narrow_words m g ≡ compress_narrow_words n h = sym a.words_are ∙ b.words_are in
     let narrow : narrow_word m ≡ narrow_word n = cc in
     let shape : shape_word g.shape ≡ shape_word h.shape = cc in
     let mode : mode_words g.mode ≡ mode_words h.mode = cc in
     let same_shape = shape_word_injective g.shape h.shape a.asked.header.shape b.asked.header.shape shape in
     let same_mode = mode_words_injective g.mode h.mode a.asked.header.mode b.asked.header.mode mode in
     ap (λ x. CompressNarrow x g) (narrow_word_injective m n narrow) ∙ ap (CompressNarrow n) (same_header g h (a.typed ∙ sym b.typed) same_shape same_mode)
-one_command words (Compress g) (CompressNarrow n h) a b =
-    let same : compress_words g ≡ compress_narrow_words n h = sym a.1 ∙ b.words_are in
-    let typed : type_word g.ty ≡ narrow_word n = cc in
-    absurd (type_not_narrow g.ty n typed)
-one_command words (CompressNarrow n g) (Compress h) a b =
-    let same : compress_words h ≡ compress_narrow_words n g = sym b.1 ∙ a.words_are in
-    let typed : type_word h.ty ≡ narrow_word n = cc in
-    absurd (type_not_narrow h.ty n typed)
+one_command words (Compress g) (CompressNarrow n h) a b = search (rules, type_not_narrow)
+one_command words (CompressNarrow n g) (Compress h) a b = search (rules, type_not_narrow)
 one_command words (New name ty ns b) (New name' ty' ns' b') a d =
-    let same : codes "new" ∷ name ∷ type_word ty ∷ shape_word ns ∷ decimal b ∷ [] ≡ codes "new" ∷ name' ∷ type_word ty' ∷ shape_word ns' ∷ decimal b' ∷ [] = sym a.words_are ∙ d.words_are in
     let named : name ≡ name' = cc in
     let typed : type_word ty ≡ type_word ty' = cc in
     let shaped : shape_word ns ≡ shape_word ns' = cc in
@@ -176,7 +156,6 @@ one_command words (New name ty ns b) (New name' ty' ns' b') a d =
     let same_bits = decimal_injective b b' (omega (arith, a.rate.1)) (omega (arith, d.rate.1)) text in
     ap (λ n. New n ty ns b) named ∙ (ap (λ t. New name' t ns b) same_type ∙ (ap (λ s. New name' ty' s b) same_shape ∙ ap (λ k. New name' ty' ns' k) same_bits))
 one_command words (Sample g n) (Sample h m) a b =
-    let same : sample_words g n ≡ sample_words h m = sym a.words_are ∙ b.words_are in
     let ty : type_word g.ty ≡ type_word h.ty = cc in
     let shape : shape_word g.shape ≡ shape_word h.shape = cc in
     let text : decimal n ≡ decimal m = cc in
@@ -188,16 +167,9 @@ one_command words (Run n k) (Run m l) a b = let same = same_script (codes "run")
 one_command words (Look n k) (Look m l) a b =
     let same = same_script (codes "look") n m (Direct k) (Direct l) words a b in
     ap (λ name. Look name k) same.0 ∙ ap (Look m) (same_lines k l same.1)
-one_command words (Bound n k) (Bound m l) a b =
-    let same : codes "bound" ∷ n ∷ decimal k ∷ [] ≡ codes "bound" ∷ m ∷ decimal l ∷ [] = sym a.words_are ∙ b.words_are in
-    let named : n ≡ m = cc in
-    let text : decimal k ≡ decimal l = cc in
-    ap (λ name. Bound name k) named ∙ ap (Bound m) (decimal_injective k l a.small b.small text)
+one_command words (Bound n k) (Bound m l) a b = search (rules, decimal_injective)
 one_command words Restore Restore a b = refl
-one_command words (RestoreNarrow m) (RestoreNarrow n) a b =
-    let same : codes "restore" ∷ narrow_word m ∷ [] ≡ codes "restore" ∷ narrow_word n ∷ [] = sym a ∙ b in
-    let narrow : narrow_word m ≡ narrow_word n = cc in
-    ap RestoreNarrow (narrow_word_injective m n narrow)
+one_command words (RestoreNarrow m) (RestoreNarrow n) a b = search (rules, narrow_word_injective)
 one_command words Restore (RestoreNarrow n) a b = absurd (omega (arith, ap length (sym a ∙ b)))
 one_command words (RestoreNarrow m) Restore a b = absurd (omega (arith, ap length (sym a ∙ b)))
 one_command words Info Info a b = refl
@@ -249,40 +221,16 @@ record IsAsked (ty : Ty) (ns : List ℕ) (behind : List (List ℕ)) : Type 0 whe
   behind_is : behind ≡ mode_words mode
 
 asked : (h : Header) (ty : Ty) (ns : List ℕ) (behind : List (List ℕ)) → IsAskable h → IsShape ns → h.ty ≡ ty → shape_word h.shape ≡ shape_word ns → behind ≡ mode_words h.mode → IsAsked ty ns behind
-asked h ty ns behind askable shape same_type shape_text is = record {
-  mode = h.mode;
-  askable = subst IsAskable (same_header h (header_with ty ns h.mode) same_type (shape_word_injective h.shape ns askable.header.shape shape shape_text) refl) askable;
-  behind_is = is;
-}
+asked h ty ns behind askable shape same_type shape_text is = search (rules, same_header, header_with, shape_word_injective)
 
 -- words that begin a task are those of its command, and end with a mode
 IsAsked-begun : (task : Task) (ty : Ty) (ns : List ℕ) (behind words : List (List ℕ)) (c : Command) → IsBegun task ty ns behind words → IsSpelled c words → IsAsked ty ns behind
 unfolding first_word mark
-IsAsked-begun tasks.Compress ty ns behind words (Compress h) begun spelled =
-    let whole : codes "compress" ∷ type_word ty ∷ shape_word ns ∷ behind ≡ compress_words h = sym begun.words_are ∙ spelled.1 in
-    let type_text : type_word h.ty ≡ type_word ty = cc in
-    let shape_text : shape_word h.shape ≡ shape_word ns = cc in
-    let is : behind ≡ mode_words h.mode = cc in
-    asked h ty ns behind spelled.0 begun.shape_is (type_word_injective h.ty ty type_text) shape_text is
-IsAsked-begun (tasks.CompressNarrow n) ty ns behind words (CompressNarrow m h) begun spelled =
-    let whole : codes "compress" ∷ narrow_word n ∷ shape_word ns ∷ behind ≡ compress_narrow_words m h = sym begun.words_are ∙ spelled.words_are in
-    let shape_text : shape_word h.shape ≡ shape_word ns = cc in
-    let is : behind ≡ mode_words h.mode = cc in
-    asked h ty ns behind spelled.asked begun.shape_is (spelled.typed ∙ sym begun.task_is) shape_text is
-IsAsked-begun tasks.Compress ty ns behind words (CompressNarrow m h) begun spelled =
-    let whole : codes "compress" ∷ type_word ty ∷ shape_word ns ∷ behind ≡ compress_narrow_words m h = sym begun.words_are ∙ spelled.words_are in
-    let typed : type_word ty ≡ narrow_word m = cc in
-    absurd (type_not_narrow ty m typed)
-IsAsked-begun (tasks.CompressNarrow n) ty ns behind words (Compress h) begun spelled =
-    let whole : codes "compress" ∷ narrow_word n ∷ shape_word ns ∷ behind ≡ compress_words h = sym begun.words_are ∙ spelled.1 in
-    let typed : type_word h.ty ≡ narrow_word n = cc in
-    absurd (type_not_narrow h.ty n typed)
-IsAsked-begun (tasks.Sample n) ty ns behind words (Sample h seed) begun spelled =
-    let whole : codes "sample" ∷ type_word ty ∷ shape_word ns ∷ decimal n ∷ behind ≡ sample_words h seed = sym begun.words_are ∙ spelled.words_are in
-    let type_text : type_word h.ty ≡ type_word ty = cc in
-    let shape_text : shape_word h.shape ≡ shape_word ns = cc in
-    let is : behind ≡ mode_words h.mode = cc in
-    asked h ty ns behind spelled.asked begun.shape_is (type_word_injective h.ty ty type_text) shape_text is
+IsAsked-begun tasks.Compress ty ns behind words (Compress h) begun spelled = search (rules, asked, type_word_injective)
+IsAsked-begun (tasks.CompressNarrow n) ty ns behind words (CompressNarrow m h) begun spelled = search (rules, asked)
+IsAsked-begun tasks.Compress ty ns behind words (CompressNarrow m h) begun spelled = search (rules, type_not_narrow)
+IsAsked-begun (tasks.CompressNarrow n) ty ns behind words (Compress h) begun spelled = search (rules, type_not_narrow)
+IsAsked-begun (tasks.Sample n) ty ns behind words (Sample h seed) begun spelled = search (rules, asked, type_word_injective)
 IsAsked-begun tasks.Compress ty ns behind words c begun spelled = absurd (omega (arith, mark_of c words (codes "compress") (type_word ty ∷ shape_word ns ∷ behind) begun.words_are spelled))
 IsAsked-begun (tasks.CompressNarrow n) ty ns behind words c begun spelled = absurd (omega (arith, mark_of c words (codes "compress") (narrow_word n ∷ shape_word ns ∷ behind) begun.words_are spelled))
 IsAsked-begun (tasks.Sample n) ty ns behind words c begun spelled = absurd (omega (arith, mark_of c words (codes "sample") (type_word ty ∷ shape_word ns ∷ decimal n ∷ behind) begun.words_are spelled))
@@ -332,12 +280,7 @@ enough_words (New name ty ns b) words spelled = omega (arith, ap length spelled.
 enough_words (Run name lines) words spelled = omega (arith, ap length spelled.words_are)
 enough_words (Look name lines) words spelled = omega (arith, ap length spelled.words_are)
 enough_words (Bound name most) words spelled = omega (arith, ap length spelled.words_are)
-enough_words (Sample h seed) words spelled = by h.mode spelled.words_are
-  where
-    by : (m : Mode) → words ≡ codes "sample" ∷ type_word h.ty ∷ shape_word h.shape ∷ decimal seed ∷ mode_words m → 5 ≤ length words
-    by Reversible is = omega (arith, ap length is)
-    by (Rate b) is = omega (arith, ap length is)
-    by (Precision p) is = omega (arith, ap length is)
+enough_words (Sample h seed) words spelled = search rules
 
 few_compress : (rest words : List (List ℕ)) (c : Command) → words ≡ codes "compress" ∷ rest → length rest ≤ 1 → IsSpelled c words → ⊥
 unfolding first_word mark fewest
@@ -371,9 +314,7 @@ record HasCaching (script : Script) (behind : List (List ℕ)) : Type 0 where
   has : Has script caching
 
 behind_name : (first name : List ℕ) (behind words : List (List ℕ)) (n : List ℕ) (caching : Caching) → words ≡ first ∷ name ∷ behind → IsOnScript first n caching words → behind ≡ caching_words caching
-behind_name first name behind words n caching is spelled =
-    let whole : first ∷ name ∷ behind ≡ first ∷ n ∷ caching_words caching = sym is ∙ spelled.words_are in
-    cc
+behind_name first name behind words n caching is spelled = search rules
 
 HasCaching-begun : (script : Script) (name : List ℕ) (behind words : List (List ℕ)) (c : Command) → words ≡ script_word script ∷ name ∷ behind → IsSpelled c words → HasCaching script behind
 unfolding first_word mark Has
@@ -386,24 +327,10 @@ HasCaching-begun scripts.Look name behind words c is spelled = absurd (omega (ar
 
 -- a word behind `lines` or `twoway`, where a command goes on, is a number of lines
 pub IsLinesWord-begun : (script : Script) (name : List ℕ) (words : List (List ℕ)) (word : List ℕ) → words ≡ script_word script ∷ name ∷ codes "lines" ∷ [] → BeginsCommand (words ++ word ∷ []) → (l : ℕ) × IsLinesWord l word
-IsLinesWord-begun script name words word is (c, rest, spelled) =
-    let r = HasCaching-begun script name (codes "lines" ∷ word ∷ rest) ((words ++ word ∷ []) ++ rest) c (ap (λ prefix. (prefix ++ word ∷ []) ++ rest) is) spelled in
-    by r.caching r.caching_is r.behind_is
-  where
-    by : (k : Caching) → IsCaching k → codes "lines" ∷ word ∷ rest ≡ caching_words k → (n : ℕ) × IsLinesWord n word
-    by (Direct None) in_range same = absurd (cc)
-    by (Direct (Some l)) in_range same = let text : word ≡ decimal l = cc in (l, record { lines = in_range; text = text })
-    by (TwoWay l) in_range same = absurd (omega (arith, ap length (heads_same same)))
+IsLinesWord-begun script name words word is (c, rest, spelled) = search (rules, HasCaching-begun, heads_same)
 
 pub IsLinesWord-begun_twoway : (name : List ℕ) (words : List (List ℕ)) (word : List ℕ) → words ≡ codes "run" ∷ name ∷ codes "twoway" ∷ [] → BeginsCommand (words ++ word ∷ []) → (l : ℕ) × IsLinesWord l word
-IsLinesWord-begun_twoway name words word is (c, rest, spelled) =
-    let r = HasCaching-begun scripts.Run name (codes "twoway" ∷ word ∷ rest) ((words ++ word ∷ []) ++ rest) c (ap (λ prefix. (prefix ++ word ∷ []) ++ rest) is) spelled in
-    by r.caching r.caching_is r.behind_is
-  where
-    by : (k : Caching) → IsCaching k → codes "twoway" ∷ word ∷ rest ≡ caching_words k → (n : ℕ) × IsLinesWord n word
-    by (Direct None) in_range same = absurd (cc)
-    by (Direct (Some l)) in_range same = absurd (omega (arith, ap length (heads_same same)))
-    by (TwoWay l) in_range same = let text : word ≡ decimal l = cc in (l, record { lines = in_range; text = text })
+IsLinesWord-begun_twoway name words word is (c, rest, spelled) = search (rules, HasCaching-begun, heads_same)
 
 -- the number of such a word
 pub IsLinesWord-number : (l n : ℕ) (word : List ℕ) → IsLinesWord l word → n < 2 ^ 64 → word ≡ decimal n → l ≡ n
@@ -436,20 +363,8 @@ whole_at_end words (stages.Named name) c leads spelled = absurd (few_new (name �
 whole_at_end words (stages.NamedTyped name ty) c leads spelled = absurd (few_new (name ∷ type_word ty ∷ []) words c leads.1 (omega arith) spelled)
 whole_at_end words (stages.NamedShaped name ty ns) c leads spelled = absurd (few_new (name ∷ type_word ty ∷ shape_word ns ∷ []) words c leads.2 (omega arith) spelled)
 whole_at_end words (stages.Scripting script) c leads spelled = absurd (few_script script words c leads spelled)
-whole_at_end words (stages.AtLines script name) c leads spelled =
-    let r = HasCaching-begun script name (codes "lines" ∷ []) words c leads.1 spelled in absurd (by r.caching r.behind_is)
-  where
-    by : (k : Caching) → codes "lines" ∷ [] ≡ caching_words k → ⊥
-    by (Direct None) same = omega (arith, ap length same)
-    by (Direct (Some l)) same = omega (arith, ap length same)
-    by (TwoWay l) same = omega (arith, ap length same)
-whole_at_end words (stages.AtTwoWay name) c leads spelled =
-    let r = HasCaching-begun scripts.Run name (codes "twoway" ∷ []) words c leads.1 spelled in absurd (by r.caching r.behind_is)
-  where
-    by : (k : Caching) → codes "twoway" ∷ [] ≡ caching_words k → ⊥
-    by (Direct None) same = omega (arith, ap length same)
-    by (Direct (Some l)) same = omega (arith, ap length same)
-    by (TwoWay l) same = omega (arith, ap length same)
+whole_at_end words (stages.AtLines script name) c leads spelled = search (rules, HasCaching-begun)
+whole_at_end words (stages.AtTwoWay name) c leads spelled = search (rules, HasCaching-begun)
 whole_at_end words stages.Bounding c leads spelled = absurd (few_bound [] words c leads (omega arith) spelled)
 whole_at_end words (stages.AtMost name) c leads spelled = absurd (few_bound (name ∷ []) words c leads.1 (omega arith) spelled)
 whole_at_end words (stages.Whole d) c leads spelled = (d, refl)
@@ -464,17 +379,13 @@ IsUsage-ended words n stage all leads not_whole = record {
 
 -- one word more
 pub word_more : {X : Type 0} (text : X → List ℕ) (xs : List X) (i : ℕ) (x : X) (word : List ℕ) → i < length xs → x ≡ get_or xs i x → word ≡ text x → take (i + 1) (map text xs) ≡ take i (map text xs) ++ word ∷ []
-word_more text xs i x word lt is same =
-    let last : text (get_or xs i x) ≡ word = ap text (sym is) ∙ sym same in
-    take-map text (i + 1) xs ∙ (map_more text xs i x lt ∙ (ap (λ w. map text (take i xs) ++ w ∷ []) last ∙ ap (λ prefix. prefix ++ word ∷ []) (sym (take-map text i xs))))
+word_more text xs i x word lt is same = search (rules, take-map, map_more)
 
 -- ---- rates
 rate_behind : (ty : Ty) (ns : List ℕ) (m : Mode) (word : List ℕ) (rest : List (List ℕ)) → IsAskable (header_with ty ns m) → codes "rate" ∷ word ∷ rest ≡ mode_words m → (b : ℕ) × IsRateWord ty ns b word
 rate_behind ty ns Reversible word rest askable same = absurd (omega (arith, ap length same))
 rate_behind ty ns (Precision p) word rest askable same = absurd (true≢false (ap (bytes_eq (codes "precision")) (heads_same (sym same))))
-rate_behind ty ns (Rate b) word rest askable same =
-    let text : word ≡ decimal b = cc in
-    (b, record { rate = askable.header.mode; fits = askable.fits; text = text })
+rate_behind ty ns (Rate b) word rest askable same = search rules
 
 -- a word at the place of a rate, where a command goes on, is a rate
 pub IsRateWord-begun : (task : Task) (words : List (List ℕ)) (ty : Ty) (ns : List ℕ) (word : List ℕ) → LeadsTo words (stages.AtRate task ty ns) → BeginsCommand (words ++ word ∷ []) → (b : ℕ) × IsRateWord ty ns b word
@@ -486,8 +397,6 @@ IsRateWord-begun task words ty ns word leads (c, rest, spelled) =
 pub IsRateWord-begun_new : (words : List (List ℕ)) (name : List ℕ) (ty : Ty) (ns : List ℕ) (word : List ℕ) → LeadsTo words (stages.NamedShaped name ty ns) → BeginsCommand (words ++ word ∷ []) → (b : ℕ) × IsRateWord ty ns b word
 unfolding first_word mark
 IsRateWord-begun_new words name ty ns word leads (New n t s k, rest, spelled) =
-    let whole : codes "new" ∷ name ∷ type_word ty ∷ shape_word ns ∷ word ∷ rest ≡ codes "new" ∷ n ∷ type_word t ∷ shape_word s ∷ decimal k ∷ [] =
-    ap (λ prefix. (prefix ++ word ∷ []) ++ rest) (sym leads.2) ∙ spelled.words_are in
     let type_text : type_word t ≡ type_word ty = cc in
     let shape_text : shape_word s ≡ shape_word ns = cc in
     let text : word ≡ decimal k = cc in
@@ -506,15 +415,11 @@ IsRateWord-number ty ns b n word is small text =
 precision_behind : (m : Mode) (word : List ℕ) (rest : List (List ℕ)) → IsMode m → codes "precision" ∷ word ∷ rest ≡ mode_words m → (p : ℕ) × IsPrecisionWord p word
 precision_behind Reversible word rest mode same = absurd (omega (arith, ap length same))
 precision_behind (Rate b) word rest mode same = absurd (true≢false (ap (bytes_eq (codes "rate")) (heads_same (sym same))))
-precision_behind (Precision p) word rest mode same =
-    let text : word ≡ decimal p = cc in
-    (p, record { planes = mode; text = text })
+precision_behind (Precision p) word rest mode same = search rules
 
 -- a word at the place of a precision, where a command goes on, is one
 pub IsPrecisionWord-begun : (task : Task) (words : List (List ℕ)) (ty : Ty) (ns : List ℕ) (word : List ℕ) → LeadsTo words (stages.AtPrecision task ty ns) → BeginsCommand (words ++ word ∷ []) → (p : ℕ) × IsPrecisionWord p word
-IsPrecisionWord-begun task words ty ns word leads (c, rest, spelled) =
-    let is = IsAsked-begun task ty ns (codes "precision" ∷ word ∷ rest) ((words ++ word ∷ []) ++ rest) c (IsBegun-more task ty ns (codes "precision" ∷ []) words word rest leads) spelled in
-    precision_behind is.mode word rest is.askable.header.mode is.behind_is
+IsPrecisionWord-begun task words ty ns word leads (c, rest, spelled) = search (rules, IsAsked-begun, IsBegun-more, precision_behind)
 
 -- the number of such a word
 pub IsPrecisionWord-number : (p n : ℕ) (word : List ℕ) → IsPrecisionWord p word → n < 2 ^ 64 → word ≡ decimal n → p ≡ n

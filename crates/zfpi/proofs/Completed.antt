@@ -1,5 +1,6 @@
 -- Each stage that is reached can be completed to a command.
-use Rattle.std.proofs.Common.{◌≡◌, ℕ, ◌≤◌, List, [], ◌∷◌, ◌++◌, Option, Some, None, codes, decimal, refl, ap, sym, subst, ◌∙◌, arith, lit≤, lit<, append_assoc}
+use Rattle.std.proofs.Common.{rules}
+use Rattle.std.proofs.Common.{◌≡◌, ℕ, ◌≤◌, List, [], ◌∷◌, ◌++◌, Option, Some, None, codes, decimal, refl, ap, sym, subst, arith, lit≤, lit<}
 use Rattle.std.proofs.lemmas.List.{append-nil}
 use Rattle.zf_base.specs.declared.lane.Ty.{Ty}
 use Rattle.zf_base.specs.declared.lane.Ty.TheVariants.{I32}
@@ -28,13 +29,7 @@ header_with ty ns mode = record { ty = ty; shape = ns; mode = mode }
 
 -- one value is a shape
 pub one_value : IsShape (1 ∷ [])
-one_value = record {
-  some_dimension = lit≤ tt;
-  four_at_most = lit≤ tt;
-  not_zero = (lit≤ tt, tt);
-  fields = (lit≤ tt, tt);
-  not_too_large = lit≤ tt;
-}
+one_value = search rules
 
 askable_reversible : (ty : Ty) (ns : List ℕ) → IsShape ns → IsAskable (header_with ty ns Reversible)
 askable_reversible ty ns shape = record { header = record { shape = shape; mode = tt }; fits = tt }
@@ -58,9 +53,7 @@ IsSpelled-task (tasks.Sample seed) h words task askable is = record { asked = as
 
 -- and so are words that begin a task, and those of a mode behind them
 pub IsSpelled-begun : (task : Task) (h : Header) (prefix behind words : List (List ℕ)) → IsBegun task h.ty h.shape prefix words → IsAskable h → mode_words h.mode ≡ prefix ++ behind → IsSpelled (command_of task h) (words ++ behind)
-IsSpelled-begun task h prefix behind words begun askable is =
-    IsSpelled-task task h (words ++ behind) begun.task_is askable
-    (ap (λ all. all ++ behind) begun.words_are ∙ (append_assoc (task_words task h.ty h.shape) prefix behind ∙ ap (λ mode. task_words task h.ty h.shape ++ mode) (sym is)))
+IsSpelled-begun task h prefix behind words begun askable is = search (rules, IsSpelled-task)
 
 -- an array of this name, type and shape can be made with one bit a block
 one_letter : IsName (97 ∷ [])

@@ -1,8 +1,9 @@
 -- What a command wrote is handed on once it has ended: what stays of what is known of it, and what a fault makes of it.
-use Rattle.std.proofs.Common.{◌≡◌, ◌≢◌, ℕ, ◌≤◌, true, false, List, [], take, inl, inr, Option, None, Result, Ok, Err, IsOk, IsErr, refl, ap, sym, subst, ◌∙◌, append-nil, arith}
+use Rattle.std.proofs.Common.{rules}
+use Rattle.std.proofs.Common.{◌≡◌, ◌≢◌, ℕ, ◌≤◌, true, false, List, [], take, inl, inr, Option, None, Result, Ok, Err, IsOk, IsErr, refl, subst, append-nil, arith}
 use Rattle.std.specs.Prelude.{OnOk}
 use Rattle.std.proofs.lemmas.Bool.{false≢true}
-use Rattle.zf_dev.specs.Faults.{Rose, IsQuiet, HasCause}
+use Rattle.zf_dev.specs.Faults.{IsQuiet, HasCause}
 use Rattle.zf_dev.specs.declared.faults.Failed.{Failed}
 use Rattle.zf_dev.specs.declared.faults.LoadError.{LoadError}
 use Rattle.zf_dev.specs.declared.faults.LoadError.TheVariants as loading
@@ -14,7 +15,7 @@ use Rattle.zf_dev.specs.declared.shelf.Shelf.{Ghosts as Shelf}
 use Rattle.zf_dev.proofs.Appending.{Appends-append, AppendsPrefix-all}
 use Rattle.zf_parse.specs.Parsing.{Said}
 use Rattle.zfpi.specs.declared.status.Status.{Status}
-use Rattle.zfpi.specs.declared.status.Status.TheVariants.{Done, Lines, ReadFault, WriteFault, LoadFault, SaveFault}
+use Rattle.zfpi.specs.declared.status.Status.TheVariants.{Done, Lines, WriteFault, LoadFault, SaveFault}
 use Rattle.zfpi.specs.declared.command.Command.{Command}
 use Rattle.zfpi.specs.declared.command.Command.TheVariants.{Compress, CompressNarrow, Restore, RestoreNarrow, Info, New, Run, Look, Bound, Sample}
 use Rattle.zfpi.specs.Faults.{load_status}
@@ -46,19 +47,7 @@ Writes-stays SaveFault text draft before mid now stays written = Appends-stays b
 Writes-stays status text draft before mid now stays written = prefix_stays before mid now draft written stays
 
 pub Behaves-stays : (c : Command) (status : Status) (before : Seen) (src mid now : Option (List ℕ)) (shelf : Option Files) → Appends mid now [] → Behaves c status before (seen src mid shelf) → Behaves c status before (seen src now shelf)
-Behaves-stays c status before src mid now shelf stays b = record {
-  ends = b.ends;
-  world = b.world;
-  exposed = b.exposed;
-  starved = b.starved;
-  starved_are = b.starved_are;
-  stated = b.stated;
-  taken = b.taken;
-  takes = b.takes;
-  extent = b.extent;
-  written = Writes-stays status ((meaning c).text b.world b.starved b.taken) ((meaning c).draft status ((meaning c).text b.world b.starved b.taken)) before.out mid now stays b.written;
-  saved = b.saved;
-}
+Behaves-stays c status before src mid now shelf stays b = search (rules, Writes-stays)
 
 -- ---- commands whose output is handed on once they have ended, which may make a fault of the sink of work that was done
 
@@ -163,17 +152,10 @@ module _ (c : Command) (status ended : Status) (unsaved : IsSentAfter c) where
   -- what such a command did once what it wrote was handed on
   pub Behaves-sent : (before : Seen) (src mid now : Option (List ℕ)) (shelf : Option Files) {m n : ℕ} {Flushed : Type 0} → Behaves c status before (seen src mid shelf) → HandsOn status ended mid now m n Flushed → Behaves c ended before (seen src now shelf)
   Behaves-sent before src mid now shelf b sent =
-      let stayed = Behaves-stays c status before src mid now shelf sent.stays b in
-      elim sent.ends [
-        | inl same ↦ subst (λ s. Behaves c s before (seen src now shelf)) (sym same) stayed
-        | inr failed ↦ subst (λ s. Behaves c s before (seen src now shelf)) (sym failed.0) (unsent c status before (seen src now shelf) unsaved failed.1 stayed)
-      ]
+      let stayed = Behaves-stays c status before src mid now shelf sent.stays b in search (rules, unsent)
 
   idle_sent : (m n : ℕ) {Failed : Type 0} → IsIdle ((meaning c).reads status) m n → EndsSent status ended Failed → IsIdle ((meaning c).reads ended) m n
-  idle_sent m n idle ends = elim ends [
-    | inl same ↦ subst (λ s. IsIdle ((meaning c).reads s) m n) (sym same) idle
-    | inr failed ↦ subst (λ s. IsIdle ((meaning c).reads s) m n) (sym failed.0) (reads_cut c unsaved status m n idle)
-  ]
+  idle_sent m n idle ends = search (rules, reads_cut)
 
   -- how often it saw the end of its source
   pub StopsAtEnd-sent : (m n : ℕ) {k l : ℕ} {before now : Option (List ℕ)} {Flushed : Type 0} → StopsAtEnd ((meaning c).reads status) m n → HandsOn status ended before now k l Flushed → StopsAtEnd ((meaning c).reads ended) m n
@@ -182,35 +164,11 @@ module _ (c : Command) (status ended : Status) (unsaved : IsSentAfter c) where
   -- its causes
   pub HasCauses-sent : (src src_now out mid now : ℕ) {before after : Option (List ℕ)} {Sure Still Flushed : Type 0} → HasCauses c status (counts src out) (counts src_now mid) Sure Still → HandsOn status ended before after mid now Flushed
       → HasCauses c ended (counts src out) (counts src_now now) Sure Still
-  HasCauses-sent src src_now out mid now {before} {after} {Sure} {Still} causes sent = record {
-    reading = (causes.reading.0, λ is. by_read sent.ends is);
-    writing = (omega (arith, causes.writing.0, sent.kept), λ is. by_write sent.ends is);
-    no_reading = idle_sent src src_now causes.no_reading sent.ends;
-    no_writing = writes_used c unsaved out now;
-    sure = λ sure. (λ is. no_read sent.ends (causes.sure sure).0 is, (causes.sure sure).1);
-  }
-    where
-      no_fault : WriteFault ≡ ReadFault → ⊥
-      no_fault is = cc
-
-      by_read : EndsSent status ended (Rose mid now) → ended ≡ ReadFault → Rose src src_now
-      by_read ends is = elim ends [ inl same ↦ causes.reading.1 (sym same ∙ is) | inr failed ↦ absurd (no_fault (sym failed.0 ∙ is)) ]
-
-      by_write : EndsSent status ended (Rose mid now) → ended ≡ WriteFault → Rose out now
-      by_write ends is = elim ends [
-        | inl same ↦ omega (arith, causes.writing.1 (sym same ∙ is), sent.kept)
-        | inr failed ↦ omega (arith, causes.writing.0, failed.2)
-      ]
-
-      no_read : EndsSent status ended (Rose mid now) → (status ≢ ReadFault) → ended ≡ ReadFault → ⊥
-      no_read ends none is = elim ends [ inl same ↦ none (sym same ∙ is) | inr failed ↦ no_fault (sym failed.0 ∙ is) ]
+  HasCauses-sent src src_now out mid now {before} {after} {Sure} {Still} causes sent = search (rules, idle_sent, writes_used)
 
   -- no fault of a shelf where there is none
   pub IsShelfless-sent : (before now : Seen) → (meaning c).loads ≡ false → Behaves c ended before now → IsShelfless ended
-  IsShelfless-sent before now none b = record {
-    no_load = λ is. no_load c none (subst (IsPossible c) is (IsPossible-behaves c ended before now b));
-    no_save = λ is. no_save c unsaved (subst (IsPossible c) is (IsPossible-behaves c ended before now b));
-  }
+  IsShelfless-sent before now none b = search (rules, no_load, no_save)
 
   -- and that all was handed on
   pub IsSent-sent : (before now : Seen) (out mid after : ℕ) {was is : Option (List ℕ)} {Flushed : Type 0} → Behaves c ended before now → out ≤ mid → HandsOn status ended was is mid after Flushed → IsSent ended (IsQuiet out after) Flushed
@@ -235,10 +193,7 @@ module _ (c : Command) (status ended : Status) (unsaved : IsSentAfter c) where
       }
 
 pub unloaded_sent : (status ended : Status) {before now : Option (List ℕ)} {m n : ℕ} {Flushed : Type 0} → status ≢ LoadFault → HandsOn status ended before now m n Flushed → ended ≢ LoadFault
-unloaded_sent status ended none sent = λ is. elim sent.ends [ inl same ↦ none (sym same ∙ is) | inr failed ↦ other (sym failed.0 ∙ is) ]
-  where
-    other : WriteFault ≡ LoadFault → ⊥
-    other is = cc
+unloaded_sent status ended none sent = search rules
 
 -- a file that was not loaded was no fault of the shelf, where the load was none
 pub unloaded_status : (e : LoadError) → e ≢ loading.Failed → load_status e ≢ LoadFault
@@ -256,11 +211,7 @@ pub IsSent-later : (status : Status) (first m n : ℕ) {Flushed : Type 0} → fi
 IsSent-later status first m n kept sent = λ why. sent (elim why [ inl work ↦ inl work | inr quiet ↦ inr (omega (arith, kept, quiet)) ])
 
 pub Sends-stays : (text : List ℕ) (before mid now : Option (List ℕ)) (first m n : ℕ) → Sends text before mid first m → Appends mid now [] → m ≤ n → Sends text before now first n
-Sends-stays text before mid now first m n sends stays kept = record {
-  prefix = prefix_stays before mid now text sends.prefix stays;
-  whole = λ quiet. Appends-stays before mid now text (sends.whole (omega (arith, kept, quiet))) stays;
-  kept = omega (arith, sends.kept, kept);
-}
+Sends-stays text before mid now first m n sends stays kept = search (rules, prefix_stays, Appends-stays)
 
 -- ---- a script whose replies were handed on or not
 
@@ -269,7 +220,4 @@ pub cut_sent : (ended : Status) {before now : Option (List ℕ)} {m n : ℕ} {Fl
 cut_sent ended sent = elim sent.ends [ inl same ↦ same | inr failed ↦ failed.0 ]
 
 pub IsSent-cut : (ended : Status) (first m n : ℕ) {before now : Option (List ℕ)} {Flushed : Type 0} → first ≤ m → HandsOn WriteFault ended before now m n Flushed → IsSent ended (IsQuiet first n) Flushed
-IsSent-cut ended first m n kept sent = λ why. sent.flushed (elim why [
-  | inl work ↦ absurd (false≢true (sym (ap is_work_done (cut_sent ended sent)) ∙ work))
-  | inr quiet ↦ inr (omega (arith, kept, quiet))
-])
+IsSent-cut ended first m n kept sent = λ why. sent.flushed (search (rules, false≢true, cut_sent))

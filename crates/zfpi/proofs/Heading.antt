@@ -1,4 +1,5 @@
 -- What `info` promises, from what reading a header does.
+use Rattle.std.proofs.Common.{rules}
 use Rattle.std.proofs.Common.{◌≡◌, ℕ, ◌≤◌, cond, List, [], length, take, Option, Some, None, is_none, ◌⊎◌, inl, inr, refl, ap, sym, subst, ◌∙◌}
 use Rattle.std.proofs.lemmas.List.{take_all}
 use Rattle.zf_dev.specs.Shelf.{Files}
@@ -49,10 +50,7 @@ Behaves-first status bytes src_before src_now out_before out_now shelf ends firs
       exposed = record { input = b.exposed; files = ExposesFiles-same shelf };
       starved = [];
       starved_are = refl;
-      stated = elim stated [
-        | inl same ↦ inl (same ∙ ap (λ prefix. header_status (header_fault prefix)) b.first)
-        | inr may ↦ inr (may w)
-      ];
+      stated = search rules;
       taken = bytes;
       takes = first.taken;
       extent = extent b.input b.first;
@@ -63,10 +61,7 @@ Behaves-first status bytes src_before src_now out_before out_now shelf ends firs
 -- the line was written
 pub Behaves-line : (h : Header) (bits : ℕ) (line : List ℕ) (src_before src_now out_before out_now : Option (List ℕ)) (shelf : Option Files) → ReadsHeader src_before src_now h bits → line ≡ info_line h → Appends out_before out_now line
     → Behaves Info statuses.Done (seen src_before out_before shelf) (seen src_now out_now shelf)
-Behaves-line h bits line src_before src_now out_before out_now shelf reads is written =
-    let text = is ∙ sym (info_text-read reads.bytes h reads.begun.good reads.begun.header) in
-    Behaves-first statuses.Done reads.bytes src_before src_now out_before out_now shelf tt reads.first (inl (ap header_status (sym reads.begun.good))) (λ input first. first)
-    (subst (Appends out_before out_now) text written)
+Behaves-line h bits line src_before src_now out_before out_now shelf reads is written = search (rules, info_text-read, Behaves-first)
 
 -- a prefix of the line was
 pub Behaves-cut_line : (h : Header) (bits : ℕ) (line : List ℕ) (src_before src_now out_before out_now : Option (List ℕ)) (shelf : Option Files) → ReadsHeader src_before src_now h bits → line ≡ info_line h → AppendsPrefix out_before out_now line

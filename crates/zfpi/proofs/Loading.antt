@@ -1,12 +1,12 @@
 -- What a command does that loads a file, as far as the load and what the file is opened as.
-use Rattle.std.proofs.Common.{◌≡◌, ℕ, suc, ◌≤◌, ◌<◌, cond, List, [], length, Option, Some, None, Result, Err, ◌⊎◌, inl, inr, refl, ap, sym, subst, ◌∙◌, arith}
+use Rattle.std.proofs.Common.{rules}
+use Rattle.std.proofs.Common.{◌≡◌, ℕ, suc, ◌≤◌, ◌<◌, cond, List, [], length, Option, Some, None, Result, Err, ◌⊎◌, inl, inr, refl, ap, ◌∙◌, arith}
 use Rattle.std.specs.Prelude.{replicate}
 use Rattle.std.proofs.lemmas.Bool.{lt-ltb, le-ltb}
 use Rattle.std.proofs.lemmas.List.{length-replicate}
 use Rattle.zf_dev.specs.Shelf.{Files, HasFile, HasLongFile, ExplainsLoad, KeepsFiles, KeepsOthers, SavesFile}
 use Rattle.zf_dev.specs.declared.faults.LoadError.{LoadError}
 use Rattle.zf_dev.specs.declared.faults.LoadError.TheVariants as loading
-use Rattle.zf_dev.proofs.Appending.{AppendsPrefix-none}
 use Rattle.zf_parse.specs.declared.fault.StreamFault.{StreamFault}
 use Rattle.zf_parse.specs.declared.fault.StreamFault.TheVariants as faults
 use Rattle.zf_parse.specs.Parsing.{Said}
@@ -23,7 +23,7 @@ use Rattle.zfpi.specs.Scripts.{OnWholeScript, TakesScript}
 use Rattle.zfpi.specs.Answer.{meaning, cut_draft, MayFail, OfUsed}
 use Rattle.zfpi.proofs.Ends.{FileEnds}
 use Rattle.zfpi.specs.Headline.{IsOfCommand, Writes, Saves, Behaves}
-use Rattle.zfpi.proofs.Exposed.{files_of, files_of-none, ExposesFiles-same, some_input, Takes-none}
+use Rattle.zfpi.proofs.Exposed.{files_of, files_of-none, ExposesFiles-same, some_input}
 
 -- ---- statuses that come before anything is read or written
 
@@ -63,9 +63,7 @@ TakesScript-first input = by_first (λ s. TakesScript s input []) refl refl refl
 
 -- nothing was written
 Writes-first : (text : List ℕ) (out : Option (List ℕ)) (status : Status) → ComesFirst status → Writes status text (cut_draft status text) out out
-Writes-first text out =
-    let none = AppendsPrefix-none out [] in
-    by_first (λ s. Writes s text (cut_draft s text) out out) none none none (λ f. none) (λ b. none) none none none (λ m. none)
+Writes-first text out = search (rules, by_first)
 
 -- after these statuses all files are as they were
 abbrev pub Unsaved : Status → Type 0
@@ -160,21 +158,7 @@ module _ (c : Command) (name : List ℕ) (reading : List ℕ → Result Said Sta
   idle : (status : Status) (src out : Option (List ℕ)) (before now : Option Files) (input : List ℕ) (files : Files) → ComesFirst status → ExposesInput src input → ExposesFiles before files
       → (status ≡ (meaning c).status (record { input = input; files = files }) []) ⊎ MayFail status c (record { input = input; files = files })
       → KeepsFiles before now → Behaves c status (seen src out before) (seen src out now)
-  idle status src out before now input files first exposed_input exposed_files stated kept =
-      let w : World = record { input = input; files = files } in
-      record {
-        ends = IsOfCommand-first status first;
-        world = w;
-        exposed = record { input = exposed_input; files = exposed_files };
-        starved = [];
-        starved_are = is.starved_are w status first;
-        stated = stated;
-        taken = [];
-        takes = Takes-none src;
-        extent = is.extent input status first;
-        written = subst (λ draft. Writes status ((meaning c).text w [] []) draft out out) (sym (is.draft w status [])) (Writes-first ((meaning c).text w [] []) out status first);
-        saved = Saves-unsaved ((meaning c).saved w []) status before now (Unsaved-first status first) kept;
-      }
+  idle status src out before now input files first exposed_input exposed_files stated kept = search (rules, IsOfCommand-first, Writes-first, Saves-unsaved, Unsaved-first)
 
   -- there was no memory
   pub Behaves-starved : (src out : Option (List ℕ)) (known now : Option Files) → KeepsFiles known now → Behaves c statuses.Memory (seen src out known) (seen src out now)
@@ -214,7 +198,4 @@ module _ (c : Command) (name : List ℕ) (reading : List ℕ → Result Said Sta
   -- it is not opened for this fault, or there was no memory
   pub Behaves-unopened : (e : StreamFault) (bytes : List ℕ) (src out : Option (List ℕ)) (known now : Option Files) → ComesFirst (fault_status e) → (reading bytes ≡ Err (fault_status e)) ⊎ (e ≡ faults.Memory)
       → HoldsFile known name bytes → KeepsFiles known now → Behaves c (fault_status e) (seen src out known) (seen src out now)
-  Behaves-unopened e bytes src out known now first why holds kept = elim why [
-    | inl none ↦ Behaves-refused (fault_status e) bytes src out known now first none holds kept
-    | inr memory ↦ subst (λ fault. Behaves c (fault_status fault) (seen src out known) (seen src out now)) (sym memory) (Behaves-starved src out known now kept)
-  ]
+  Behaves-unopened e bytes src out known now first why holds kept = search (rules, Behaves-refused, Behaves-starved)

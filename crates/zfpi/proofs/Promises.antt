@@ -1,25 +1,24 @@
 -- From the promises of a command to those of the program.
-use Rattle.std.proofs.Common.{◌≡◌, ◌≢◌, ℕ, zero, suc, ◌<◌, count_by, Bool, true, false, cond, ltb, length, take, ◌⊎◌, inl, inr, List, Option, Some, None, Result, Ok, Err, refl, ap, sym, subst, ◌∙◌, arith}
+use Rattle.std.proofs.Common.{rules}
+use Rattle.std.proofs.Common.{◌≡◌, ◌≢◌, ℕ, zero, suc, ◌<◌, Bool, true, false, cond, take, ◌⊎◌, inl, inr, List, Option, Some, None, Result, Ok, Err, refl, ap, sym, subst, ◌∙◌, arith}
 use Rattle.std.proofs.lemmas.Bool.{ltb-true}
 use Rattle.zf_base.specs.declared.lane.Ty.{Ty}
 use Rattle.zf_base.specs.declared.lane.Ty.TheVariants.{I32, I64}
 use Rattle.zf_dev.specs.Faults.{IsQuiet}
 use Rattle.zf_dev.specs.Sink.{Appends}
-use Rattle.zf_dev.proofs.Counts.{HasCause-quiet}
 use Rattle.zf_header.specs.declared.header.HeaderFault.{HeaderFault}
 use Rattle.zf_header.specs.declared.header.Mode.{Mode}
 use Rattle.zf_header.specs.declared.header.Mode.TheVariants.{Reversible, Rate, Precision}
 use Rattle.zf_header.specs.HeaderFaults.{header_fault}
 use Rattle.zf_parse.specs.declared.fault.StreamFault.{StreamFault}
 use Rattle.zf_parse.specs.declared.fault.StreamFault.TheVariants as faults
-use Rattle.zf_parse.specs.Raw.{raw_len, stream_text}
+use Rattle.zf_parse.specs.Raw.{stream_text}
 use Rattle.zf_parse.specs.Parsing.{Said, header_of, parse, restore_answer, restored_text}
 use Rattle.zf_parse.proofs.Steps.{without_said}
 use Rattle.zf_stream.proofs.OwnFaults.{is_foreign, blames_foreign, own_answer}
-use Rattle.zf_commands.specs.Steps.{is_refusal}
 use Rattle.zf_parse.proofs.StreamsBack.{answer-stream_text, text-reversible_text}
 use Rattle.zf_narrow.proofs.StreamsBack.{answer-narrow_text, text-narrow_text}
-use Rattle.zf_narrow.specs.Texts.{narrow_len, narrow_text, answer_behind, restore_narrow_answer, narrow_restored}
+use Rattle.zf_narrow.specs.Texts.{narrow_text, answer_behind, restore_narrow_answer, narrow_restored}
 use Rattle.zfpi.specs.Faults.{fault_status, status_of, narrow_status_of, header_status}
 use Rattle.zfpi.specs.declared.status.Status.{Status}
 use Rattle.zfpi.specs.declared.status.Status.TheVariants as statuses
@@ -64,20 +63,7 @@ only_memory status c w starved may none = absurd (first_of (assumption may, cc))
 
 -- where no count rose, no fault is answered
 pub IsComplete-quiet : (c : Command) (status : Status) (before now : Seen) (old new : Counts) (Sure Still : Type 0) → Behaves c status before now → HasCauses c status old new Sure Still → IsQuiet old.src new.src → IsQuiet old.out new.out → IsShelfless status → IsComplete c status before
-IsComplete-quiet c status before now old new Sure Still behaves causes src out shelf =
-    let none : (status ≢ ReadFault) × (status ≢ WriteFault) × (status ≢ LoadFault) × (status ≢ SaveFault) =
-    (HasCause-quiet old.src new.src causes.reading src, HasCause-quiet old.out new.out causes.writing out, shelf.no_load, shelf.no_save) in
-    record {
-      world = behaves.world;
-      exposed = behaves.exposed;
-      starved = behaves.starved;
-      starved_are = behaves.starved_are;
-      stated = elim behaves.stated [
-        | inl same ↦ inl same
-        | inr may ↦ inr (only_memory status c behaves.world behaves.starved may none)
-      ];
-      no_fault = none;
-    }
+IsComplete-quiet c status before now old new Sure Still behaves causes src out shelf = search (rules, only_memory)
 
 -- the statuses from outside that a command may end with are among those that it can end with
 possible_fault : (status : Status) (c : Command) (w : World) (starved : List ℕ) → MayFail status c w → IsPossible c status
@@ -195,11 +181,7 @@ stream_in-ends bytes = refusal_of FileEnds LookEnds FileEnds-look (said_or_statu
 opened_ends : (Ends : Status → Type 0) (reading : List ℕ → Result Said Status) → Ends Missing → Ends FileLong → ((bytes : List ℕ) → IsRefusal Ends (reading bytes)) → (file : Option (List ℕ)) → IsRefusal Ends (opened reading file)
 unfolding IsRefusal
 opened_ends Ends reading missing long ends None = missing
-opened_ends Ends reading missing long ends (Some bytes) = by (ltb 1200000000 (length bytes))
-  where
-    by : (is_long : Bool) → IsRefusal Ends (cond is_long (Err FileLong) (reading bytes))
-    by true = long
-    by false = ends bytes
+opened_ends Ends reading missing long ends (Some bytes) = search rules
 
 -- whatever the file holds, it is refused before anything is read of a script
 FileEnds-first : (status : Status) → FileEnds status → ComesFirst status
@@ -216,11 +198,7 @@ opened_first_array file = opened_ends ComesFirst array_in tt tt array_in-first f
 script_ends : (Ends : Status → Type 0) (answers : Answering) → Ends ScriptLong → ((n : ℕ) → Ends (lines_status n)) → (file : Result Said Status) → IsRefusal Ends file → (starved script : List ℕ) → Ends (script_status answers file starved script)
 unfolding IsRefusal
 script_ends Ends answers long ends (Err status) refusal starved script = refusal
-script_ends Ends answers long ends (Ok said) refusal starved script = by (ltb 16777216 (length script)) (count_by is_refusal (answers said starved script).0)
-  where
-    by : (is_long : Bool) (refused : ℕ) → Ends (cond is_long ScriptLong (lines_status refused))
-    by true refused = long
-    by false refused = ends refused
+script_ends Ends answers long ends (Ok said) refusal starved script = search rules
 
 -- some lines are refused, or none
 lines_end : (n : ℕ) → LookEnds (lines_status n)
@@ -228,13 +206,8 @@ lines_end zero = tt
 lines_end (suc n) = omega arith
 
 possible_status : (c : Command) (w : World) (starved : List ℕ) → IsPossible c ((meaning c).status w starved)
-possible_status (Compress h) w starved =
-    let n = length w.input in
-    compress_ends (raw_len h) n (ltb n (raw_len h)) (ltb (raw_len h) n) (ltb-true n (raw_len h))
-possible_status (CompressNarrow n h) w starved =
-    let starved_are = narrow_len n h in
-    let len = length w.input in
-    compress_ends starved_are len (ltb len starved_are) (ltb starved_are len) (ltb-true len starved_are)
+possible_status (Compress h) w starved = search (rules, compress_ends, ltb-true)
+possible_status (CompressNarrow n h) w starved = search (rules, compress_ends, ltb-true)
 possible_status Restore w starved = restore_ends (restore_answer w.input) (own_answer w.input)
 possible_status (RestoreNarrow n) w starved = narrow_ends (header_fault w.input) (header_of w.input).ty (restore_answer w.input) (own_answer w.input)
 possible_status Info w starved = info_ends (header_fault (take 19 w.input))
@@ -247,10 +220,7 @@ possible_status (Bound name most) w starved = certified_ends (opened array_in (w
 possible_status (Sample h seed) w starved = tt
 
 pub IsPossible-behaves : (c : Command) (status : Status) (before now : Seen) → Behaves c status before now → IsPossible c status
-IsPossible-behaves c status before now behaves = elim behaves.stated [
-  | inl same ↦ subst (IsPossible c) (sym same) (possible_status c behaves.world behaves.starved)
-  | inr may ↦ possible_fault status c behaves.world behaves.starved may
-]
+IsPossible-behaves c status before now behaves = search (rules, possible_status, possible_fault)
 
 from_outside : (status : Status) (c : Command) (w : World) → (meaning c).loads ≡ false → (meaning c).saves ≡ false → MayFail status c w → IsFromOutside status
 from_outside ReadFault c w no_load no_save may = inl refl

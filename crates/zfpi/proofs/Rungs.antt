@@ -1,5 +1,6 @@
 -- What a command on a script promises on each rung of its way, from what the calls there answer.
-use Rattle.std.proofs.Common.{◌≡◌, ◌≢◌, ℕ, ◌+◌, ◌≤◌, ◌&&◌, Bool, true, false, List, length, Option, Some, None, inl, inr, refl, ap, sym, subst, ◌∙◌, arith}
+use Rattle.std.proofs.Common.{rules}
+use Rattle.std.proofs.Common.{◌≡◌, ◌≢◌, ℕ, ◌+◌, ◌≤◌, Bool, true, false, List, length, Option, Some, None, inl, inr, refl, ap, sym, subst, ◌∙◌, arith}
 use Rattle.std.proofs.lemmas.Bool.{true≢false}
 use Rattle.std.specs.Prelude.{count_by}
 use Rattle.zf_dev.specs.Faults.{Rose, IsQuiet, HasCause}
@@ -24,7 +25,7 @@ use Rattle.zf_commands.specs.Steps.{is_refusal}
 use Rattle.zf_commands.specs.Runs.{RunsAll}
 use Rattle.zf_run.specs.declared.end.RunEnd.TheVariants as ends
 use Rattle.zfpi.specs.declared.status.Status.{Status}
-use Rattle.zfpi.specs.declared.status.Status.TheVariants.{Header as NoHeader, NotRate, Truncated, Pad, Trailing, ReadFault, WriteFault, LoadFault, SaveFault, Memory}
+use Rattle.zfpi.specs.declared.status.Status.TheVariants.{Header as NoHeader, NotRate, Truncated, Pad, Trailing, ReadFault, WriteFault, LoadFault, Memory}
 use Rattle.zfpi.specs.declared.command.Access.{Access}
 use Rattle.zfpi.specs.declared.command.Access.TheVariants.{Run, Look}
 use Rattle.zfpi.specs.Faults.{take_status}
@@ -35,11 +36,11 @@ use Rattle.zfpi.specs.Accesses.{command_on, Admits, admits, reading_of, answers_
 use Rattle.zfpi.specs.Subjects.{Subject, Ran}
 use Rattle.zfpi.specs.Loaded.{StandsFor, RefusesFile, IsRefused}
 use Rattle.zfpi.specs.Sending.{HandsOn}
-use Rattle.zfpi.specs.Steps.{is_work_done, Makes}
+use Rattle.zfpi.specs.Steps.{is_work_done}
 use Rattle.zfpi.specs.Headline.{Behaves, IsSent}
 use Rattle.zfpi.specs.Rungs.{WorksOn, Answers, Closes}
 use Rattle.zfpi.proofs.Opening.{array_in-header, stream_in-header, array_in-no_rate}
-use Rattle.zfpi.proofs.Causes.{IsIdle-used, HasCauses-refused, HasCauses-taken, HasCauses-untaken, HasCauses-wrote, reads_take}
+use Rattle.zfpi.proofs.Causes.{HasCauses-refused, HasCauses-untaken, HasCauses-wrote, reads_take}
 use Rattle.zfpi.proofs.Stepping.{SavesOnce-none, SavesOnce-take}
 use Rattle.zfpi.proofs.Stopping.{StopsAtEnd-same, StopsAtEnd-used}
 use Rattle.zfpi.proofs.Loading.{ComesFirst, Behaves-starved, Behaves-refused}
@@ -108,15 +109,7 @@ module _ {A B C : Type 0} {S : Source A} {O : Sink B} {F : Shelf C} (access : Ac
   -- the script was read to its end, and the rest answers it
   pub WorksOn-taken : (script : List ℕ) (status : Status) (src src_now : A) (out out_now : B) (shelf shelf_now : C) → Takes (S.contents src) (S.contents src_now) script → IsAtEnd (S.contents src_now) → length script ≤ 16777216 → S.faults src ≤ S.faults src_now → S.ends_seen src_now ≤ S.ends_seen src + 1
       → (S.never_fails src → S.never_fails src_now) → Answers O F (command_on access name) name file script status out out_now shelf shelf_now → WorksOn O F S (command_on access name) name file status src src_now out out_now shelf shelf_now
-  WorksOn-taken script status src src_now out out_now shelf shelf_now takes end most rose seen sure a = record {
-    behaves = λ known holds kept. a.behaves known (S.contents src) (S.contents src_now) holds kept takes end most;
-    causes = HasCauses-taken (command_on access name) status (S.faults src) (S.faults src_now) (O.faults out) (O.faults out_now) rose
-        (IsIdle-used ((meaning (command_on access name)).reads status) (S.faults src) (S.faults src_now) a.read) sure (a.causes (S.faults src));
-    stops = StopsAtEnd-used ((meaning (command_on access name)).reads status) (S.ends_seen src) (S.ends_seen src_now) a.read seen;
-    once = a.once;
-    sent = λ flushed. a.sent;
-    still = a.still;
-  }
+  WorksOn-taken script status src src_now out out_now shelf shelf_now takes end most rose seen sure a = search rules
 
   -- it was not
   pub WorksOn-untaken : (s : Subject) (stands : StandsFor s access file) (e : TakeError) (src src_now : A) (out : B) (shelf : C) → (e ≡ taking.Long → TakesMoreThan (S.contents src) (S.contents src_now) 16777216) → TakesSome (S.contents src) (S.contents src_now)
@@ -173,15 +166,9 @@ module _ {B C : Type 0} {O : Sink B} {F : Shelf C} (access : Access) (name : Lis
             let written = subst (λ rs. Appends (O.contents out) (O.contents mid) (replies_text rs)) replies_are ran.written in
             Behaves-closed c name (reading_of access) (answers_of access) (file_of access) is known (F.files shelf) file said holds stands.opened files_kept script starved most src rest takes at_end
             n end (O.contents out) (O.contents mid) (O.contents out_now) (F.files shelf_now) (ran.refused_is ∙ ap (count_by is_refusal) replies_are) (ran.starved_are ∙ stands.starved starved script) written closes.stays closes.ends closes.saves;
-        causes = λ src. HasCauses-wrote c end src (O.faults out) (O.faults out_now) is.writes_replies (omega (arith, kept, closes.kept))
-            (of_end (λ status. status ≢ ReadFault) (by_lines (λ status. status ≢ ReadFault) (λ same. cc) (λ m same. cc) n) (λ saving same. cc) (λ rose same. cc))
-            (of_end (λ status. status ≡ WriteFault → Rose (O.faults out) (O.faults out_now))
-            (by_lines (λ status. status ≡ WriteFault → Rose (O.faults out) (O.faults out_now)) (λ same. absurd (cc)) (λ m same. absurd (cc)) n) (λ saving same. absurd (cc)) (λ rose same. omega (arith, rose, kept)));
+        causes = λ src. search (rules, by_lines);
         read = is.reads_script_by end ∙ of_end (λ status. reads_script status ≡ true) (by_lines (λ status. reads_script status ≡ true) refl (λ m. refl) n) (λ saving. refl) (λ rose. refl);
-        once = record {
-          save = subst (λ b. Makes (b && is_work_done end) F.saves F.faults (end ≡ SaveFault) shelf shelf_now) (is.saving said starved script) closes.step;
-          no_load = of_end (λ status. status ≢ LoadFault) (by_lines (λ status. status ≢ LoadFault) (λ same. cc) (λ m same. cc) n) (λ saving same. cc) (λ rose same. cc);
-        };
+        once = search (rules, by_lines);
         sent = IsSent-later end (O.faults out) (O.faults mid) (O.faults out_now) kept closes.sent;
         still = closes.still;
       }

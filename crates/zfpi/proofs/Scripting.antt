@@ -1,5 +1,6 @@
 -- What a command does that works on a script, once its file is opened.
-use Rattle.std.proofs.Common.{◌≡◌, ℕ, zero, suc, ◌+◌, ◌≤◌, ◌<◌, cond, List, [], ◌∷◌, ◌++◌, length, take, drop, true, Option, Some, None, Result, Ok, IsOk, is_some, ◌⊎◌, inl, inr, refl, ap, sym, subst, ◌∙◌, arith, append-nil, length-append}
+use Rattle.std.proofs.Common.{rules}
+use Rattle.std.proofs.Common.{◌≡◌, ℕ, zero, suc, ◌+◌, ◌≤◌, ◌<◌, List, [], ◌∷◌, ◌++◌, length, take, drop, true, Option, Some, None, Result, Ok, IsOk, is_some, ◌⊎◌, inl, inr, refl, ap, sym, subst, ◌∙◌, arith, append-nil, length-append}
 use Rattle.std.specs.Prelude.{count_by}
 use Rattle.std.proofs.lemmas.Bool.{lt-ltb, le-ltb, false≢true}
 use Rattle.std.proofs.lemmas.Grind.{flat_map-append}
@@ -25,14 +26,14 @@ use Rattle.zfpi.specs.declared.command.Access.TheVariants.{Run, Look}
 use Rattle.zfpi.specs.declared.command.Command.{Command}
 use Rattle.zfpi.specs.Faults.{take_status}
 use Rattle.zfpi.specs.Opened.{opened}
-use Rattle.zfpi.specs.Scripts.{Answering, run_answers, run_file, look_answers, lines_status, script_status, script_text, saved_of, reads_script, AreStarved, OnWholeScript, TakesScript, IsRunnable}
+use Rattle.zfpi.specs.Scripts.{Answering, lines_status, script_status, script_text, reads_script, AreStarved, OnWholeScript, TakesScript, IsRunnable}
 use Rattle.zfpi.specs.Accesses.{command_on, reading_of, answers_of, file_of, named}
 use Rattle.zfpi.specs.Loaded.{HoldsFile}
 use Rattle.zfpi.specs.World.{World, ExposesInput, IsExposed, seen}
 use Rattle.zfpi.specs.Answer.{meaning, cut_draft, MayFail, OfUsed}
 use Rattle.zfpi.specs.Headline.{IsOfCommand, Writes, Saves, Behaves}
 use Rattle.zfpi.proofs.Exposed.{some_input, ExposesInput-taken}
-use Rattle.zfpi.proofs.Loading.{OnWholeScript-first, TakesScript-first, Unsaved, Saves-unsaved, Saves-kept, files_with, world_with, ExposesFiles-with, opened-held, IsLoading}
+use Rattle.zfpi.proofs.Loading.{Unsaved, Saves-unsaved, Saves-kept, files_with, world_with, ExposesFiles-with, opened-held, IsLoading}
 use Rattle.zfpi.proofs.HandedOn.{Appends-stays}
 
 -- some lines are refused
@@ -47,10 +48,7 @@ by_lines P done lines (suc n) = lines (suc n)
 
 -- how it ends once the replies were to be handed on, and a file to be saved
 pub by_end : {Saving Unsent : Type 0} (P : Status → Type 0) (status end : Status) → (end ≡ status) ⊎ ((end ≡ statuses.SaveFault) × Saving) ⊎ ((end ≡ statuses.WriteFault) × Unsent) → P status → (Saving → P statuses.SaveFault) → (Unsent → P statuses.WriteFault) → P end
-by_end P status end how good bad unsent = elim how [
-  | inl same ↦ subst P (sym same) good
-  | inr others ↦ elim others [ inl b ↦ subst P (sym b.0) (bad b.1) | inr u ↦ subst P (sym u.0) (unsent u.1) ]
-]
+by_end P status end how good bad unsent = search rules
 
 -- a command that answers a script so, on what the file of this name is opened as, and saves this, if anything
 pub record IsScripted (c : Command) (name : List ℕ) (reading : List ℕ → Result Said Status) (answers : Answering) (filed : Said → List ℕ → List ℕ → Option (List ℕ)) : Type 0 where
@@ -69,50 +67,8 @@ pub record IsScripted (c : Command) (name : List ℕ) (reading : List ℕ → Re
   pub saves : (w : World) → (meaning c).saves ≡ true → IsRunnable (opened reading (w.files name)) w → OfUsed (meaning c).saves ((meaning c).works w)
 
 pub IsScripted-on : (access : Access) (name : List ℕ) → IsScripted (command_on access name) name (reading_of access) (answers_of access) (file_of access)
-IsScripted-on (Run caching) name = record {
-  loading = record {
-    refuses = λ w status none. sym (ap (λ file. script_status (run_answers caching) file [] w.input) none);
-    starved_are = λ w status first. OnWholeScript-first _ status first;
-    extent = TakesScript-first;
-    draft = λ w status taken. refl;
-    loads = λ w. tt;
-    starves = λ w. tt;
-  };
-  status = λ w starved. refl;
-  text = λ w starved taken. refl;
-  draft = λ w starved status taken. refl;
-  starved_are = λ w starved status are. are;
-  extent = λ status input taken is. is;
-  saved = λ w starved said is. ap (λ file. saved_of name (run_file caching) file starved w.input) is;
-  saving = λ said starved script. refl;
-  reads_script_by = λ status. refl;
-  writes_replies = refl;
-  reads = λ w good. good;
-  writes = λ w good. good;
-  saves = λ w saving good. good;
-}
-IsScripted-on (Look lines) name = record {
-  loading = record {
-    refuses = λ w status none. sym (ap (λ file. script_status (look_answers lines) file [] w.input) none);
-    starved_are = λ w status first. OnWholeScript-first _ status first;
-    extent = TakesScript-first;
-    draft = λ w status taken. refl;
-    loads = λ w. tt;
-    starves = λ w. tt;
-  };
-  status = λ w starved. refl;
-  text = λ w starved taken. refl;
-  draft = λ w starved status taken. refl;
-  starved_are = λ w starved status are. are;
-  extent = λ status input taken is. is;
-  saved = λ w starved said is. refl;
-  saving = λ said starved script. refl;
-  reads_script_by = λ status. refl;
-  writes_replies = refl;
-  reads = λ w good. good;
-  writes = λ w good. good;
-  saves = λ w saving good. absurd (false≢true saving);
-}
+IsScripted-on (Run caching) name = search rules
+IsScripted-on (Look lines) name = search (rules, false≢true)
 
 pub loads-on : (access : Access) (name : List ℕ) → (meaning (command_on access name)).loads ≡ true
 loads-on (Run caching) name = refl
@@ -134,14 +90,10 @@ module _ (c : Command) (name : List ℕ) (reading : List ℕ → Result Said Sta
 
   -- the status of a script, by the number of its lines that are refused
   status_is : (starved script : List ℕ) → length script ≤ 16777216 → lines_status (count_by is_refusal (answers said starved script).0) ≡ (meaning c).status (world_with known bytes script) starved
-  status_is starved script most =
-      sym (ap (λ t. cond t statuses.ScriptLong (lines_status (count_by is_refusal (answers said starved script).0))) (le-ltb 16777216 (length script) most))
-      ∙ (sym (ap (λ file. script_status answers file starved script) is_open) ∙ sym (is.status (world_with known bytes script) starved))
+  status_is starved script most = search (rules, le-ltb, is_open, world_with)
 
   too_long : (input : List ℕ) → 16777216 < length input → statuses.ScriptLong ≡ (meaning c).status (world_with known bytes input) []
-  too_long input long =
-      sym (ap (λ t. cond t statuses.ScriptLong (lines_status (count_by is_refusal (answers said [] input).0))) (lt-ltb 16777216 (length input) long))
-      ∙ (sym (ap (λ file. script_status answers file [] input) is_open) ∙ sym (is.status (world_with known bytes input) []))
+  too_long input long = search (rules, lt-ltb, is_open, world_with)
 
   -- its text
   text_is : (starved script taken : List ℕ) → replies_text (answers said starved script).0 ≡ (meaning c).text (world_with known bytes script) starved taken
@@ -171,10 +123,7 @@ module _ (c : Command) (name : List ℕ) (reading : List ℕ → Result Said Sta
 
   -- the script was not read to its end
   pub Behaves-untaken : (e : TakeError) (src src_now out : Option (List ℕ)) → (e ≡ taking.Long → TakesMoreThan src src_now 16777216) → TakesSome src src_now → Behaves c (take_status e) (seen src out known) (seen src_now out mid)
-  Behaves-untaken taking.Long src src_now out long took =
-      let more = long refl in
-      let input = long_input src src_now more.0 more.1 more.2 in
-      unread statuses.ScriptLong src src_now out input.0 more.0 tt input.1 tt (inl (too_long input.0 input.2)) more.2 more.1 (λ text. AppendsPrefix-none out []) tt
+  Behaves-untaken taking.Long src src_now out long took = search (rules, long_input, unread, too_long)
   Behaves-untaken taking.Failed src src_now out long took =
       let some = some_input src in
       unread statuses.ReadFault src src_now out some.0 took.0 tt some.1 tt (inr (is.reads (world_with known bytes some.0) open_ok)) took.1 tt (λ text. AppendsPrefix-none out []) tt
@@ -246,13 +195,7 @@ module _ (c : Command) (name : List ℕ) (reading : List ℕ → Result Said Sta
         let file = named name (filed said starved script) in
         let text = Appends-stays out sent out_now (replies_text (answers said starved script).0) written stays in
         let saved = λ (status : Status) (saves : Saves file status mid shelf).
-        subst (λ f. Saves f status known shelf) (sym (saved_is starved script)) (Saves-kept file status known mid shelf kept saves) in
-        by_end (λ status. Saves file status mid shelf → Behaves c status (seen src out known) (seen rest out_now shelf)) (lines_status n) end ends
-        (λ saves. Behaves-lines n out out_now shelf refused starved_are text (saved (lines_status n) saves))
-        (λ saving saves. Behaves-whole statuses.SaveFault out out_now shelf tt (λ P p. p) refl (λ text draft all. all)
-        (inr (is.saves (world_with known bytes script) (sym (is.saving said starved script) ∙ saving) runnable)) starved_are text (saved statuses.SaveFault saves))
-        (λ unsent saves. Behaves-unsent out out_now shelf text (saved statuses.WriteFault saves))
-        saves
+        subst (λ f. Saves f status known shelf) (sym (saved_is starved script)) (Saves-kept file status known mid shelf kept saves) in search (rules, by_end, Behaves-lines, Behaves-whole, world_with, runnable, Behaves-unsent)
 
     -- a reply was not written whole
     module _ {Code : Type 0} (setting : Setting Code) (start : Session Code) (same : (run_lines setting starved 0 (lines_of script) start).1 ≡ (answers said starved script).0) where

@@ -1,4 +1,5 @@
 -- Shapes as words: `split` against sizes joined by the letter x.
+use Rattle.std.proofs.Common.{rules}
 use Rattle.std.proofs.Common.{◌≡◌, ◌≢◌, ℕ, zero, suc, ◌+◌, ◌/◌, ◌^◌, ◌<◌, ◌≤◌, Bool, true, false, eqb, List, [], ◌∷◌, map, length, get_or, set, take, ◌++◌, ◌↔◌, Option, Result, Ok, Err, IsOk, IfOk, IfSome, IfNone, refl, ap, sym, ◌∙◌, subst, arith, lit<, append_assoc, add-one, decimal}
 use Rattle.std.specs.List.{All, AllByRecursion, slice_split, join_with_byte}
 use Rattle.std.proofs.Math.Nat.{div-le_self}
@@ -44,9 +45,7 @@ parts_of-joined (n ∷ m ∷ ns) some small =
     ∙ ap (λ rest. decimal n ∷ rest) (parts_of-joined (m ∷ ns) (omega arith) small.1)
 
 field_small : (d n : ℕ) → 1 ≤ d → n ≤ 2 ^ (48 / d) → n < 2 ^ 64
-field_small d n some h =
-    let less : 48 / d ≤ 48 = div-le_self 48 d in
-    omega (arith, h, pow_mono less)
+field_small d n some h = search (rules, div-le_self, pow_mono)
 
 fields_small : (d : ℕ) (ns : List ℕ) → 1 ≤ d → AllByRecursion (λ n. n ≤ 2 ^ (48 / d)) ns → AllByRecursion (λ n. n < 2 ^ 64) ns
 fields_small d [] some h = tt
@@ -112,12 +111,7 @@ pub sizes_more : (P : ℕ → Type 0) (sizes : List ℕ) (dims n : ℕ) → dims
 sizes_more P sizes dims n lt all this = subst (AllByRecursion P) (sym (take_more_set sizes dims n lt)) (all_push P (take dims sizes) n all this)
 
 pub texts_more : {Part : Type 0} (text : Part → List ℕ) (parts : List Part) (part : Part) (sizes : List ℕ) (dims n : ℕ) → dims < length sizes → map text parts ≡ map decimal (take dims sizes) → text part ≡ decimal n → map text (parts ++ part ∷ []) ≡ map decimal (take (dims + 1) (set sizes dims n))
-texts_more text parts part sizes dims n lt so_far this =
-    map-append text parts (part ∷ [])
-    ∙ (ap (λ prefix. prefix ++ text part ∷ []) so_far
-    ∙ (ap (λ last. map decimal (take dims sizes) ++ last ∷ []) this
-    ∙ (sym (map-append decimal (take dims sizes) (n ∷ []))
-    ∙ ap (map decimal) (sym (take_more_set sizes dims n lt)))))
+texts_more text parts part sizes dims n lt so_far this = search (rules, map-append, take_more_set)
 
 -- ---- what `Shape::new` answers for sizes that are a word's parts
 pub shape_some : (word sizes : List ℕ) (r : Result (List ℕ) ShapeFault) (o : Option (List ℕ)) → parts_of word ≡ map decimal sizes → (IsOk r ↔ IsShape sizes) → IfOk r (λ shape. shape ≡ sizes) → o ≡ result_ok r → IfSome o (λ shape. IsShape shape × (word ≡ shape_word shape))

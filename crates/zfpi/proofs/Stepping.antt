@@ -1,5 +1,6 @@
 -- The steps of a call on the shelf.
-use Rattle.std.proofs.Common.{◌≡◌, ◌≢◌, ℕ, ◌≤◌, ◌&&◌, Bool, true, false, inl, inr, refl, ap, sym, subst, ◌∙◌, arith}
+use Rattle.std.proofs.Common.{rules}
+use Rattle.std.proofs.Common.{◌≡◌, ◌≢◌, ℕ, ◌≤◌, ◌&&◌, Bool, true, false, refl, ap, sym, subst, arith}
 use Rattle.std.proofs.lemmas.Bool.{true≢false}
 use Rattle.zf_dev.specs.Faults.{IsQuiet, HasCause}
 use Rattle.zf_dev.specs.declared.faults.LoadError.{LoadError}
@@ -7,7 +8,7 @@ use Rattle.zf_dev.specs.declared.faults.LoadError.TheVariants as loading
 use Rattle.zf_dev.specs.declared.faults.TakeError.{TakeError}
 use Rattle.zf_dev.specs.declared.faults.TakeError.TheVariants as taking
 use Rattle.zfpi.specs.declared.status.Status.{Status}
-use Rattle.zfpi.specs.declared.status.Status.TheVariants.{WriteFault, LoadFault, SaveFault}
+use Rattle.zfpi.specs.declared.status.Status.TheVariants.{LoadFault, SaveFault}
 use Rattle.zfpi.specs.declared.command.Command.{Command}
 use Rattle.zfpi.specs.Faults.{load_status, take_status}
 use Rattle.zfpi.specs.Answer.{meaning}
@@ -43,11 +44,7 @@ module _ {F : Type 0} (step : F → F → Type 0) (faults : F → ℕ) where
 
 module _ {F : Type 0} (saves : F → F → Type 0) (faults : F → ℕ) (c : Command) where
   pub SavesOnce-none : (status : Status) (shelf : F) → is_work_done status ≡ false → status ≢ LoadFault → SavesOnce saves faults c status shelf shelf
-  SavesOnce-none status shelf undone no_load = record {
-    save = Makes-none saves faults ((meaning c).saves && is_work_done status) (status ≡ SaveFault) shelf (ap (λ b. (meaning c).saves && b) undone ∙ and_false (meaning c).saves)
-        (λ is. true≢false (sym (ap is_work_done is) ∙ undone));
-    no_load = no_load;
-  }
+  SavesOnce-none status shelf undone no_load = search (rules, Makes-none, and_false, true≢false)
 
   -- the script was not read
   pub SavesOnce-take : (e : TakeError) (shelf : F) → SavesOnce saves faults c (take_status e) shelf shelf
@@ -68,13 +65,7 @@ no_work e = refl
 module _ {F : Type 0} (loads saves : F → F → Type 0) (faults : F → ℕ) (c : Command) where
   -- where the count did not rise there was no fault of the shelf
   pub Steps-quiet : (status : Status) (before now : F) → Steps loads saves faults c status before now → IsQuiet (faults before) (faults now) → IsShelfless status
-  Steps-quiet status before now steps quiet =
-      let first = Makes-kept loads faults (meaning c).loads (status ≡ LoadFault) before steps.loaded steps.load in
-      let last = Makes-kept saves faults ((meaning c).saves && is_work_done status) (status ≡ SaveFault) steps.loaded now steps.save in
-      record {
-        no_load = Makes-quiet loads faults (meaning c).loads (status ≡ LoadFault) before steps.loaded (faults before) (faults now) (omega arith) last quiet steps.load;
-        no_save = Makes-quiet saves faults ((meaning c).saves && is_work_done status) (status ≡ SaveFault) steps.loaded now (faults before) (faults now) first (omega arith) quiet steps.save;
-      }
+  Steps-quiet status before now steps quiet = search (rules, Makes-kept, Makes-quiet)
 
   -- a command without a shelf left it as it was
   pub Steps-none : (status : Status) (shelf : F) → (meaning c).loads ≡ false → (meaning c).saves ≡ false → IsShelfless status → Steps loads saves faults c status shelf shelf
@@ -98,32 +89,16 @@ module _ {F : Type 0} (loads saves : F → F → Type 0) (faults : F → ℕ) (c
 
   -- or at most one save behind it
   pub Steps-saved : (status : Status) (before loaded now : F) → (meaning c).loads ≡ true → loads before loaded → faults before ≤ faults loaded → SavesOnce saves faults c status loaded now → Steps loads saves faults c status before now
-  Steps-saved status before loaded now loading step kept once = record {
-    loaded = loaded;
-    load = loaded_well status before loaded loading step kept once.no_load;
-    save = once.save;
-  }
+  Steps-saved status before loaded now loading step kept once = search (rules, loaded_well)
 
   -- a load that was not
   pub Steps-unloaded : (e : LoadError) (before now : F) → (meaning c).loads ≡ true → loads before now → HasCause (e ≡ loading.Failed) (faults before) (faults now) → Steps loads saves faults c (load_status e) before now
   Steps-unloaded e before now loading step cause = record {
     loaded = now;
     load = subst (λ b. Makes b loads faults (load_status e ≡ LoadFault) before now) (sym loading) (step, (cause.0, λ is. cause.1 (no_failure e is)));
-    save = Makes-none saves faults ((meaning c).saves && is_work_done (load_status e)) (load_status e ≡ SaveFault) now
-        (ap (λ b. (meaning c).saves && b) (no_work e) ∙ and_false (meaning c).saves) (λ is. true≢false (sym (ap is_work_done is) ∙ no_work e));
+    save = search (rules, Makes-none, no_work, and_false, true≢false);
   }
 
   -- the same steps once what was written was handed on or not
   pub Steps-sent : (status ended : Status) (before now : F) {Failed : Type 0} → (meaning c).saves ≡ false → EndsSent status ended Failed → Steps loads saves faults c status before now → Steps loads saves faults c ended before now
-  Steps-sent status ended before now no_save ends steps = elim ends [
-    | inl same ↦ subst (λ s. Steps loads saves faults c s before now) (sym same) steps
-    | inr failed ↦ subst (λ s. Steps loads saves faults c s before now) (sym failed.0) (record {
-      loaded = steps.loaded;
-      load = Makes-other loads faults (meaning c).loads (status ≡ LoadFault) (WriteFault ≡ LoadFault) before steps.loaded (λ is. cc) steps.load;
-      save = unsaved (meaning c).saves no_save steps.save;
-    })
-  ]
-    where
-      unsaved : (b : Bool) → b ≡ false → Makes (b && is_work_done status) saves faults (status ≡ SaveFault) steps.loaded now → Makes (b && false) saves faults (WriteFault ≡ SaveFault) steps.loaded now
-      unsaved true is makes = absurd (true≢false is)
-      unsaved false is makes = (makes.0, λ same. cc)
+  Steps-sent status ended before now no_save ends steps = search (rules, Makes-other, true≢false)

@@ -1,5 +1,6 @@
 -- From what a call on a stream promises to what a command promises that hands it on.
-use Rattle.std.proofs.Common.{◌≡◌, ◌≢◌, ℕ, ◌+◌, ◌≤◌, true, List, [], ◌∷◌, Option, Some, None, Result, Err, ◌⊎◌, inl, inr, refl, ap, sym, subst, ◌∙◌, arith}
+use Rattle.std.proofs.Common.{rules}
+use Rattle.std.proofs.Common.{◌≡◌, ◌≢◌, ℕ, ◌+◌, ◌≤◌, true, List, [], ◌∷◌, Option, Some, None, Result, Err, ◌⊎◌, inl, inr, refl, ap, sym, subst, ◌∙◌}
 use Rattle.std.proofs.lemmas.List.{take_all}
 use Rattle.zf_dev.specs.Faults.{HasCause}
 use Rattle.zf_dev.specs.Shelf.{Files}
@@ -16,7 +17,7 @@ use Rattle.zf_base.specs.declared.lane.Ty.TheVariants.{I32, I64}
 use Rattle.zf_parse.specs.declared.fault.StreamFault.{StreamFault}
 use Rattle.zf_parse.specs.declared.fault.StreamFault.TheVariants as faults
 use Rattle.zf_parse.specs.Raw.{stream_text}
-use Rattle.zf_parse.specs.Parsing.{header_of, restore_answer}
+use Rattle.zf_parse.specs.Parsing.{header_of}
 use Rattle.zf_parse.proofs.Parsed.{good_header}
 use Rattle.zf_parse.proofs.StreamsBack.{answer-stream_text}
 use Rattle.zf_stream.specs.Outcomes as streams
@@ -24,7 +25,7 @@ use Rattle.zf_stream.specs.Headed.{prefix_room}
 use Rattle.zf_narrow.specs.declared.narrow.Narrow.{Narrow}
 use Rattle.zf_narrow.specs.declared.fault.NarrowFault.{NarrowFault}
 use Rattle.zf_narrow.specs.declared.fault.NarrowFault.TheVariants.{NotNarrow, Stream}
-use Rattle.zf_narrow.specs.Texts.{restore_narrow_answer, answer_of_type, answer_behind, HasWideType, narrow_restored, IsFromOutside, IsBeforeWriting, AnswersNarrow, CanRefuseNarrow}
+use Rattle.zf_narrow.specs.Texts.{restore_narrow_answer, answer_of_type, HasWideType, narrow_restored, IsFromOutside, IsBeforeWriting, AnswersNarrow, CanRefuseNarrow}
 use Rattle.zfpi.specs.declared.status.Status.{Status}
 use Rattle.zfpi.specs.declared.status.Status.TheVariants as statuses
 use Rattle.zfpi.specs.declared.command.Command.{Command}
@@ -34,8 +35,6 @@ use Rattle.zfpi.specs.World.{World, ExposesInput, seen}
 use Rattle.zfpi.specs.Answer.{meaning, TakesStream, MayFail, compress_draft, restore_draft, OfUsed}
 use Rattle.zfpi.specs.Headline.{IsOfCommand, Writes, Saves, Behaves}
 use Rattle.zfpi.specs.Calls.{Streams}
-use Rattle.zfpi.proofs.Causes.{IsIdle-used}
-use Rattle.zfpi.proofs.Stopping.{StopsAtEnd-used}
 use Rattle.zfpi.proofs.Completed.{one_value}
 use Rattle.zfpi.proofs.Exposed.{world_of, ExposesFiles-same, KeepsFiles-none, ExposesInput-taken}
 
@@ -80,61 +79,23 @@ pub record IsStreaming (c : Command) : Type 0 where
   pub writes : (w : World) → OfUsed (meaning c).writes ((meaning c).works w)
 
 pub IsStreaming-compress : (h : Header) → IsStreaming (Compress h)
-IsStreaming-compress h = record {
-  not_starved = λ status w. refl;
-  nothing_saved = λ w. refl;
-  to_end = λ input. refl;
-  cut_extent = TakesStream-fault;
-  reads = λ w. tt;
-  writes = λ w. tt;
-}
+IsStreaming-compress h = search (rules, TakesStream-fault)
 
 pub IsStreaming-compress_narrow : (n : Narrow) (h : Header) → IsStreaming (CompressNarrow n h)
-IsStreaming-compress_narrow n h = record {
-  not_starved = λ status w. refl;
-  nothing_saved = λ w. refl;
-  to_end = λ input. refl;
-  cut_extent = TakesStream-fault;
-  reads = λ w. tt;
-  writes = λ w. tt;
-}
+IsStreaming-compress_narrow n h = search (rules, TakesStream-fault)
 
 pub IsStreaming-restore : IsStreaming Restore
-IsStreaming-restore = record {
-  not_starved = λ status w. refl;
-  nothing_saved = λ w. refl;
-  to_end = λ input. refl;
-  cut_extent = TakesStream-fault;
-  reads = λ w. tt;
-  writes = λ w. tt;
-}
+IsStreaming-restore = search (rules, TakesStream-fault)
 
 pub IsStreaming-restore_narrow : (n : Narrow) → IsStreaming (RestoreNarrow n)
-IsStreaming-restore_narrow n = record {
-  not_starved = λ status w. refl;
-  nothing_saved = λ w. refl;
-  to_end = λ input. refl;
-  cut_extent = TakesStream-fault;
-  reads = λ w. tt;
-  writes = λ w. tt;
-}
+IsStreaming-restore_narrow n = search (rules, TakesStream-fault)
 
 -- what a command did by calls over its source, which may have been put aside for them: it is not read behind its end
 pub Streams-begun : {A B : Type 0} (S : Source A) (O : Sink B) (c : Command) (status : Status) {begun : ℕ} {src s src_now : A} {out out_now : B} {Read Write : Type 0} → (meaning c).reads status ≡ true → (meaning c).writes ≡ true
     → s ≡ src_now → begun ≡ S.ends_seen src → S.ends_seen src_now ≤ begun + 1 → HasCause Read (S.faults src) (S.faults src_now) → HasCause Write (O.faults out) (O.faults out_now) → (S.never_fails src → (Read → ⊥) × S.never_fails src_now)
     → (status ≡ statuses.ReadFault → Read) → (status ≡ statuses.WriteFault → Write) → ((files : Option Files) → Behaves c status (seen (S.contents src) (O.contents out) files) (seen (S.contents src_now) (O.contents out_now) files))
     → Streams S O c status src s out out_now
-Streams-begun S O c status {begun} {src} {s} {src_now} {out} {out_now} reads writes moved began once reading writing sure read write behaves = subst (λ s. Streams S O c status src s out out_now) (sym moved) (record {
-  behaves = behaves;
-  causes = record {
-    reading = (reading.0, λ fault. reading.1 (read fault));
-    writing = (writing.0, λ fault. writing.1 (write fault));
-    no_reading = IsIdle-used ((meaning c).reads status) (S.faults src) (S.faults src_now) reads;
-    no_writing = IsIdle-used (meaning c).writes (O.faults out) (O.faults out_now) writes;
-    sure = λ is_sure. let known = sure is_sure in (λ fault. known.0 (read fault), known.1);
-  };
-  stops = StopsAtEnd-used ((meaning c).reads status) (S.ends_seen src) (S.ends_seen src_now) reads (omega (arith, began, once));
-})
+Streams-begun S O c status {begun} {src} {s} {src_now} {out} {out_now} reads writes moved began once reading writing sure read write behaves = subst (λ s. Streams S O c status src s out out_now) (sym moved) (search rules)
 
 -- a fault of a device is named as such
 pub read_named : (e : StreamFault) → fault_status e ≡ statuses.ReadFault → e ≡ faults.Read
@@ -214,13 +175,7 @@ Behaves-cut c status taken src_before src_now out_before out_now shelf is cut wh
 -- ---- faults of a stream
 
 may_outside : (c : Command) (e : StreamFault) (w : World) → IsStreaming c → (e ≡ faults.Memory → (meaning c).memory w) → streams.IsFromOutside e → MayFail (fault_status e) c w
-may_outside c e w is takes outside = elim outside [
-  | inl read ↦ subst (λ f. MayFail (fault_status f) c w) (sym read) (is.reads w)
-  | inr others ↦ elim others [
-    | inl write ↦ subst (λ f. MayFail (fault_status f) c w) (sym write) (is.writes w)
-    | inr memory ↦ subst (λ f. MayFail (fault_status f) c w) (sym memory) (takes memory)
-  ]
-]
+may_outside c e w is takes outside = search rules
 
 -- a fault is the one that is stated for the input, or for some input where none is exposed. For this input the command takes memory
 pub Behaves-fault : (c : Command) (answer : List ℕ → Result (Unit {0}) StreamFault) (e : StreamFault) (large taken : List ℕ) (src_before src_now out_before out_now : Option (List ℕ)) (shelf : Option Files) → IsStreaming c
@@ -317,9 +272,7 @@ wide_type I32 answer other = absurd (other refl)
 wide_type I64 answer other = refl
 
 wide_answer : (bytes : List ℕ) → header_fault bytes ≡ None → (header_of bytes).ty ≢ I32 → restore_narrow_answer bytes ≡ Err NotNarrow
-wide_answer bytes good other =
-    let h = header_of bytes in
-    ap (λ f. answer_behind f h.ty (restore_answer bytes)) good ∙ wide_type h.ty (restore_answer bytes) other
+wide_answer bytes good other = search (rules, wide_type)
 
 -- another type: of an input that is not exposed, the first bytes are all that is known
 Behaves-wide : (n : Narrow) (src_before src_now out_before out_now : Option (List ℕ)) (shelf : Option Files)
@@ -327,23 +280,12 @@ Behaves-wide : (n : Narrow) (src_before src_now out_before out_now : Option (Lis
     → Behaves (RestoreNarrow n) statuses.NotNarrow (seen src_before out_before shelf) (seen src_now out_now shelf)
 unfolding IsStated
 Behaves-wide n None src_now out_before out_now shelf answers wide prefix =
-    let why : Explains (RestoreNarrow n) statuses.NotNarrow None shelf = record {
-      input = wide.bytes;
-      exposed = tt;
-      stated = inl (ap narrow_status_of (sym (wide_answer wide.bytes wide.good wide.other)));
-    } in
+    let why : Explains (RestoreNarrow n) statuses.NotNarrow None shelf = search (rules, wide_answer) in
     Behaves-cut (RestoreNarrow n) statuses.NotNarrow wide.bytes None src_now out_before out_now shelf
     (IsStreaming-restore_narrow n) (IsCut-narrow NotNarrow) why
     (sym (take_all prefix_room wide.bytes wide.first.within)) wide.first.taken (λ w. prefix)
 Behaves-wide n (Some input) src_now out_before out_now shelf answers wide prefix =
-    let why : Explains (RestoreNarrow n) statuses.NotNarrow (Some input) shelf = record {
-      input = input;
-      exposed = refl;
-      stated = elim answers [
-        | inl same ↦ inl (ap narrow_status_of same)
-        | inr outside ↦ absurd outside
-      ];
-    } in
+    let why : Explains (RestoreNarrow n) statuses.NotNarrow (Some input) shelf = search rules in
     Behaves-cut (RestoreNarrow n) statuses.NotNarrow wide.bytes (Some input) src_now out_before out_now shelf
     (IsStreaming-restore_narrow n) (IsCut-narrow NotNarrow) why wide.first.first wide.first.taken (λ w. prefix)
 

@@ -1,5 +1,6 @@
 -- What a script works on, as it is opened and run: for each target.
-use Rattle.std.proofs.Common.{◌≡◌, ℕ, ℤ, Bool, List, Option, Some, None, Ok, Err, inl, inr, refl, ap, sym, subst, ◌∙◌}
+use Rattle.std.proofs.Common.{rules}
+use Rattle.std.proofs.Common.{◌≡◌, ℕ, ℤ, Bool, List, Option, Some, None, Ok, refl, ap, sym, subst, ◌∙◌}
 use Rattle.std.specs.Int.{Width}
 use Rattle.zf_base.specs.Widths.{width_of}
 use Rattle.zf_header.specs.declared.header.Header.{Header}
@@ -8,10 +9,9 @@ use Rattle.zf_parse.specs.Parsing.{parse}
 use Rattle.zf_parse.specs.ReadStreams.{IsFault}
 use Rattle.zf_cached.specs.Arrays.{open_array, saved_file}
 use Rattle.zf_cached.specs.State.{State}
-use Rattle.zf_cached.specs.Replies.{Reply}
 use Rattle.zf_cached.specs.Windows.{whole}
 use Rattle.zf_cached.specs.Steps.{Setting, Session}
-use Rattle.zf_cached.specs.Runs.{lines_of, run_lines, run_script, run, look, look_setting, ended}
+use Rattle.zf_cached.specs.Runs.{lines_of, run_lines, run_script, run, look, ended}
 use Rattle.zf_store.specs.Files as store
 use Rattle.zf_store.specs.Stored.{Stored}
 use Rattle.zf_index.specs.declared.fault.IndexFault.{IndexFault}
@@ -32,10 +32,9 @@ use Rattle.zfpi.specs.declared.command.Caching.{Caching}
 use Rattle.zfpi.specs.declared.command.Access.{Access}
 use Rattle.zfpi.specs.declared.command.Access.TheVariants.{Run, Look}
 use Rattle.zfpi.specs.declared.commands.target.Loaded.{Loaded}
-use Rattle.zfpi.specs.Faults.{fault_status, index_status}
+use Rattle.zfpi.specs.Faults.{index_status}
 use Rattle.zfpi.specs.Scripts.{lines_for, first_lines, setting_over, ran_over, starved_over, run_file, look_answers}
 use Rattle.zfpi.specs.Subjects.{Subject, Ran}
-use Rattle.zfpi.specs.Accesses.{Admits}
 use Rattle.zfpi.specs.Loaded.{IsAccessed, StandsFor, RefusesFile, IsRefused}
 use Rattle.zfpi.proofs.Opening.{array_in-rate, stream_in-said}
 
@@ -56,10 +55,7 @@ module _ (setting : Setting (List Bool)) (w : Width) (bits : ℕ) (ns ns_now : L
   all_ran : (n : ℕ) → Completes ns_now s_now starved old new setting (session ns s (whole ns)) script (run setting starved ns s script) n
       → RunsAll setting starved script (session ns s (whole ns)) last old new n × (Some (saved_file w bits ns_now s_now) ≡ Some (saved_file w bits (ended setting last).shape (ended setting last).state))
   unfolding run run_script last
-  all_ran n done = (
-    record { session = refl; starved_are = done.starved_are; refused_is = done.refused_is; written = done.written },
-    ap Some (ap (λ ms. saved_file w bits ms s_now) done.shape_is ∙ ap (saved_file w bits (ended setting last).shape) done.state_is),
-  )
+  all_ran n done = search (rules, last)
 
 -- a run over an array or over codes, by its end
 Ran-array : (setting : Setting (List Bool)) (w : Width) (bits : ℕ) (ns ns_now : List ℕ) (s s_now : State (List Bool)) (script starved : List ℕ) (old new : Option (List ℕ)) (end : RunEnd)
@@ -121,22 +117,14 @@ module _ (caching : Caching) (w : Width) (bytes : List ℕ) (h : Header) (s : St
     -- the run of the array is the run of its file
     ran_is : run setting starved s.header.shape start script ≡ ran_over caching (store.said s) starved script
     unfolding ran_over
-    ran_is =
-        let ns = s.header.shape in
-        ap (λ at. run setting starved ns at script) start_is
-        ∙ ap (λ v. run (setting_over caching v bits) starved ns (open_array v bits ns s.codes (first_lines caching ns)) script) type_is
+    ran_is = search (rules, start_is, type_is)
 
     file_is : saved_file w bits (run setting starved s.header.shape start script).0.shape (run setting starved s.header.shape start script).0.state ≡ run_file caching (store.said s) starved script
-    file_is =
-        ap (λ r. saved_file w bits r.0.shape r.0.state) ran_is
-        ∙ ap (λ v. saved_file v bits (ran_over caching (store.said s) starved script).0.shape (ran_over caching (store.said s) starved script).0.state) type_is
+    file_is = search (rules, ran_is, type_is)
 
     starved_is : starved_lines setting starved 0 (lines_of script) (session s.header.shape start (whole s.header.shape)) ≡ starved_over caching (store.said s) starved script
     unfolding starved_over
-    starved_is =
-        let ns = s.header.shape in
-        ap (λ at. starved_lines setting starved 0 (lines_of script) (session ns at (whole ns))) start_is
-        ∙ ap (λ v. starved_lines (setting_over caching v bits) starved 0 (lines_of script) (session ns (open_array v bits ns s.codes (first_lines caching ns)) (whole ns))) type_is
+    starved_is = search (rules, start_is, type_is)
 
   pub StandsFor-array : StandsFor (array_subject setting w bits s.header.shape start) (Run caching) bytes
   unfolding run run_script
@@ -156,12 +144,7 @@ module _ (lines : Option ℕ) (w : Width) (bytes : List ℕ) (h : Header) (a : s
   -- the look at the array is the look at its file
   look_is : (starved script : List ℕ) → ((look (look_setting_of w a.header) starved (streams.shape a) (streams.state a) script).1, starved_lines (look_setting_of w a.header) starved 0 (lines_of script) (look_start_of a)) ≡ look_answers lines (contents.said a) starved script
   unfolding look_answers
-  look_is starved script =
-      let h = a.header in
-      let answers : Width → State (List Bool) → List Reply × List ℕ = λ v s.
-      let setting = look_setting v (streams.coding_of h) in
-      ((look setting starved h.shape s script).1, starved_lines setting starved 0 (lines_of script) (session h.shape s (whole h.shape))) in
-      ap (answers w) look_start_is ∙ ap (λ v. answers v (streams.open_stream h a.codes (lines_for lines h.shape))) (same_type ∙ ap (λ g. width_of g.ty) (sym opened.header))
+  look_is starved script = search (rules, look_start_is)
 
   pub StandsFor-stream : StandsFor (stream_subject w a) (Look lines) bytes
   unfolding look run_script
@@ -181,22 +164,12 @@ RefusesFile-index e = tt
 
 -- what a run loads is a store's file
 pub HasHeader-run : (access : Access) (caching : Caching) (loaded : Loaded) → access ≡ Run caching → IsAccessed access loaded → store.HasHeader loaded.file.items loaded.header
-HasHeader-run access caching loaded is accessed = record {
-  good = accessed.header.good;
-  header = accessed.header.header;
-  rate = subst (λ a. Admits a loaded.header.mode) is accessed.mode;
-}
+HasHeader-run access caching loaded is accessed = search rules
 
 -- it is no array's
 pub IsRefused-array : (caching : Caching) (bytes : List ℕ) (h : Header) (e : IndexFault) → store.HasHeader bytes h → IsFault (parse bytes) (stream.stream_fault e) → IsRefused (Run caching) bytes (index_status e)
-IsRefused-array caching bytes h e has why = record {
-  refusal = RefusesFile-index e;
-  why = elim why [ inl is ↦ inl (array_in-rate bytes h (Err (stream.stream_fault e)) has.good has.header has.rate is) | inr memory ↦ inr (ap fault_status memory) ];
-}
+IsRefused-array caching bytes h e has why = search (rules, RefusesFile-index, array_in-rate)
 
 -- it is no stream
 pub IsRefused-stream : (lines : Option ℕ) (bytes : List ℕ) (e : IndexFault) → IsFault (parse bytes) (stream.stream_fault e) → IsRefused (Look lines) bytes (index_status e)
-IsRefused-stream lines bytes e why = record {
-  refusal = RefusesFile-index e;
-  why = elim why [ inl is ↦ inl (stream_in-said bytes (Err (stream.stream_fault e)) is) | inr memory ↦ inr (ap fault_status memory) ];
-}
+IsRefused-stream lines bytes e why = search (rules, RefusesFile-index, stream_in-said)

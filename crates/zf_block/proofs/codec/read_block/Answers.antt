@@ -1,13 +1,11 @@
+use Rattle.std.proofs.Common.{rules}
 use Rattle.std.proofs.Common.{map, refl, ap, ◌∙◌}
 use Rattle.zf_spec.specs.HeldPlanes.{planes_held}
 use Rattle.zf_block.proofs.Decoded.{passes_block, lacks_block}
 use Rattle.zf_block.proofs.codec.read_block.Goals as goal
 
 pub returns-in_err-read : goal.returns-in_err-read
-returns-in_err-read g c =
-    let code = c.args.code.now in
-    rw c.from_residual.ensures
-    (lacks_block (g.C.BlockCode.len_at code) (g.C.BlockCode.planes_at code) c.args.reader.now c.read.new.reader c.args.d g.row.N c.requires.size c.in_err-read.ensures.0, tt)
+returns-in_err-read g c = search (rules, lacks_block)
 
 pub returns : goal.returns
 returns g c =

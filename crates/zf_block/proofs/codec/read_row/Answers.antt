@@ -1,3 +1,4 @@
+use Rattle.std.proofs.Common.{rules}
 use Rattle.std.proofs.Common.{map, sym, ap, ◌∙◌}
 use Rattle.std.proofs.lemmas.Bool.{false≢true}
 use Rattle.zf_spec.specs.Planes.{planes_of}
@@ -16,10 +17,7 @@ returns-then-pass_zeros g c =
     )
 
 pub returns-in_err-read_four : goal.returns-in_err-read_four
-returns-in_err-read_four g c =
-    let code = c.args.code.now in
-    rw (c.from_residual.ensures, ← c.pass_zeros.ensures.unread (λ t. false≢true (sym c.if-pass_zeros.false ∙ t)))
-    (lacks_block (g.C.BlockCode.len_at code) (g.C.BlockCode.planes_at code) c.pass_zeros.new.reader c.read_four.new.reader c.args.d 4 c.requires.size c.in_err-read_four.ensures.0, tt)
+returns-in_err-read_four g c = search (rules, false≢true, lacks_block)
 
 pub returns : goal.returns
 returns g c =

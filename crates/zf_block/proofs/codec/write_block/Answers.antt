@@ -1,4 +1,5 @@
-use Rattle.std.proofs.Common.{◌≡◌, ℕ, ℤ, ◌^◌, List, map, refl, subst, ap, ◌∙◌}
+use Rattle.std.proofs.Common.{rules}
+use Rattle.std.proofs.Common.{◌≡◌, ℕ, ℤ, ◌^◌, List, map, subst, ap, ◌∙◌}
 use Rattle.std.proofs.lemmas.Bool.{false≢true}
 use Rattle.zf_spec.specs.Codes as codes
 use Rattle.zf_spec.specs.HeldPlanes.{planes_held}
@@ -8,14 +9,7 @@ use Rattle.zf_block.specs.Block.{planes_by}
 use Rattle.zf_block.proofs.codec.write_block.Goals as goal
 
 pub returns-then-write_or_make : goal.returns-then-write_or_make
-returns-then-write_or_make g c =
-    let w = g.T.Lane.width in
-    let block = c.args.block.now in
-    let values = map g.T.Lane.value c.copy_padded.new.values in
-    Appends-same (c.if-write_or_make.ensures.code refl)
-    (ap (g.C.BlockCode.code_of c.args.code.now)
-    (ap (λ d. codes.planes w d (g.C.BlockCode.forth d values)) c.requires.dimension
-    ∙ ap (λ (vs : List ℤ). codes.planes w block.d (g.C.BlockCode.forth block.d vs)) c.copy_padded.ensures))
+returns-then-write_or_make g c = search rules
 
 pub returns : goal.returns
 returns g c =

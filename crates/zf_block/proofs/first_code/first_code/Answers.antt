@@ -16,7 +16,7 @@ returns c =
     let d = c.in_ok-digits.digits in
     let len = c.at.result - c.at-2.result in
     let Passed : ℕ → Type 0 = λ k. Reads old zeros (take k (rest old)) in
-    let read = whole_read c.args.prec z c.peek-else-left-lt3.result d n len c.at-2.result c.at.result (omega arith) c.if-zeros-prec.false c.requires.in_word refl c.peek-else-left-lt3.ensures (omega arith) (omega (arith, c.left.ensures.count))
+    let read = whole_read c.args.prec z c.peek.result d n len c.at-2.result c.at.result (omega arith) c.if-zeros-prec.false c.requires.in_word refl c.peek.ensures (omega arith) (omega (arith, c.left.ensures.count))
     (c.if-not-are_zeros.ensures.zeros refl) (subst Passed c.from.ensures c.skip.ensures) c.skip-2.ensures c.in_ok-digits.ensures refl (c.at-2.ensures ∙ ap (λ (r : Reader). r.at) (sym c.another-place.ensures)) c.at.ensures in
     let Is : Reader → Type 0 = λ r. IsFirstCode c.args.prec (1 * 2 ^ n % 2 ^ 64 + d) len (rest r) in
     subst Is c.another-place.ensures read

@@ -1,14 +1,11 @@
+use Rattle.std.proofs.Common.{rules}
 use Rattle.std.proofs.Common.{◌≡◌, ℕ, ◌+◌, ◌-◌, ◌*◌, ◌^◌, subst, sym, arith}
 use Rattle.zf_block.specs.FirstAlone.{ReadsDigits}
 use Rattle.zf_block.proofs.FirstAlone.{joined, ReadsDigits-append}
 use Rattle.zf_block.proofs.first_code.read_digits.Goals as goal
 
 pub overflow_add-result : goal.overflow_add-result
-overflow_add-result c =
-    let above = c.in_ok-above.ensures in
-    let below = c.in_ok-below.ensures in
-    let whole = joined c.min-first.result (c.args.count - c.min-first.result) c.in_ok-above.above c.in_ok-below.below above.small below.small (omega arith) in
-    omega (arith, whole.0, whole.1)
+overflow_add-result c = search (rules, joined)
 
 pub returns : goal.returns
 returns c =

@@ -1,4 +1,4 @@
-use Rattle.std.proofs.Common.{◌≡◌, ap, subst, ◌∙◌, length, arith}
+use Rattle.std.proofs.Common.{◌≡◌, ap, subst, ◌∙◌, length, arith, rules}
 use mir.Val.{bits}
 use Rattle.zf_spec.specs.Stream.{to_bits}
 use Rattle.zf_base.specs.Widths.{width_of}
@@ -18,10 +18,7 @@ stream_plane-plane-requires-clause-inside g c =
     (omega (arith, c.in_ok-excerpt.ensures, c.longest_code.ensures.value))
 
 pub returns-clause-plane : goal.returns-clause-plane
-returns-clause-plane g c =
-    let d = length c.args.h.now.shape in
-    is_said c.args.file.now c.args.h.now c.in_ok-index.index c.in_ok-index.ensures.ok
-    (λ said. c.stream_plane-plane.result ≡ plane_of g.T.Lane.width d said.codes) c.stream_plane-plane.ensures.value
+returns-clause-plane g c = search (rules, is_said)
 
 pub returns-clause-bound : goal.returns-clause-bound
 returns-clause-bound g c holds =

@@ -1,8 +1,7 @@
-use Rattle.std.proofs.Common.{◌≡◌, ap, ◌∙◌, max, length, take, drop, arith}
+use Rattle.std.proofs.Common.{◌≡◌, ap, ◌∙◌, max, length, arith, rules}
 use Rattle.zf_spec.specs.Stream.{to_bits}
 use Rattle.zf_block.specs.WholePlanes.{rate_whole_from}
 use Rattle.zf_index.specs.Spans.{code_in}
-use Rattle.zf_index.specs.declared.span.Span.{Span}
 use Rattle.zf_bound.proofs.Cuts.{plane_of-more}
 use Rattle.zf_bound.proofs.planes.stream_plane.Goals as goal
 use Rattle.zf_bound.proofs.planes.stream_plane.Goals.{then-plane-own, else-plane-own}
@@ -12,10 +11,7 @@ loop-b-preserved g c =
     let w = g.T.Lane.width in
     let d = length c.args.h.now.shape in
     let bits = to_bits c.args.file.now in
-    let code : c.code_plane-own.result ≡ rate_whole_from w d (code_in c.args.index.now bits c.loop-b.b) =
-    c.code_plane-own.ensures.value
-    ∙ ap (λ n. rate_whole_from w n (take c.span.result.len (drop c.span.result.at bits))) c.dims.ensures.value
-    ∙ ap (λ (s : Span). rate_whole_from w d (take s.len (drop s.at bits))) c.span.ensures in
+    let code : c.code_plane-own.result ≡ rate_whole_from w d (code_in c.args.index.now bits c.loop-b.b) = search rules in
     let greater : c.if-plane-own.plane ≡ max c.loop-b.plane c.code_plane-own.result =
     elim c.if-plane-own.branch [ then-plane-own v ↦ omega (arith, v.plane-is, v.if-plane-own.true) | else-plane-own v ↦ omega (arith, v.plane-is, v.if-plane-own.false) ] in
     record {

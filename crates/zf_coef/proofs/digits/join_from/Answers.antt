@@ -1,4 +1,5 @@
-use Rattle.std.proofs.Common.{◌≡◌, ℕ, ◌+◌, ◌*◌, ◌/◌, ◌%◌, ◌^◌, ◌<◌, ◌≤◌, get_or, set, length, length-set, get_or-set_same, get_or-set_other, sym, subst, ◌∙◌, ⊎_elim, arith}
+use Rattle.std.proofs.Common.{rules}
+use Rattle.std.proofs.Common.{◌≡◌, ℕ, ◌+◌, ◌*◌, ◌/◌, ◌%◌, ◌^◌, ◌<◌, ◌≤◌, get_or, set, length, length-set, get_or-set_same, get_or-set_other, sym, subst, ⊎_elim, arith}
 use Rattle.std.proofs.lemmas.Bool.{cases_lt}
 use lib.Bits.{bit_and}
 use Rattle.zf_coef.specs.Groups.{IsMoved}
@@ -23,10 +24,7 @@ loop-r-preserved c =
           subst (lower j) (sym (get_or-set_other mid (r + 32) j y 0 (λ (e : j ≡ r + 32). absurd (omega arith))))
           (prefix_tells lower old 0 r x (omega arith) (low_half_moved a from c.requires.from) (λ i less. c.loop-r.invariant.lower i less) j h);
       upper = λ j h. ⊎_elim
-          (λ (earlier : j < r).
-          subst (upper j) (sym (get_or-set_other mid (r + 32) (32 + j) y 0 (λ (e : 32 + j ≡ r + 32). absurd (omega arith))
-          ∙ get_or-set_other old r (32 + j) x 0 (λ (e : 32 + j ≡ r). absurd (omega arith))))
-          (c.loop-r.invariant.upper j earlier))
+          (search (rules, get_or-set_other))
           (λ (last : r ≤ j).
           let same : r ≡ j = omega arith in
           let at : r + 32 ≡ 32 + r = omega arith in

@@ -1,4 +1,5 @@
-use Rattle.std.proofs.Common.{◌≡◌, ℕ, ◌+◌, ◌-◌, ◌/◌, ◌%◌, ◌^◌, List, ◌∷◌, map, length, replicate, set, sym, ap, subst, ◌∙◌, arith}
+use Rattle.std.proofs.Common.{rules}
+use Rattle.std.proofs.Common.{◌≡◌, ℕ, ◌-◌, List, ◌∷◌, map, length, replicate, set, sym, subst, arith}
 use Rattle.std.proofs.lemmas.List.{length-map, map-set, length-replicate}
 use Rattle.zf_spec.specs.Planes.{planes_of}
 use Rattle.zf_spec.specs.HeldPlanes.{planes_held}
@@ -13,20 +14,11 @@ pub loop-k-init : goal.loop-k-init
 loop-k-init g c = first_none c.args.first (map g.P.Plane.words c.args.planes.now)
 
 pub loop-k-preserved : goal.loop-k-preserved
-loop-k-preserved g c =
-    let words = g.P.Plane.words in
-    let planes = c.loop-k.planes in
-    let k = c.loop-k.k in
-    let first = c.args.first in
-    subst (HoldsFirst first (k + 1)) (sym (map-set words planes k c.set_word.new.self))
-    (first_more g.P.Plane.word_count first k (map words planes) (words c.set_word.new.self) (omega (arith, length-map planes words)) (omega arith)
-    (c.set_word.ensures ∙ ap (λ ws. set ws 0 (first / 2 ^ k % 2)) c.zero-plane.ensures) c.loop-k.invariant)
+loop-k-preserved g c = search (rules, map-set, first_more, length-map)
 
 -- the digits
 written : (g : Over) (c : goal.After-loop-k g) → set c.fill.new.self 0 c.args.first ≡ c.args.first ∷ replicate (length c.args.digits.now - 1) 0
-written g c =
-    let size = length c.args.digits.now in
-    ap (λ ds. set ds 0 c.args.first) (c.fill.ensures.after (λ y same. same)) ∙ set_first size c.args.first c.requires.some
+written g c = search (rules, set_first)
 
 pub returns-clause-digits : goal.returns-clause-digits
 returns-clause-digits g c = written g c

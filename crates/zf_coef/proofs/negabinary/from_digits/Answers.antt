@@ -1,6 +1,5 @@
-use Rattle.std.proofs.Common.{ap, ◌∙◌}
-use mir.Val.{bits}
-use Rattle.zf_spec.specs.Numbers.{field, digits}
+use Rattle.std.proofs.Common.{rules}
+use Rattle.std.proofs.Common.{◌∙◌}
 use Rattle.zf_spec.proofs.Fields.{length-field}
 use Rattle.zf_spec.proofs.Negabinary.{digits-value_of}
 use Rattle.zf_coef.proofs.Mask.{wrap-unmasked}
@@ -10,6 +9,4 @@ pub returns-clause-value : goal.returns-clause-value
 returns-clause-value g c = c.from_word.ensures.value ∙ wrap-unmasked g.T.Lane.width g.met.T.Lane.two_widths c.args.u
 
 pub returns-clause-undone : goal.returns-clause-undone
-returns-clause-undone g c =
-    let w = g.T.Lane.width in
-    ap (digits (bits w)) (returns-clause-value g c) ∙ digits-value_of w (field (bits w) c.args.u) (length-field (bits w) c.args.u)
+returns-clause-undone g c = search (rules, returns-clause-value, digits-value_of, length-field)

@@ -1,8 +1,8 @@
+use Rattle.std.proofs.Common.{rules}
 use Rattle.std.proofs.Common.{◌≡◌, ◌+◌, map, length, min, sym, ap, subst, ◌∙◌, arith}
 use Rattle.std.proofs.lemmas.List.{length-map}
 use Rattle.zf_spec.specs.Planes.{planes_of}
 use Rattle.zf_coef.specs.HeldDigits.{digits_in}
-use Rattle.zf_coef.specs.Groups.{HoldsGroup}
 use Rattle.zf_coef.proofs.Prefixes.{each_long}
 use Rattle.zf_coef.proofs.Transposed.{IsBehind, HoldsGroups, behind_more, groups_more, planes_of_groups, clear_of_groups}
 use Rattle.zf_coef.proofs.planes.planes_of_digits.Goals as goal
@@ -19,9 +19,7 @@ loop-number-preserved g c =
     let new = map words c.put_group.new.planes in
     record {
       behind = subst (IsBehind (number + 1) digits) (sym c.split_at.ensures.back) (behind_more number n digits rest size c.loop-number.invariant.behind);
-      groups = groups_more number n digits rest old new size (omega (arith, length-map c.loop-number.planes words, length-map c.put_group.new.planes words))
-          c.loop-number.invariant.behind c.loop-number.invariant.groups
-          (subst (λ ds. HoldsGroup number ds new) c.split_at.ensures.front c.put_group.ensures.bits) c.put_group.ensures.others;
+      groups = search (rules, groups_more, length-map);
     }
 
 pub returns-clause-digits : goal.returns-clause-digits

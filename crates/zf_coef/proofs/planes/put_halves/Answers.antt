@@ -1,3 +1,4 @@
+use Rattle.std.proofs.Common.{rules}
 use Rattle.std.proofs.Common.{map, arith}
 use Rattle.std.proofs.lemmas.List.{length-map}
 use Rattle.zf_coef.proofs.Halves.{group_of_halves, half_of_none, planes_of_first}
@@ -19,9 +20,4 @@ returns-else-number-gt0 g c =
     group_of_halves c.args.number c.args.digits.now (map words c.args.planes.now) (map words mid) (map words new) (omega (arith, length-map mid words, length-map new words)) (omega (arith, length-map new words)) c.put_half.ensures c.put_half-else-number-gt0.ensures
 
 pub returns-else-planes-gt32 : goal.returns-else-planes-gt32
-returns-else-planes-gt32 g c =
-    let planes = c.put_half.new.planes in
-    record {
-      bits = planes_of_first c.args.number c.args.digits.now (map g.P.Plane.words planes) (omega (arith, length-map planes g.P.Plane.words)) c.put_half.ensures.bits;
-      others = c.put_half.ensures.others;
-    }
+returns-else-planes-gt32 g c = search (rules, planes_of_first, length-map)

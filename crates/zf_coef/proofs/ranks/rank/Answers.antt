@@ -1,8 +1,8 @@
-use Rattle.std.proofs.Common.{◌≡◌, ◌^◌, ◌<◌, ℕ, [], List, map, length, get_or, pos, sym, ap, ◌∙◌, arith, rules}
+use Rattle.std.proofs.Common.{◌≡◌, ◌^◌, ◌<◌, [], map, length, get_or, pos, sym, ap, ◌∙◌, arith, rules}
 use Rattle.std.proofs.lemmas.List.{get_or-map}
 use Rattle.std.proofs.lemmas.List.Elements.{AllWithin-more_set}
 use mir.Val.{bits}
-use Rattle.zf_spec.specs.Numbers.{digits, field}
+use Rattle.zf_spec.specs.Numbers.{digits}
 use Rattle.zf_coef.specs.HeldDigits.{ranked_digits}
 use Rattle.zf_coef.proofs.Filling.{fill_more}
 use Rattle.zf_coef.proofs.ByRank.{length-ranked_digits, get_or-ranked_digits}
@@ -21,12 +21,8 @@ loop-rank-preserved g c =
     let inside : place < length block = search rules in
     let in_digits : r < length c.loop-rank.digits = omega arith in
     let in_order : get_or (map value block) place (pos 0) ≡ value x = get_or-map value block place x (pos 0) inside ∙ ap value (sym c.index-block-places.is) in
-    let here : get_or (ranked_digits w d (map value block)) r [] ≡ digits (bits w) (value x) =
-    get_or-ranked_digits w d (map value block) r rank
-    ∙ ap (λ (ps : List ℕ). digits (bits w) (get_or (map value block) (get_or ps r 0) (pos 0))) (sym c.order-places.ensures.places)
-    ∙ ap (digits (bits w)) in_order in
+    let here : get_or (ranked_digits w d (map value block)) r [] ≡ digits (bits w) (value x) = search (rules, get_or-ranked_digits) in
     record {
-      filled = fill_more (field (bits w)) c.loop-rank.digits (ranked_digits w d (map value block)) r c.to_digits.result [] in_digits
-          (omega (arith, length-ranked_digits w d (map value block))) c.loop-rank.invariant.filled (c.to_digits.ensures.digits ∙ sym here);
+      filled = search (rules, fill_more, length-ranked_digits);
       below = AllWithin-more_set c.loop-rank.digits r c.to_digits.result in_digits (λ u. u < 2 ^ g.T.Lane.WIDTH) c.loop-rank.invariant.below c.to_digits.ensures.below;
     }

@@ -1,3 +1,4 @@
+use Rattle.std.proofs.Common.{rules}
 use Rattle.std.proofs.Common.{◌≡◌, ◌^◌, map, sym, ap, subst, arith}
 use Rattle.std.proofs.lemmas.List.{length-map}
 use mir.Val.{bits}
@@ -17,13 +18,7 @@ returns-then-d-eq3 g c =
     (subst (λ r. HasRanks c.args.d r values block) all c.unrank-then-d-eq3-3.ensures)
 
 pub returns-else-d-eq4 : goal.returns-else-d-eq4
-returns-else-d-eq4 g c =
-    let w = g.T.Lane.width in
-    let values = map (value_of w) (digits_in (bits w) c.args.digits.now) in
-    let new = c.unrank-else-d-eq4.new.block in
-    let block = map g.T.Lane.value new in
-    ranks_all c.args.d block values (omega (arith, length-map new g.T.Lane.value))
-    (subst (λ r. HasRanks c.args.d r values block) c.requires.digits c.unrank-else-d-eq4.ensures)
+returns-else-d-eq4 g c = search (rules, ranks_all, length-map)
 
 pub returns-then-d-eq4 : goal.returns-then-d-eq4
 returns-then-d-eq4 g c =

@@ -1,6 +1,7 @@
-use Rattle.std.proofs.Common.{ap, ◌∙◌}
+use Rattle.std.proofs.Common.{rules}
+use Rattle.std.proofs.Common.{◌∙◌}
 use Rattle.std.proofs.lemmas.List.{length-map}
-use Rattle.zf_spec.specs.Lorenzo.{lorenzo, unlorenzo, signed_choose}
+use Rattle.zf_spec.specs.Lorenzo.{lorenzo, signed_choose}
 use Rattle.zf_spec.proofs.LorenzoInverse.{unlorenzo-lorenzo}
 use Rattle.zf_lorenzo.proofs.WeightedAxes.{along_axes-sums}
 use Rattle.zf_lorenzo.proofs.transform.forward.Goals as goal
@@ -10,6 +11,4 @@ unfolding lorenzo
 returns-clause-sums g c = c.passes.ensures ∙ along_axes-sums g.T.Lane.width signed_choose c.args.d _ c.requires.block.0.0 (length-map c.args.block.now g.T.Lane.value ∙ c.requires.block.1)
 
 pub returns-clause-undone : goal.returns-clause-undone
-returns-clause-undone g c fits =
-    let w = g.T.Lane.width in
-    ap (unlorenzo w c.args.d) (returns-clause-sums g c) ∙ unlorenzo-lorenzo w c.args.d _ (length-map c.args.block.now g.T.Lane.value ∙ c.requires.block.1) fits
+returns-clause-undone g c fits = search (rules, returns-clause-sums, unlorenzo-lorenzo, length-map)

@@ -1,4 +1,4 @@
-use Rattle.std.proofs.Common.{rules, ◌≡◌, sym, ap, subst, ◌∙◌, ℕ, List, length, Option, Ok, Err}
+use Rattle.std.proofs.Common.{rules, ◌≡◌, sym, ap, subst, ℕ, List, length, Option, Ok, Err}
 use Rattle.zf_dev.specs.Source.{Takes}
 use Rattle.zf_parse.specs.declared.fault.StreamFault.{StreamFault}
 use Rattle.zf_stream.specs.Outcomes.{Compressed}
@@ -13,19 +13,7 @@ returns-in-Ok-clause-outcome g c =
     let source = c.compress-answer.new.src in let old = c.new.result in let new = source.promotion in
     let four : length old.value ≡ 4 = search rules in
     let Read : Option (List ℕ) → Type 0 = λ k. Takes k (g.S.Source.contents source.src.now) (read_so_far new) in
-    let runs : Runs n known (g.S.Source.contents source.src.now) old new =
-    record {
-      same_old = c.new.ensures.narrow;
-      at_old = c.new.ensures.at;
-      four_old = four;
-      half_old = c.new.ensures.half;
-      unspent_old = c.new.ensures.spent;
-      taken_old = c.new.ensures.taken;
-      same = source.same_type ∙ c.requires.narrow;
-      four = c.pending-pending.ensures.value;
-      spent_end = source.at_end;
-      read = subst Read c.requires.start source.read;
-    } in
+    let runs : Runs n known (g.S.Source.contents source.src.now) old new = search rules in
     let out0 = g.O.Sink.contents c.args.out.now in let out1 = g.O.Sink.contents c.compress-answer.new.out in
     let src_is = c.src-1.given.1 (sym (ap (λ (q : _). q.0) c.compress-answer.ensures.source.same)) in
     let h = c.args.h.now in
@@ -38,19 +26,7 @@ returns-in-Err-clause-outcome g c =
     let source = c.compress-answer.new.src in let old = c.new.result in let new = source.promotion in
     let four : length old.value ≡ 4 = search rules in
     let Read : Option (List ℕ) → Type 0 = λ k. Takes k (g.S.Source.contents source.src.now) (read_so_far new) in
-    let runs : Runs n known (g.S.Source.contents source.src.now) old new =
-    record {
-      same_old = c.new.ensures.narrow;
-      at_old = c.new.ensures.at;
-      four_old = four;
-      half_old = c.new.ensures.half;
-      unspent_old = c.new.ensures.spent;
-      taken_old = c.new.ensures.taken;
-      same = source.same_type ∙ c.requires.narrow;
-      four = c.pending-pending.ensures.value;
-      spent_end = source.at_end;
-      read = subst Read c.requires.start source.read;
-    } in
+    let runs : Runs n known (g.S.Source.contents source.src.now) old new = search rules in
     let out0 = g.O.Sink.contents c.args.out.now in let out1 = g.O.Sink.contents c.compress-answer.new.out in
     let src_is = c.src-1.given.1 (sym (ap (λ (q : _). q.0) c.compress-answer.ensures.source.same)) in
     let h = c.args.h.now in

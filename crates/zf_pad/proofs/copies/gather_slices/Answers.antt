@@ -1,3 +1,4 @@
+use Rattle.std.proofs.Common.{rules}
 use Rattle.std.proofs.Common.{◌≡◌, ◌+◌, ◌*◌, length, map, sym, ap, subst, ◌∙◌, arith}
 use Rattle.zf_pad.specs.Layouts.{index_at}
 use Rattle.zf_pad.proofs.Copying.{IsGatheredTo, index_here, slice_index, row_within, gathered_none, gathered_row, row_copied, gathered_all}
@@ -10,11 +11,7 @@ counted_from-from_origin-requires g c =
     omega (arith, first, first_index c.args.layout.now c.args.e.now)
 
 pub index-first-requires : goal.index-first-requires
-index-first-requires g c =
-    let place = 4 * (4 * c.loop-slice.slice) in
-    let here = place_of_whole c.args.d c.args.e.now c.requires.fits.four_at_most c.requires.fits.extent place c.requires.whole.all (omega arith) in
-    let inside = c.requires.fits.within place (record { in_block = omega arith; inside = here }) in
-    omega (arith, inside, index_here c.args.layout.now c.counted_from-from_origin.result c.args.e.now place c.indices.result c.counted_from-from_origin.ensures c.indices.ensures)
+index-first-requires g c = search (rules, place_of_whole, index_here)
 
 pub loop-slice-init : goal.loop-slice-init
 loop-slice-init g c = gathered_none c.args.layout.now c.args.e.now (map g.T.Lane.value c.args.values.now) (map g.T.Lane.value c.args.block.now)
@@ -73,9 +70,7 @@ loop-y-preserved g c =
     c.loop-y.invariant)
 
 pub loop-slice-preserved : goal.loop-slice-preserved
-loop-slice-preserved g c =
-    let value = g.T.Lane.value in
-    subst (IsGatheredTo c.args.layout.now c.args.e.now (map value c.args.values.now) (map value c.args.block.now) (map value c.loop-y.block)) (omega (arith, c.loop-y-test.false, c.loop-y.auto.y-end)) c.loop-y.invariant
+loop-slice-preserved g c = search rules
 
 pub returns : goal.returns
 returns g c =

@@ -1,3 +1,4 @@
+use Rattle.std.proofs.Common.{rules}
 use Rattle.std.proofs.Common.{◌≡◌, ℕ, ◌+◌, ◌*◌, ◌≤◌, List, length, map, take, drop, refl, sym, ap, subst, ◌∙◌, take_at, arith}
 use Rattle.std.proofs.Math.Nat.{mul-le-mul}
 use Rattle.std.proofs.lemmas.List.{length-map, take-map}
@@ -25,9 +26,7 @@ is_extent d e h = record { not_zero = h.not_zero; four_at_most = h.four_at_most;
 
 -- there are no more than 64 in three axes
 few : (d : ℕ) (e : Extent) → d ≤ 4 → IsExtent d e → e.size.x * e.size.y * e.size.z ≤ 4 * 4 * 4
-few d e dims h =
-    let four = sizes_four_at_most d e dims h in
-    mul-le-mul (mul-le-mul four.0 four.1.0) four.1.1.0
+few d e dims h = search (rules, sizes_four_at_most, mul-le-mul)
 
 pub overflow_mul-layout-3 : goal.overflow_mul-layout-3
 overflow_mul-layout-3 g c = record { fits = omega (arith, few c.args.d c.args.e.now c.requires.four_at_most c.requires.extent) }

@@ -1,3 +1,4 @@
+use Rattle.std.proofs.Common.{rules}
 use Rattle.std.proofs.Common.{◌≡◌, ◌+◌, ◌*◌, ◌<◌, ◌≤◌, ⊎_elim, pos, map, length, get_or, ap, sym, ◌∙◌, arith}
 use Rattle.std.proofs.Math.Nat.{mul-le-mul_right}
 use Rattle.std.proofs.lemmas.Bool.{cases_lt}
@@ -9,9 +10,7 @@ pub copy_row-requires-clause-there : goal.copy_row-requires-clause-there
 copy_row-requires-clause-there g c = omega (arith, c.loop-b.invariant.at, c.requires.there c.loop-b.b c.loop-b-test.true)
 
 pub overflow_add-at : goal.overflow_add-at
-overflow_add-at g c =
-    let up : c.loop-b.b + 1 ≤ c.args.blocks = omega (arith, c.loop-b-test.true) in
-    record { fits = omega (arith, c.loop-b.invariant.at, mul-le-mul_right c.args.step up, c.requires.small) }
+overflow_add-at g c = search (rules, mul-le-mul_right)
 
 pub loop-b-preserved : goal.loop-b-preserved
 loop-b-preserved g c =

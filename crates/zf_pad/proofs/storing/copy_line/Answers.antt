@@ -1,4 +1,5 @@
-use Rattle.std.proofs.Common.{◌≡◌, ◌+◌, ◌-◌, ◌*◌, ◌/◌, ◌%◌, ◌<◌, ◌≤◌, ⊎_elim, pos, map, length, get_or, ap, sym, ◌∙◌, arith}
+use Rattle.std.proofs.Common.{rules}
+use Rattle.std.proofs.Common.{◌≡◌, ◌+◌, ◌-◌, ◌*◌, ◌/◌, ◌%◌, ◌<◌, ◌≤◌, ⊎_elim, pos, map, get_or, ap, sym, ◌∙◌, arith}
 use Rattle.std.proofs.lemmas.Bool.{cases_lt}
 use Rattle.zf_pad.specs.Stored.{raster_of}
 use Rattle.zf_pad.proofs.StoredLines.{numbers_small, blocks_there, blocks_small, rest_there, block_value, rest_value, rest_copied, front_stays}
@@ -45,10 +46,7 @@ copy_rest-requires-clause-there g c =
     omega (arith, rest_there _ _ _ _ _ _ _ c.line_at-n.ensures, c.requires.all)
 
 pub returns-clause-before : goal.returns-clause-before
-returns-clause-before g c =
-    let to = c.args.to + 4 * (c.args.count / 4) in
-    let within : to ≤ length c.copy_blocks.new.part = omega (arith, c.copy_blocks.auto.part, c.requires.room) in
-    front_stays c.args.to to c.copy_blocks.new.part _ c.copy_rest.new.part (omega arith) within c.copy_rest.ensures ∙ c.copy_blocks.ensures.before
+returns-clause-before g c = search (rules, front_stays)
 
 pub returns-clause-values : goal.returns-clause-values
 returns-clause-values g c =

@@ -1,3 +1,4 @@
+use Rattle.std.proofs.Common.{rules}
 use Rattle.std.proofs.Common.{◌≡◌, ℕ, ◌+◌, ◌-◌, ◌%◌, ◌<◌, ◌≤◌, ◌⊎◌, inl, inr, ⊎_elim, map, length, take, drop, ap, sym, ◌∙◌, arith}
 use Rattle.std.proofs.lemmas.List.{length-map, take-map}
 use Rattle.zf_spec.specs.Grid.{product}
@@ -40,8 +41,7 @@ loop-held-preserved g c =
       within = omega (arith, ends, c.values.ensures.value, c.requires.within);
       room = room;
       first = ap (λ k. k % n % 4) (sym place) ∙ next_first n (from + held) count so_far.first within whole;
-      values = taken_more part values from held count before c.copy_line.ensures.values (omega (arith, length-map c.copy_line.new.part value, room))
-          (omega (arith, ends, length-raster_of ns (map value c.args.stored.now)));
+      values = search (rules, taken_more, length-map, length-raster_of);
     }
 
 pub returns-else-held-part-clause-values : goal.returns-else-held-part-clause-values

@@ -1,3 +1,4 @@
+use Rattle.std.proofs.Common.{rules}
 use Rattle.std.proofs.Common.{◌≡◌, ℕ, ◌+◌, ◌-◌, ◌≤◌, min, Bool, List, ◌++◌, take, sym, ap, ◌∙◌, arith}
 use Rattle.zf_spec.specs.ReadPlanes.{first_bits}
 use Rattle.zf_bits.specs.Reader.{Reader, rest}
@@ -22,10 +23,7 @@ first_read {old} {mid} {left} {after} size n within takes =
     }
 
 pub returns-in_err-prefix-clause-short : goal.returns-in_err-prefix-clause-short
-returns-in_err-prefix-clause-short g c =
-    let left = c.args.cursor.now.left in
-    let whole = plane_bits-is left c.args.size c.args.n (rest c.args.cursor.now.reader) c.requires.in_plane in
-    if_none _ (Passes-lacks (Passes-start c.args.cursor.now.reader left (plane_bits left c.args.size c.args.n (rest c.args.cursor.now.reader))) c.in_err-prefix.ensures.short (omega (arith, whole)))
+returns-in_err-prefix-clause-short g c = search (rules, plane_bits-is, if_none)
 
 -- looking again leaves the reader and what is left of the budget
 looked : (g : Over) (c : goal.After-read_tail g) → Takes c.args.cursor.now.reader c.new.result.reader c.args.cursor.now.left c.new.result.left (min c.args.n c.args.cursor.now.left)

@@ -1,4 +1,5 @@
-use Rattle.std.proofs.Common.{◌≡◌, ℕ, ◌+◌, ◌-◌, ◌<◌, ◌≤◌, inl, inr, Bool, true, false, List, [], ◌∷◌, ◌++◌, length, drop, replicate, refl, sym, ap, ◌∙◌, arith}
+use Rattle.std.proofs.Common.{rules}
+use Rattle.std.proofs.Common.{◌≡◌, ℕ, ◌+◌, ◌-◌, ◌<◌, ◌≤◌, Bool, List, [], ◌∷◌, length, drop, refl, sym, ap, ◌∙◌, arith}
 use Rattle.zf_bits.specs.Reader.{Reader, rest}
 use Rattle.zf_planes.specs.Decoding.{Takes, run_ahead, run_bits, tail_ahead, tail_bits}
 use Rattle.zf_planes.proofs.Passing.{Passes, Passes-part, Passes-lacks, Takes-rest}
@@ -45,10 +46,7 @@ returns-then-count-ahead-clause-read c =
       within = omega (arith, c.if-count-ahead.true, c.min-ahead.ensures, c.min-in-loop-zeros.ensures);
       taken = taken_of (Passes-part (tail_bits (left - k - 1) (c.args.most - (z + k) - 1) (rest c.skip.new.self)) c.loop-zeros.invariant.passes (omega (arith, both.0, bits, passed.spent)) (rw after at passed));
       bits = omega (arith, both.0, bits, c.loop-zeros.invariant.passes.sum, c.loop-zeros.invariant.passes.within, passed.spent);
-      digits =
-          c.loop-zeros.invariant.digits
-          ∙ ap (λ (ds : List Bool). replicate z false ++ ds) (both.1 ∙ ap (λ (ds : List Bool). replicate k false ++ true ∷ ds) digits)
-          ∙ replicate_both z k (true ∷ tail_ahead (left - k - 1) (c.args.most - (z + k) - 1) (rest c.skip.new.self));
+      digits = search (rules, replicate_both);
     }
 
 -- ---- only zeros
@@ -74,31 +72,14 @@ loop-zeros-preserved c =
     let digits = ap (λ n. run_ahead (left - k) n (drop k s)) fewer ∙ ap (run_ahead (left - k) (c.args.most - (z + k))) (sym (Takes-rest passed)) in
     record {
       passes = Passes-part (run_bits (left - k) (c.args.most - (z + k)) behind) before.passes (omega (arith, zeros.0, bits)) passed;
-      digits =
-          before.digits
-          ∙ ap (λ (ds : List Bool). replicate z false ++ ds) (zeros.1 ∙ ap (λ (ds : List Bool). replicate k false ++ ds) digits)
-          ∙ replicate_both z k (run_ahead (left - k) (c.args.most - (z + k)) behind);
+      digits = search (rules, replicate_both);
       within = omega (arith, below);
     }
 
 -- ---- the one has no bit
 
 pub returns-else-left-gt0-clause-read : goal.returns-else-left-gt0-clause-read
-returns-else-left-gt0-clause-read c =
-    let stands = run_stands c.loop-zeros.left (c.args.most - c.loop-zeros.zeros) (rest c.loop-zeros.reader) (omega (arith, c.loop-zeros.invariant.within)) (inl (omega (arith, c.if-left-gt0.false))) in
-    record {
-      within = c.loop-zeros.invariant.within;
-      taken = taken_of c.loop-zeros.invariant.passes;
-      bits = omega (arith, stands.0, c.loop-zeros.invariant.passes.sum);
-      digits = c.loop-zeros.invariant.digits ∙ ap (λ (ds : List Bool). replicate c.loop-zeros.zeros false ++ ds) stands.1;
-    }
+returns-else-left-gt0-clause-read c = search (rules, run_stands, taken_of)
 
 pub returns-after-loop-zeros-clause-read : goal.returns-after-loop-zeros-clause-read
-returns-after-loop-zeros-clause-read c =
-    let stands = run_stands c.loop-zeros.left (c.args.most - c.loop-zeros.zeros) (rest c.loop-zeros.reader) (omega (arith, c.loop-zeros.invariant.within)) (inr (omega (arith, c.loop-zeros-test.false, c.loop-zeros.invariant.within))) in
-    record {
-      within = c.loop-zeros.invariant.within;
-      taken = taken_of c.loop-zeros.invariant.passes;
-      bits = omega (arith, stands.0, c.loop-zeros.invariant.passes.sum);
-      digits = c.loop-zeros.invariant.digits ∙ ap (λ (ds : List Bool). replicate c.loop-zeros.zeros false ++ ds) stands.1;
-    }
+returns-after-loop-zeros-clause-read c = search (rules, run_stands, taken_of)

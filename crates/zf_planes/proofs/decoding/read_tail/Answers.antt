@@ -1,11 +1,12 @@
-use Rattle.std.proofs.Common.{◌≡◌, ℕ, ◌+◌, ◌-◌, ◌*◌, ◌%◌, ◌<◌, ◌≤◌, ◌⊎◌, inl, inr, max, Bool, true, false, List, [], ◌∷◌, ◌++◌, length, replicate, refl, sym, ap, ◌∙◌, arith, append_assoc}
+use Rattle.std.proofs.Common.{rules}
+use Rattle.std.proofs.Common.{◌≡◌, ℕ, ◌+◌, ◌-◌, ◌*◌, ◌%◌, ◌<◌, ◌≤◌, ◌⊎◌, max, Bool, true, false, List, [], ◌∷◌, ◌++◌, length, replicate, refl, sym, ap, ◌∙◌, arith, append_assoc}
 use Rattle.zf_spec.specs.Planes.{reach}
 use Rattle.zf_spec.specs.HeldPlanes.{digits_held, IsClearFrom}
 use Rattle.zf_spec.proofs.Reach.{reach-le}
 use Rattle.zf_spec.proofs.HeldPlanes.{length-digits_held}
 use Rattle.zf_bits.specs.Reader.{Reader, rest}
 use Rattle.zf_planes.specs.Decoding.{IsWindow, Takes, ReadsTail, tail_ahead, tail_bits}
-use Rattle.zf_planes.proofs.Passing.{Passes-start, Passes-part, Passes-end, Passes-lacks, if_none}
+use Rattle.zf_planes.proofs.Passing.{Passes-part, Passes-end, Passes-lacks, if_none}
 use Rattle.zf_planes.proofs.Peeking.{zero_first}
 use Rattle.zf_planes.proofs.Placing.{clear_later, held_behind, one_placed, reach_behind, reach_one}
 use Rattle.zf_planes.proofs.Steps.{tail_over, tail_end, tail_short}
@@ -13,16 +14,7 @@ use Rattle.zf_planes.proofs.decoding.read_tail.Goals.{then-loop-n-test+else-curs
 use Rattle.zf_planes.proofs.decoding.read_tail.Goals as goal
 
 pub loop-n-init : goal.loop-n-init
-loop-n-init g c =
-    let n = c.args.n in
-    let ws = g.P.Plane.words c.args.prefix in
-    record {
-      passes = Passes-start c.args.cursor.now.reader c.args.cursor.now.left _;
-      digits = refl;
-      clear = c.requires.clear;
-      within = c.requires.in_plane;
-      above = omega (arith, reach-le (digits_held n ws), length-digits_held n ws (omega (arith, c.requires.in_plane, c.requires.words, g.met.P.Plane.long c.args.prefix)));
-    }
+loop-n-init g c = search (rules, reach-le, length-digits_held)
 
 -- ---- the bits end
 
@@ -50,11 +42,9 @@ loop-n-preserved g c =
     let z = c.in_ok-n.field-0 in
     let before = c.loop-n.invariant in
     let ok = c.in_ok-n.ensures.read in
-    let left = c.loop-n.cursor.left in
     let left' = c.read_group.new.cursor.left in
     let old = g.P.Plane.words c.loop-n.plane in
     let new = g.P.Plane.words c.set_one.new.plane in
-    let s = rest c.loop-n.cursor.reader in
     let s' = rest c.read_group.new.cursor.reader in
     let m = c.args.size - n in
     let taken = rw (c.sees.ensures.left, c.sees.ensures.reader) at ok.taken in
@@ -87,15 +77,7 @@ loop-n-preserved g c =
 finished : {old now : Reader} {left after : ℕ} (size n from : ℕ) (prefix ws : List ℕ) (more : List Bool) → n ≤ size → size ≤ 64 * length ws → IsClearFrom n ws → n ≡ max from (reach (digits_held n ws))
     → digits_held from prefix ++ tail_ahead left (size - from) (rest old) ≡ digits_held n ws ++ more → more ≡ replicate (size - n) false → Takes old now left after (tail_bits left (size - from) (rest old))
     → ReadsTail size from old now left after prefix ws n
-finished size n from prefix ws more within enough clear above is zeros taken =
-    let held = held_behind n size ws within enough clear in
-    let reached = ap reach held ∙ reach_behind (digits_held n ws) (size - n) in
-    record {
-      taken = taken;
-      digits = held ∙ ap (λ (ds : List Bool). digits_held n ws ++ ds) (sym zeros) ∙ sym is;
-      clear = clear_later n size ws within clear;
-      reached = omega (arith, above, reached);
-    }
+finished size n from prefix ws more within enough clear above is zeros taken = search (rules, held_behind, reach_behind, clear_later)
 
 -- a group bit of zero
 at_end : (left m bits count : ℕ) (s : List Bool) → 0 < left → 0 < m → IsWindow left bits count s → 1 ≤ count → bits % 2 ≡ 0 → (tail_bits left m s ≡ 1) × (tail_ahead left m s ≡ replicate m false)
@@ -113,9 +95,6 @@ returns-then-cursor-eq0-clause-read g c =
 pub returns-clause-read : goal.returns-clause-read
 returns-clause-read g c =
     let now = c.loop-n.invariant in
-    let none : (c.loop-n.cursor.left ≡ 0) ⊎ (c.args.size - c.loop-n.n ≡ 0) = elim c.loop-n-test.branch [
-      | then-loop-n-test+else-cursor-gt0 w ↦ inl (omega (arith, w.if-cursor-gt0.false))
-      | else-loop-n-test w ↦ inr (omega (arith, w.loop-n-test.false))
-    ] in
+    let none : (c.loop-n.cursor.left ≡ 0) ⊎ (c.args.size - c.loop-n.n ≡ 0) = search (rules, then-loop-n-test+else-cursor-gt0, else-loop-n-test) in
     let over = tail_over c.loop-n.cursor.left (c.args.size - c.loop-n.n) (rest c.loop-n.cursor.reader) none in
     finished c.args.size c.loop-n.n c.args.n _ _ _ now.within (omega (arith, c.requires.words, g.met.P.Plane.long c.loop-n.plane)) now.clear now.above now.digits over.1 (Passes-end now.passes over.0)

@@ -1,9 +1,9 @@
-use Rattle.std.proofs.Common.{◌≡◌, ℕ, ◌-◌, ◌*◌, ◌/◌, ◌%◌, ◌^◌, ◌<◌, false, cond, eqb, ap, sym, ◌∙◌, arith}
+use Rattle.std.proofs.Common.{rules}
+use Rattle.std.proofs.Common.{◌≡◌, ℕ, ◌-◌, ◌*◌, ◌%◌, ◌^◌, ◌<◌, ap, ◌∙◌, arith}
 use Rattle.std.proofs.lemmas.Bool.{eq-eqb}
 use Rattle.std.proofs.lemmas.Bool.Decides.{nat_tests}
 use Rattle.std.proofs.lemmas.Nat.{one_shl, pow_pos}
 use Rattle.std.proofs.Math.Nat.{mod-lt}
-use Rattle.zf_spec.specs.Numbers.{field}
 use Rattle.zf_spec.proofs.Fields.{field-mod}
 use Rattle.zf_planes.proofs.Doubled.{run_of_entry, run_len, run_bits, implied}
 use Rattle.zf_planes.proofs.doubling.short_run.Goals as goal
@@ -36,20 +36,12 @@ overflow_sub-bits-2 c =
     omega (arith, c.from-3.ensures, last_bit c.args.digits e (c.from.result - c.from-2.result) len entry.len, entry.bits_enough)
 
 bits_less : (c : goal.After-row_known-1) → c.if-digits-most-eq0.implied ≡ implied c.args.most c.args.digits
-bits_less c = elim c.if-digits-most-eq0.branch [
-  | then-digits-most-eq0 w ↦ w.implied-is ∙ sym (ap (λ b. cond b 0 2) (eq-eqb _ _ w.if-digits-most-eq0.true))
-  | else-digits-most-eq0 w ↦
-      let some : eqb (c.args.digits / 2 ^ (c.args.most - 1)) 0 ≡ false = grind (arith, nat_tests, w.if-digits-most-eq0.false) in
-      w.implied-is ∙ sym (ap (λ b. cond b 0 2) some)
-]
+bits_less c = search (rules, then-digits-most-eq0, eq-eqb, else-digits-most-eq0, nat_tests)
 
 pub overflow_sub-count : goal.overflow_sub-count
 overflow_sub-count c =
     let entry = run_of_entry c.args.most c.args.digits c.doubled_entry-entry.result c.requires.some c.requires.eight c.requires.within c.doubled_entry-entry.ensures in
-    elim c.if-digits-most-eq0.branch [
-      | then-digits-most-eq0 w ↦ omega (arith, w.implied-is)
-      | else-digits-most-eq0 w ↦ omega (arith, w.implied-is, c.from.ensures, c.from-2.ensures, entry.two)
-    ]
+    search (rules, then-digits-most-eq0, else-digits-most-eq0)
 
 -- the bits are no more than the code has
 power : (c : goal.After-row_known-1) → 1 * 2 ^ (c.from.result - c.from-2.result - c.if-digits-most-eq0.implied) % 2 ^ 64 ≡ 2 ^ (c.from.result - c.from-2.result - c.if-digits-most-eq0.implied)
@@ -65,8 +57,7 @@ overflow_shl-result c =
 pub nonzero_rem-result : goal.nonzero_rem-result
 nonzero_rem-result c =
     let entry = run_of_entry c.args.most c.args.digits c.doubled_entry-entry.result c.requires.some c.requires.eight c.requires.within c.doubled_entry-entry.ensures in
-    let count = c.from.result - c.from-2.result - c.if-digits-most-eq0.implied in
-    omega (arith, one_shl count 64 (omega (arith, c.from.ensures, c.from-2.ensures, entry.len)), pow_pos count)
+    search (rules, one_shl, pow_pos)
 
 pub returns-clause-small : goal.returns-clause-small
 returns-clause-small c = rw (power c) (mod-lt (c.from-3.result - 1 * 2 ^ (c.from.result - c.from-2.result - 1) % 2 ^ 64) (pow_pos (c.from.result - c.from-2.result - c.if-digits-most-eq0.implied)))
@@ -77,11 +68,7 @@ returns-clause-bits c =
     let digits = c.args.digits in
     let entry = run_of_entry c.args.most digits e c.requires.some c.requires.eight c.requires.within c.doubled_entry-entry.ensures in
     let len : c.from.result - c.from-2.result ≡ run_len digits e = omega (arith, c.from.ensures, c.from-2.ensures) in
-    let last = last_bit digits e (c.from.result - c.from-2.result) len entry.len in
-    let bits : c.from-3.result - 1 * 2 ^ (c.from.result - c.from-2.result - 1) % 2 ^ 64 ≡ run_bits digits e = omega (arith, last, c.from-3.ensures) in
-    let count = c.from.result - c.from-2.result - c.if-digits-most-eq0.implied in
-    let all = c.from-3.result - 1 * 2 ^ (c.from.result - c.from-2.result - 1) % 2 ^ 64 in
-    ap (λ k. field count (all % k)) (power c) ∙ field-mod count all ∙ rw (bits, len, bits_less c) entry.bits
+    search (rules, last_bit, run_bits, power, field-mod, bits_less)
 
 pub returns-clause-len : goal.returns-clause-len
 returns-clause-len c =

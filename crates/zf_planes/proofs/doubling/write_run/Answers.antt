@@ -1,3 +1,4 @@
+use Rattle.std.proofs.Common.{rules}
 use Rattle.std.proofs.Common.{◌≡◌, ℕ, ◌-◌, ◌/◌, ◌%◌, ◌^◌, ◌<◌, Bool, List, ◌++◌, length, sym, ap, ◌∙◌, arith, append_assoc, length-append}
 use Rattle.zf_bits.specs.Writer.{Writer}
 use Rattle.zf_spec.specs.Numbers.{field}
@@ -5,22 +6,12 @@ use Rattle.zf_spec.specs.Planes.{code_from_run}
 use Rattle.zf_spec.proofs.Fields.{length-field}
 use Rattle.zf_planes.specs.Doubled.{doubled}
 use Rattle.zf_planes.specs.Writes.{Remains}
-use Rattle.zf_planes.proofs.Budgets.{Remains-start, Remains-same, Remains-fits, Remains-more}
+use Rattle.zf_planes.proofs.Budgets.{Remains-same, Remains-fits, Remains-more}
 use Rattle.zf_planes.proofs.Doubled.{run_goes_on}
 use Rattle.zf_planes.proofs.doubling.write_run.Goals as goal
 
 pub loop-digits-init : goal.loop-digits-init
-loop-digits-init c =
-    let prefix = c.args.part.now in
-    let run = code_from_run (field c.args.most c.args.digits) in
-    record {
-      remains = Remains-start c.args.out.now c.args.left (field prefix.len prefix.bits ++ run) (omega (arith, c.requires.fits, length-append (field prefix.len prefix.bits) run, length-field prefix.len prefix.bits));
-      some = c.requires.some;
-      in_word = c.requires.in_word;
-      within = c.requires.within;
-      few = c.requires.few;
-      small = c.requires.small;
-    }
+loop-digits-init c = search (rules, length-append, length-field)
 
 pub overflow_sub-most : goal.overflow_sub-most
 overflow_sub-most c = let run = run_goes_on c.loop-digits.most c.loop-digits.digits c.loop-digits-test.true c.loop-digits.invariant.within in omega (arith, run.more)
@@ -50,27 +41,11 @@ loop-digits-preserved-then-pending-gt40 c =
     let part = c.join-pending.result in
     let run = run_goes_on c.loop-digits.most c.loop-digits.digits c.loop-digits-test.true c.loop-digits.invariant.within in
     let written = Remains-more (field part.len part.bits) _ (joined_on c.loop-digits.most c.loop-digits.digits _ c.loop-digits.pending.bits _ c.double.result.bits _ c.join-pending.result.bits c.loop-digits-test.true c.loop-digits.invariant.within c.loop-digits.invariant.remains c.double.ensures.bits c.join-pending.ensures.bits) c.write_part-left.ensures.bits in
-    let spent : c.loop-digits.left - length (field part.len part.bits) ≡ c.write_part-left.result = omega (arith, length-field part.len part.bits, c.write_part-left.ensures.left) in
-    record {
-      remains = rw spent at written;
-      some = omega (arith, c.loop-digits-test.true);
-      in_word = omega (arith, c.loop-digits.invariant.in_word);
-      within = run.below;
-      few = omega arith;
-      small = omega arith;
-    }
+    let spent : c.loop-digits.left - length (field part.len part.bits) ≡ c.write_part-left.result = omega (arith, length-field part.len part.bits, c.write_part-left.ensures.left) in search rules
 
 pub loop-digits-preserved : goal.loop-digits-preserved
 loop-digits-preserved c =
-    let run = run_goes_on c.loop-digits.most c.loop-digits.digits c.loop-digits-test.true c.loop-digits.invariant.within in
-    record {
-      remains = joined_on c.loop-digits.most c.loop-digits.digits _ c.loop-digits.pending.bits _ c.double.result.bits _ c.join-pending.result.bits c.loop-digits-test.true c.loop-digits.invariant.within c.loop-digits.invariant.remains c.double.ensures.bits c.join-pending.ensures.bits;
-      some = omega (arith, c.loop-digits-test.true);
-      in_word = omega (arith, c.loop-digits.invariant.in_word);
-      within = run.below;
-      few = omega (arith, c.if-pending-gt40.false);
-      small = c.join-pending.ensures.small c.double.ensures.small;
-    }
+    let run = run_goes_on c.loop-digits.most c.loop-digits.digits c.loop-digits-test.true c.loop-digits.invariant.within in search (rules, joined_on)
 
 -- the rest of the run is in the last bits
 all_joined : {old now : Writer} {budget left : ℕ} {all : List Bool} (most digits k v l w j x : ℕ) → Remains old now budget left all (field k v ++ code_from_run (field most digits))
@@ -78,8 +53,4 @@ all_joined : {old now : Writer} {budget left : ℕ} {all : List Bool} (most digi
 all_joined most digits k v l w j x remains run joined = Remains-same remains (ap (λ (bs : List Bool). field k v ++ bs) (sym run) ∙ sym joined)
 
 pub returns : goal.returns
-returns c = record {
-  code = all_joined c.loop-digits.most c.loop-digits.digits _ c.loop-digits.pending.bits _ c.short_run.result.bits _ c.join.result.bits c.loop-digits.invariant.remains c.short_run.ensures.bits c.join.ensures.bits;
-  small = c.join.ensures.small c.short_run.ensures.small;
-  len = omega (arith, c.join.ensures.len, c.short_run.ensures.len, c.loop-digits.invariant.few);
-}
+returns c = search (rules, all_joined)

@@ -1,3 +1,4 @@
+use Rattle.std.proofs.Common.{rules}
 use Rattle.std.proofs.Common.{◌≡◌, ℕ, ◌+◌, ◌-◌, ◌*◌, ◌/◌, ◌%◌, ◌^◌, ◌<◌, ◌≤◌, min, Bool, true, List, [], ◌∷◌, ◌++◌, length, take, sym, ap, ◌∙◌, arith, append_assoc, length-append}
 use Rattle.std.proofs.lemmas.Nat.{one_shl}
 use Rattle.zf_spec.specs.Numbers.{field}
@@ -6,21 +7,17 @@ use Rattle.zf_spec.proofs.Fields.{length-field, field-mod}
 use Rattle.zf_bits.specs.Writer.{Writer, Appends}
 use Rattle.zf_bits.proofs.Appending.{Appends-same}
 use Rattle.zf_planes.specs.Writes.{Remains}
-use Rattle.zf_planes.proofs.Budgets.{Remains-but, Remains-whole, Remains-start, Remains-same, Remains-more}
+use Rattle.zf_planes.proofs.Budgets.{Remains-but, Remains-start, Remains-same, Remains-more}
 use Rattle.zf_planes.proofs.Doubled.{plane_with, rest_small}
 use Rattle.zf_planes.proofs.doubling.write_with.Goals as goal
 
 -- the first digits, a group bit and the run
 with_long : (size n v : ℕ) → n < size → 0 < v / 2 ^ n → v < 2 ^ size → length (plane_code n (field size v)) ≡ n + (1 + length (code_from_run (field (size - n) (v / 2 ^ n))))
-with_long size n v within some small =
-    let run = code_from_run (field (size - n) (v / 2 ^ n)) in
-    omega (arith, ap length (plane_with size n v (omega arith) some small), length-append (field n v) (true ∷ run), length-field n v)
+with_long size n v within some small = search (rules, plane_with, length-append, length-field)
 
 -- the digits below n of a word
 low_digits : (n v : ℕ) → n < 64 → field n (v % (1 * 2 ^ n % 2 ^ 64)) ≡ field n v
-low_digits n v small =
-    let power : 1 * 2 ^ n % 2 ^ 64 ≡ 2 ^ n = one_shl n 64 small in
-    ap (λ k. field n (v % k)) power ∙ field-mod n v
+low_digits n v small = search (rules, one_shl, field-mod)
 
 -- ---- all in one word
 
@@ -41,17 +38,7 @@ write_run-requires-clause-fits c =
     omega (arith, c.requires.fits, with_long c.args.size c.args.n c.args.digits c.requires.in_plane c.requires.some c.requires.digits, c.join.ensures.len, c.join-then-part-n-lt40.ensures.len)
 
 pub returns-then-part-n-lt40 : goal.returns-then-part-n-lt40
-returns-then-part-n-lt40 c =
-    let part = c.args.part.now in
-    let all = c.join-then-part-n-lt40.result in
-    record {
-      code =
-          Remains-whole c.write_run.ensures.code
-          (joined c.args.size c.args.n c.args.digits part.len part.bits c.join.result.len c.join.result.bits all.len all.bits
-          c.requires.in_plane c.requires.size c.requires.some c.requires.digits c.join.ensures.bits c.join-then-part-n-lt40.ensures.bits);
-      small = c.write_run.ensures.small;
-      len = c.write_run.ensures.len;
-    }
+returns-then-part-n-lt40 c = search (rules, joined)
 
 -- ---- one after another
 

@@ -1,9 +1,10 @@
+use Rattle.std.proofs.Common.{rules}
 use Rattle.std.proofs.Common.{◌≡◌, ℕ, ◌+◌, ◌-◌, ◌*◌, ◌≤◌, Bool, List, ◌++◌, length, take, drop, sym, ap, ◌∙◌, arith, length-drop, length-take}
 use Rattle.std.proofs.lemmas.List.{take-append-drop, drop-drop, take_all}
 use Rattle.zf_spec.specs.HeldPlanes.{digits_held}
 use Rattle.zf_spec.proofs.HeldPlanes.{length-digits_held}
 use Rattle.zf_bits.proofs.Appending.{Appends-same}
-use Rattle.zf_planes.proofs.Budgets.{Remains-start, Remains-same, Remains-more, Remains-end}
+use Rattle.zf_planes.proofs.Budgets.{Remains-same, Remains-more, Remains-end}
 use Rattle.zf_planes.proofs.Digits.{field_in_word}
 use Rattle.zf_planes.proofs.encoding.write_digits.Goals as goal
 
@@ -12,16 +13,7 @@ split_next : (at n : ℕ) (ds : List Bool) → drop at ds ≡ take n (drop at ds
 split_next at n ds = sym (ap (λ (xs : List Bool). take n (drop at ds) ++ xs) (sym (drop-drop n at ds)) ∙ take-append-drop n (drop at ds))
 
 pub loop-at-init : goal.loop-at-init
-loop-at-init g c =
-    let ws = g.P.Plane.words c.args.plane.now in
-    let ds = digits_held c.args.to ws in
-    let long = length-digits_held c.args.to ws (omega (arith, c.requires.words, g.met.P.Plane.long c.args.plane.now)) in
-    let none : c.args.left - (c.args.from - c.args.from) ≡ c.args.left = omega arith in
-    record {
-      remains = rw none (Remains-start c.args.out.now c.args.left (drop c.args.from ds) (omega (arith, c.requires.fits, long, length-drop c.args.from ds)));
-      from = omega arith;
-      within = omega arith;
-    }
+loop-at-init g c = search (rules, length-digits_held, length-drop)
 
 pub loop-at-preserved : goal.loop-at-preserved
 loop-at-preserved g c =
@@ -39,12 +31,7 @@ loop-at-preserved g c =
     let count : length more ≡ n = omega (arith, length-take n (drop at ds), length-drop at ds, long) in
     let appends = Appends-same c.write_reserved.ensures.bits (field ∙ sym (take_all left more (omega (arith, count, few)))) in
     let written = Remains-more more (drop (at + n) ds) (Remains-same c.loop-at.invariant.remains (split_next at n ds)) appends in
-    let spent : c.args.left - (at + n - c.args.from) ≡ left - length more = omega (arith, count, c.loop-at.invariant.from) in
-    record {
-      remains = rw spent written;
-      from = omega (arith, c.loop-at.invariant.from);
-      within = omega (arith, c.min-n.ensures, c.loop-at-test.true);
-    }
+    let spent : c.args.left - (at + n - c.args.from) ≡ left - length more = omega (arith, count, c.loop-at.invariant.from) in search rules
 
 pub returns-clause-bits : goal.returns-clause-bits
 returns-clause-bits g c =

@@ -1,3 +1,4 @@
+use Rattle.std.proofs.Common.{rules}
 use Rattle.std.proofs.Common.{◌≡◌, ℕ, List, ◌-◌, ◌*◌, ◌≤◌, ap, length, take, drop, sym, arith, length-append, length-take}
 use Rattle.zf_spec.specs.Planes.{tail}
 use Rattle.zf_spec.specs.HeldPlanes.{digits_held}
@@ -12,27 +13,10 @@ prefix_long : (size n k : ℕ) (ws : List ℕ) → size ≤ 64 * k → length ws
 prefix_long size n k ws words long within = omega (arith, length-take n (digits_held size ws), length-digits_held size ws (omega arith))
 
 pub write_digits-left-requires-clause-fits : goal.write_digits-left-requires-clause-fits
-write_digits-left-requires-clause-fits g c =
-    let n = c.args.n in
-    let ws = g.P.Plane.words c.args.plane.now in
-    let ds = digits_held c.args.size ws in
-    omega (arith, c.requires.fits, length-append (take n ds) (tail (drop n ds)), prefix_long c.args.size n _ ws c.requires.words (g.met.P.Plane.long c.args.plane.now) c.requires.in_plane)
+write_digits-left-requires-clause-fits g c = search (rules, length-append, prefix_long)
 
 pub write_tail-requires-clause-fits : goal.write_tail-requires-clause-fits
-write_tail-requires-clause-fits g c =
-    let n = c.args.n in
-    let ws = g.P.Plane.words c.args.plane.now in
-    let ds = digits_held c.args.size ws in
-    let first = Appends-same c.write_digits-left.ensures.bits (ap (take c.args.left) (held_prefix c.args.size n ws c.requires.in_plane)) in
-    omega (
-      arith,
-      c.requires.fits,
-      length-append (take n ds) (tail (drop n ds)),
-      prefix_long c.args.size n _ ws c.requires.words (g.met.P.Plane.long c.args.plane.now) c.requires.in_plane,
-      first.room,
-      length-take c.args.left (take n ds),
-      c.write_digits-left.ensures.left,
-    )
+write_tail-requires-clause-fits g c = search (rules, held_prefix, length-append, prefix_long, length-take)
 
 pub returns : goal.returns
 returns g c =
@@ -45,11 +29,5 @@ returns g c =
     let second = rw spent at c.write_tail.ensures.bits in
     record {
       bits = Appends-same (Appends-append first second) (sym (take_append c.args.left (take n ds) (tail (drop n ds))));
-      left = omega (
-        arith,
-        c.write_digits-left.ensures.left,
-        c.write_tail.ensures.left,
-        length-append (take n ds) (tail (drop n ds)),
-        prefix_long c.args.size n _ ws c.requires.words (g.met.P.Plane.long c.args.plane.now) c.requires.in_plane,
-      );
+      left = search (rules, length-append, prefix_long);
     }

@@ -1,3 +1,4 @@
+use Rattle.std.proofs.Common.{rules}
 use Rattle.std.proofs.Common.{◌≡◌, ℕ, ◌+◌, ◌-◌, ◌*◌, ◌<◌, ◌≤◌, ◌⊎◌, ⊎_elim, min, max, Bool, false, List, [], ◌++◌, length, map, take, drop, get_or, replicate, refl, sym, ap, ◌∙◌, arith}
 use Rattle.std.proofs.lemmas.List.{append-nil, drop_all, length-map, take-take, take-append-drop, length-replicate}
 use Rattle.zf_spec.specs.Planes.{code, code_from, plane_code, reach}
@@ -40,11 +41,7 @@ remains_all out words count budget prec size k planes long enough in_planes room
     zeros_first k = ⊎_elim (λ (none : k ≡ 0). rw none refl) (λ (size_some : 0 < size). zero_code k size (drop k (take prec (planes_held size (map words planes)))) size_some)
 
 pub write_reserved-requires-clause-fits : goal.write_reserved-requires-clause-fits
-write_reserved-requires-clause-fits g c =
-    let k = c.args.zeros in
-    let zeros = c.requires in
-    let remains = remains_all c.args.out.now g.P.Plane.words _ c.args.budget c.args.prec c.args.size k c.args.planes.now g.met.P.Plane.long c.requires.words c.requires.planes c.requires.fits zeros.some zeros.within zeros.zeros in
-    omega (arith, Remains-fits (replicate k false) _ remains, length-replicate k false, c.min-count.ensures, c.from.ensures)
+write_reserved-requires-clause-fits g c = grind (arith, remains_all, length-replicate)
 
 -- behind the zeros of the first k planes the code of the others remains
 zeros_written : {A : Type 0} {new : Writer} (out : Writer) (words : A → List ℕ) (count budget prec size k bits : ℕ) (planes : List A) → ((plane : A) → length (words plane) ≡ count) → size ≤ 64 * count → prec ≤ length planes
@@ -110,23 +107,11 @@ loop-i-preserved g c =
     let next = next_plane g.P.Plane.words c.loop-i.above c.args.prec c.args.size c.loop-i.i c.args.planes.now c.index-planes-planes.result c.loop-i.invariant.remains c.index-planes-planes.is c.loop-i-test.true c.requires.planes in
     let written = Remains-more (plane_code c.loop-i.above ds) (code_from (max c.loop-i.above (reach ds)) rest) next c.write_plane-left.ensures.bits in
     let reached : max c.loop-i.above (reach ds) ≡ c.max-above.result = omega (arith, c.reach_in-end.ensures.value, c.max-above.ensures) in
-    let spent = rw (← c.write_plane-left.ensures.left) at written in
-    record {
-      remains = Remains-same spent (ap (λ n. code_from n rest) reached);
-      above = omega (arith, c.loop-i.invariant.above, c.reach_in-end.ensures.bound, c.max-above.ensures);
-    }
+    let spent = rw (← c.write_plane-left.ensures.left) at written in search rules
 
 -- no bit or no plane is left
 none_left : (g : Over) (c : goal.Left-loop-i g) → min c.loop-i.left (length (code_from c.loop-i.above (drop c.loop-i.i (take c.args.prec (planes_held c.args.size (map g.P.Plane.words c.args.planes.now)))))) ≡ 0
-none_left g c = elim c.loop-i-test.branch [
-  | then-loop-i-test+else-left-gt0 w ↦ omega (arith, w.if-left-gt0.false)
-  | else-loop-i-test w ↦
-      let planes = map g.P.Plane.words c.args.planes.now in
-      let long = length-map c.args.planes.now g.P.Plane.words in
-      let top = take c.args.prec (planes_held c.args.size planes) in
-      let none = ap (λ (ps : List (List Bool)). length (code_from c.loop-i.above ps)) (drop_all c.loop-i.i top (omega (arith, length-top_held c.args.prec c.args.size planes (omega (arith, c.requires.planes)), w.loop-i-test.false))) in
-      omega (arith, none)
-]
+none_left g c = search (rules, then-loop-i-test+else-left-gt0, else-loop-i-test, length-map, drop_all, length-top_held)
 
 pub returns-clause-bits : goal.returns-clause-bits
 returns-clause-bits g c = Remains-end c.loop-i.invariant.remains (none_left g c)

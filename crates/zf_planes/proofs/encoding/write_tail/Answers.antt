@@ -1,3 +1,4 @@
+use Rattle.std.proofs.Common.{rules}
 use Rattle.std.proofs.Common.{◌≡◌, ℕ, zero, suc, ◌+◌, ◌-◌, ◌*◌, ◌/◌, ◌%◌, ◌^◌, ◌<◌, ◌≤◌, min, Bool, true, false, List, [], ◌∷◌, ◌++◌, length, take, drop, replicate, get_or, refl, sym, ap, ◌∙◌, arith}
 use Rattle.std.specs.Int.{w64, trailing_zeros}
 use Rattle.std.specs.Int.Count.{trailing_of_zero}
@@ -29,14 +30,10 @@ room_for_bit : {old now : Writer} {budget left : ℕ} {whole : List Bool} (ds : 
 room_for_bit ds n remains below some = omega (arith, remains.fits, tail_some (drop n ds) (omega (arith, length-drop n ds)))
 
 pub write_bit_reserved-requires : goal.write_bit_reserved-requires
-write_bit_reserved-requires g c =
-    let ds = digits_held c.args.size (g.P.Plane.words c.args.plane.now) in
-    room_for_bit ds c.loop-n.n c.loop-n.invariant.remains (omega (arith, held_long g c.args.plane.now c.args.size c.requires.words, c.loop-n-test.true)) c.if-left-gt0.true
+write_bit_reserved-requires g c = search (rules, room_for_bit, held_long)
 
 pub write_bit_reserved-requires-else-zeros-lt63 : goal.write_bit_reserved-requires-else-zeros-lt63
-write_bit_reserved-requires-else-zeros-lt63 g c =
-    let ds = digits_held c.args.size (g.P.Plane.words c.args.plane.now) in
-    room_for_bit ds c.loop-n.n c.loop-n.invariant.remains (omega (arith, held_long g c.args.plane.now c.args.size c.requires.words, c.loop-n-test.true)) c.if-left-gt0.true
+write_bit_reserved-requires-else-zeros-lt63 g c = search (rules, room_for_bit, held_long)
 
 -- behind one of zero nothing comes
 at_end : {old now new : Writer} {budget left : ℕ} {whole : List Bool} (ds : List Bool) (n : ℕ) → Remains old now budget left whole (tail (drop n ds)) → n < length ds → 0 < left → reach ds ≤ n → Appends now new (false ∷ [])
@@ -108,9 +105,7 @@ group_written {old} {now} {new} {budget} {left} {whole} size n j ds remains long
     rw (← count) (Remains-more (true ∷ take (m - n) (drop n ds)) (tail (drop (n + j + 1) ds)) next written)
 
 pub write_group-left-requires-clause-fits : goal.write_group-left-requires-clause-fits
-write_group-left-requires-clause-fits g c =
-    let ds = digits_held c.args.size (g.P.Plane.words c.args.plane.now) in
-    group_fits c.args.size c.loop-n.n _ ds c.loop-n.invariant.remains (held_long g c.args.plane.now c.args.size c.requires.words) (run_here g c)
+write_group-left-requires-clause-fits g c = search (rules, group_fits, held_long, run_here)
 
 pub loop-n-preserved-then-zeros-lt63 : goal.loop-n-preserved-then-zeros-lt63
 loop-n-preserved-then-zeros-lt63 g c =
@@ -122,11 +117,7 @@ loop-n-preserved-then-zeros-lt63 g c =
     let one = has_one-drop n ds (omega (arith, c.requires.end, c.if-n-end.false)) in
     let run = run_in_word c.args.size n c.word.result ws c.word.ensures (omega (arith, c.requires.words, g.met.P.Plane.long c.args.plane.now)) (omega (arith, c.word.type_inv)) one c.if-zeros-lt63.true in
     let written = group_written c.args.size n z ds c.loop-n.invariant.remains long run c.write_group-left.ensures.bits in
-    let place : n + z + 1 ≡ n + (z + 1) = omega arith in
-    record {
-      remains = rw c.write_group-left.ensures.left (rw place at written);
-      within = omega (arith, run.within, long);
-    }
+    let place : n + z + 1 ≡ n + (z + 1) = omega arith in search rules
 
 -- ---- the run is written by parts
 
@@ -163,11 +154,7 @@ loop-n-preserved g c =
     let part = Appends-same c.write_digits-left.ensures.bits (ap (take (c.loop-n.left - 1)) (held_part c.args.size n m ws (omega (arith, c.min.ensures, c.loop-n-test.true)) (omega (arith, c.min.ensures)))) in
     let written = Remains-more (take (m - n) (drop n ds)) (tail (drop (n + j + 1) ds)) next part in
     let count : length (take (m - n) (drop n ds)) ≡ m - n = omega (arith, all, length-take (m - n) (drop n ds), length-drop n ds, c.min.ensures) in
-    let spent : c.write_digits-left.result ≡ c.loop-n.left - 1 - length (take (m - n) (drop n ds)) = omega (arith, count, c.write_digits-left.ensures.left) in
-    record {
-      remains = rw spent written;
-      within = omega (arith, c.zeros_from.ensures.bound);
-    }
+    let spent : c.write_digits-left.result ≡ c.loop-n.left - 1 - length (take (m - n) (drop n ds)) = omega (arith, count, c.write_digits-left.ensures.left) in search rules
 
 -- ---- no bit or no rank is left
 

@@ -1,4 +1,5 @@
-use Rattle.std.proofs.Common.{◌∙◌, arith}
+use Rattle.std.proofs.Common.{rules}
+use Rattle.std.proofs.Common.{arith}
 use Rattle.zf_planes.proofs.Lanes.{lanes_put}
 use Rattle.zf_planes.proofs.four_reading.add.Goals as goal
 
@@ -13,10 +14,7 @@ put_down-requires-clause-gathered c =
     (lanes_put digits.words digits.done digits.lanes digits.held c.args.some.lanes c.args.some.count (omega arith) (omega arith) c.requires.gathered c.requires.below (omega (arith, c.requires.held, c.requires.few))).1
 
 pub returns-then-more-gt12-clause-planes : goal.returns-then-more-gt12-clause-planes
-returns-then-more-gt12-clause-planes c =
-    let digits = c.args.digits in
-    c.put_down.ensures.planes
-    ∙ (lanes_put digits.words digits.done digits.lanes digits.held c.args.some.lanes c.args.some.count (omega arith) (omega arith) c.requires.gathered c.requires.below (omega (arith, c.requires.held, c.requires.few))).2
+returns-then-more-gt12-clause-planes c = search (rules, lanes_put)
 
 pub returns-else-more-gt12-clause-gathered : goal.returns-else-more-gt12-clause-gathered
 returns-else-more-gt12-clause-gathered c =
@@ -24,6 +22,4 @@ returns-else-more-gt12-clause-gathered c =
     (lanes_put digits.words digits.done digits.lanes digits.held c.args.some.lanes c.args.some.count (omega arith) (omega arith) c.requires.gathered c.requires.below (omega (arith, c.requires.held, c.requires.few))).1
 
 pub returns-else-more-gt12-clause-planes : goal.returns-else-more-gt12-clause-planes
-returns-else-more-gt12-clause-planes c =
-    let digits = c.args.digits in
-    (lanes_put digits.words digits.done digits.lanes digits.held c.args.some.lanes c.args.some.count (omega arith) (omega arith) c.requires.gathered c.requires.below (omega (arith, c.requires.held, c.requires.few))).2
+returns-else-more-gt12-clause-planes c = search (rules, lanes_put)

@@ -1,4 +1,5 @@
-use Rattle.std.proofs.Common.{◌≡◌, ℕ, ◌+◌, ◌-◌, ◌≤◌, Bool, true, false, List, ◌++◌, replicate, refl, sym, ap, ◌∙◌, arith}
+use Rattle.std.proofs.Common.{rules}
+use Rattle.std.proofs.Common.{◌≡◌, ℕ, ◌+◌, ◌-◌, ◌≤◌, Bool, true, false, List, ◌++◌, replicate, ◌∙◌, arith}
 use Rattle.std.proofs.lemmas.List.{append_assoc, replicate-append-replicate}
 use Rattle.zf_spec.specs.Kept.{kept_planes}
 use Rattle.zf_bits.specs.Reader.{rest}
@@ -27,13 +28,7 @@ returns-clause-count c = omega (arith, (spent_on _ _ c.args.prec 4 _ c.in_ok-rea
 -- the planes that were read, and zeros down to the last one
 with_zeros : (prefix planes whole : List (List Bool)) (n prec width : ℕ) → n ≤ prec → prec ≤ width → planes ≡ prefix ++ replicate (prec - n) (replicate 4 false) → planes ≡ whole
     → prefix ++ replicate (width - n) (replicate 4 false) ≡ whole ++ replicate (width - prec) (replicate 4 false)
-with_zeros prefix planes whole n prec width within room is same =
-    let zeros = replicate 4 false in
-    let parts : width - n ≡ prec - n + (width - prec) = omega arith in
-    ap (λ k. prefix ++ replicate k zeros) parts
-    ∙ ap (λ (ps : List (List Bool)). prefix ++ ps) (sym (replicate-append-replicate (prec - n) (width - prec) zeros))
-    ∙ sym (append_assoc prefix (replicate (prec - n) zeros) (replicate (width - prec) zeros))
-    ∙ ap (λ (ps : List (List Bool)). ps ++ replicate (width - prec) zeros) (sym is ∙ same)
+with_zeros prefix planes whole n prec width within room is same = search (rules, replicate-append-replicate, append_assoc)
 
 pub returns-clause-digits : goal.returns-clause-digits
 returns-clause-digits c =
@@ -50,6 +45,4 @@ returns-clause-below c = each_below c.args.width c.digits_of.result c.digits_of.
 -- ---- the bits are not there
 
 pub returns-in_err-read-clause-short : goal.returns-in_err-read-clause-short
-returns-in_err-read-clause-short c =
-    let few = c.in_err-read.ensures.short in
-    (λ _. omega (arith, few, bits_are c.args.budget c.args.prec 4 (rest c.args.reader.now)), λ less. rw c.from_residual.ensures refl)
+returns-in_err-read-clause-short c = search (rules, bits_are)

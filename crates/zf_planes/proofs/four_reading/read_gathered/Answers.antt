@@ -1,11 +1,12 @@
-use Rattle.std.proofs.Common.{◌≡◌, ℕ, ◌+◌, ◌-◌, ◌⊎◌, inl, inr, Bool, false, List, [], ◌∷◌, ◌++◌, replicate, refl, sym, ap, subst, ◌∙◌, arith}
+use Rattle.std.proofs.Common.{rules}
+use Rattle.std.proofs.Common.{◌≡◌, ℕ, ◌+◌, ◌-◌, ◌⊎◌, inl, inr, false, List, [], ◌∷◌, ◌++◌, replicate, refl, subst, ◌∙◌, arith}
 use Rattle.zf_bits.specs.Reader.{Reader, rest}
 use Rattle.zf_planes.specs.Decoding.{planes_ahead, planes_bits, IsSpent}
 use Rattle.zf_planes.specs.Lanes.{gathered, ReadsPlanes}
 use Rattle.zf_planes.proofs.Lanes.{gathered_words, low_planes-zeros, four_below, no_lanes_below}
 use Rattle.zf_planes.proofs.LanesAhead.{FoursRead, FoursRead-more, gathered-more}
 use Rattle.zf_planes.proofs.LastRank.{three_through}
-use Rattle.zf_planes.proofs.Passing.{Passes-start, Passes-part, Passes-end, Passes-lacks, if_none}
+use Rattle.zf_planes.proofs.Passing.{Passes-lacks, if_none}
 use Rattle.zf_planes.proofs.PlanesAhead.{planes_over, zero_planes}
 use Rattle.zf_planes.proofs.four_reading.read_gathered.Goals as goal
 
@@ -24,15 +25,7 @@ loop-digits-init c =
     let first = rw (← spent) at (zero_planes k c.args.budget c.args.prec 4 (rest c.args.reader.now) behind (omega arith) (omega (arith, taken.spent)) passed.ensures.within (rw c.new-cursor.ensures.reader at passed.ensures.zeros)) in
     let all : k + 0 ≡ k = omega arith in
     let held : gathered words k 0 0 ≡ replicate k zeros = gathered_words words k 0 0 refl ∙ low_planes-zeros k in
-    let before : FoursRead c.args.reader.now passed.new.self.reader c.args.budget after c.args.prec 0 words k 0 0 =
-    record {
-      passes = rw all (Passes-part _ (Passes-start c.args.reader.now c.args.budget _) first.0 taken);
-      put = record { four = refl; prefix = four_below k; back = no_lanes_below 0 4 };
-      planes = rw all (first.1 ∙ ap (λ (ps : List (List Bool)). ps ++ planes_ahead after (c.args.prec - k) 4 0 behind) (sym held));
-      within = omega (arith, passed.ensures.within);
-      few = omega arith;
-      high = omega arith;
-    } in
+    let before : FoursRead c.args.reader.now passed.new.self.reader c.args.budget after c.args.prec 0 words k 0 0 = search (rules, four_below, no_lanes_below) in
     let lone = c.read_lone-lone in
     let most : c.args.prec - k ≡ c.args.prec - (k + 0) = omega arith in
     let Read : ℕ → Type 0 = λ m. ReadsPlanes m 0 passed.new.self.reader lone.new.cursor.reader after lone.new.cursor.left lone.result.count lone.result.lanes lone.result.len lone.result.above in
@@ -85,10 +78,7 @@ loop-digits-preserved c = record { read = c.loop-cursor.invariant.read }
 over : {start now : Reader} {budget left prec above : ℕ} {words : List ℕ} {done lanes held : ℕ} → FoursRead start now budget left prec above words done lanes held → (left ≡ 0) ⊎ (prec - (done + held) ≡ 0)
     → IsSpent budget left (planes_bits budget prec 4 0 (rest start)) (rest start)
     × (planes_ahead budget prec 4 0 (rest start) ≡ gathered words done lanes held ++ replicate (prec - (done + held)) (replicate 4 false))
-over {start} {now} {budget} {left} {prec} {above} {words} {done} {lanes} {held} read none =
-    let none_left = planes_over left (prec - (done + held)) 4 above (rest now) (omega arith) read.high none in
-    let taken = Passes-end read.passes none_left.0 in
-    (record { enough = taken.enough; spent = taken.spent }, read.planes ∙ ap (λ (ps : List (List Bool)). gathered words done lanes held ++ ps) none_left.1)
+over {start} {now} {budget} {left} {prec} {above} {words} {done} {lanes} {held} read none = search (rules, planes_over)
 
 pub returns-else-cursor-gt0-clause-read : goal.returns-else-cursor-gt0-clause-read
 returns-else-cursor-gt0-clause-read c =

@@ -1,15 +1,11 @@
-use Rattle.std.proofs.Common.{sym, subst}
-use Rattle.zf_bits.specs.Reader.{rest}
-use Rattle.zf_planes.specs.Decoding.{Lacks}
+use Rattle.std.proofs.Common.{rules}
 use Rattle.std.proofs.lemmas.Option.{IfSome_then}
 use Rattle.zf_planes.proofs.Passing.{on_none}
 use Rattle.zf_planes.proofs.LastRank.{ahead_of_three, three_for_four}
 use Rattle.zf_planes.proofs.four_reading.read_next.Goals as goal
 
 pub returns-else-n-lt3-clause-short : goal.returns-else-n-lt3-clause-short
-returns-else-n-lt3-clause-short c =
-    let same = ahead_of_three c.args.cursor.now.left c.args.most c.args.n (rest c.args.cursor.now.reader) c.if-n-lt3.false c.requires.in_plane in
-    on_none c.read_verbatim.result c.read_verbatim.ensures.short (λ lacks. subst (Lacks c.args.cursor.now.reader c.read_verbatim.new.cursor.reader) (sym same.0) lacks)
+returns-else-n-lt3-clause-short c = search (rules, ahead_of_three, on_none)
 
 pub returns-else-n-lt3-clause-read : goal.returns-else-n-lt3-clause-read
 returns-else-n-lt3-clause-read c =

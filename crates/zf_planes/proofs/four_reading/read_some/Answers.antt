@@ -1,8 +1,8 @@
-use Rattle.std.proofs.Common.{◌≡◌, ℕ, suc, ◌-◌, ◌≤◌, sym, subst, arith}
+use Rattle.std.proofs.Common.{rules}
+use Rattle.std.proofs.Common.{◌≡◌, ℕ, suc, ◌-◌, sym, subst, arith}
 use Rattle.zf_bits.specs.Reader.{rest}
-use Rattle.zf_planes.specs.Decoding.{plane_bits, planes_bits}
 use Rattle.zf_planes.specs.Lanes.{ReadsSome}
-use Rattle.zf_planes.proofs.Passing.{Passes-start, Passes-lacks, if_none}
+use Rattle.zf_planes.proofs.Passing.{if_none}
 use Rattle.zf_planes.proofs.PlanesAhead.{plane_bits-le}
 use Rattle.zf_planes.proofs.LanesAhead.{SomeRead, at_end, in_sight, one_read, reach_of_one}
 use Rattle.zf_planes.proofs.four_reading.read_some.Goals as goal
@@ -54,11 +54,7 @@ pub returns-in_err-one-clause-short : goal.returns-in_err-one-clause-short
 returns-in_err-one-clause-short c =
     let left = c.args.cursor.now.left in
     let s = rest c.args.cursor.now.reader in
-    let planes : c.args.most ≡ suc (c.args.most - 1) = omega (arith, c.requires.some) in
-    let Part : ℕ → Type 0 = λ p. plane_bits left 4 c.args.n s ≤ planes_bits left p 4 c.args.n s in
-    let part = subst Part (sym planes) (plane_bits-le left (c.args.most - 1) 4 c.args.n s) in
-    let short = rw (c.look_on.ensures.left, c.look_on.ensures.reader) at c.in_err-one.ensures.short in
-    if_none _ (Passes-lacks (Passes-start c.args.cursor.now.reader left (planes_bits left c.args.most 4 c.args.n s)) short part)
+    let planes : c.args.most ≡ suc (c.args.most - 1) = omega (arith, c.requires.some) in search (rules, plane_bits-le, if_none)
 
 one-read : (c : goal.In_ok-one)
     → SomeRead c.look_on.new.self.reader c.read_one.new.cursor.reader c.look_on.new.self.left c.read_one.new.cursor.left c.args.most c.args.n 1 c.in_ok-one.one.lanes c.in_ok-one.one.len c.in_ok-one.one.above

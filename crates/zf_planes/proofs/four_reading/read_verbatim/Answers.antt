@@ -1,17 +1,13 @@
+use Rattle.std.proofs.Common.{rules}
 use Rattle.std.proofs.Common.{arith}
-use Rattle.zf_bits.specs.Reader.{rest}
-use Rattle.zf_planes.specs.Decoding.{planes_bits}
 use Rattle.zf_planes.specs.Fours.{string_planes}
-use Rattle.zf_planes.proofs.Passing.{Passes-start, Passes-lacks, if_none}
+use Rattle.zf_planes.proofs.Passing.{if_none}
 use Rattle.zf_planes.proofs.LastRank.{own_bits}
 use Rattle.zf_planes.proofs.LanesAhead.{word_read}
 use Rattle.zf_planes.proofs.four_reading.read_verbatim.Goals as goal
 
 pub returns-in_err-digits-clause-short : goal.returns-in_err-digits-clause-short
-returns-in_err-digits-clause-short c =
-    let left = c.args.cursor.now.left in
-    let s = rest c.args.cursor.now.reader in
-    if_none _ (Passes-lacks (Passes-start c.args.cursor.now.reader left (planes_bits left c.args.most 4 4 s)) c.in_err-digits.ensures.short (omega (arith, own_bits left c.args.most s, c.min-len.ensures, c.requires.some)))
+returns-in_err-digits-clause-short c = search (rules, if_none, own_bits)
 
 pub returns-then-most-lt4-clause-read : goal.returns-then-most-lt4-clause-read
 unfolding string_planes
@@ -20,10 +16,7 @@ returns-then-most-lt4-clause-read c =
     word_read c.args.most 1 c.lanes_of_4.result read.digits c.min-len.result (omega arith) (omega arith) c.requires.some c.min-len.ensures read.ensures.digits (omega arith) c.lanes_of_4.ensures.digits c.lanes_of_4.ensures.below read.ensures.taken
 
 pub returns-in_err-digits-2-clause-short : goal.returns-in_err-digits-2-clause-short
-returns-in_err-digits-2-clause-short c =
-    let left = c.args.cursor.now.left in
-    let s = rest c.args.cursor.now.reader in
-    if_none _ (Passes-lacks (Passes-start c.args.cursor.now.reader left (planes_bits left c.args.most 4 4 s)) c.in_err-digits-2.ensures.short (omega (arith, own_bits left c.args.most s, c.min-len-2.ensures, c.if-most-lt4.false)))
+returns-in_err-digits-2-clause-short c = search (rules, if_none, own_bits)
 
 pub returns-clause-read : goal.returns-clause-read
 returns-clause-read c =

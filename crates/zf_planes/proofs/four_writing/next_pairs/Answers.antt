@@ -1,3 +1,4 @@
+use Rattle.std.proofs.Common.{rules}
 use Rattle.std.proofs.Common.{arith}
 use Rattle.zf_spec.specs.Numbers.{field}
 use Rattle.zf_planes.specs.Fours.{string_planes}
@@ -13,15 +14,7 @@ loop-above-preserved c =
     let prefix : GoesOn c.args.above (string_planes c.args.planes.now c.args.string.now) (field part.len part.bits) above (string_planes c.loop-above.k c.loop-above.rest) =
     record { code = c.loop-above.invariant.bits; reached = c.loop-above.invariant.reached } in
     let back = pair_of_string above c.loop-above.k c.loop-above.rest pair.result.above (field pair.result.part.len pair.result.part.bits) (omega (arith, c.if-k-gt1.true)) pair.ensures.bits pair.ensures.above in
-    let both = GoesOn-more (field joined.result.len joined.result.bits) prefix back joined.ensures.bits in
-    record {
-      within = omega (arith, c.loop-above.invariant.within);
-      len = omega (arith, pair.ensures.len, joined.ensures.len, c.if-part-le50.true);
-      small = joined.ensures.small pair.ensures.small;
-      above = c.code_of_two-pair.result.within;
-      bits = both.code;
-      reached = both.reached;
-    }
+    let both = GoesOn-more (field joined.result.len joined.result.bits) prefix back joined.ensures.bits in search rules
 
 pub returns-clause-rest : goal.returns-clause-rest
 returns-clause-rest c = record { bits = c.loop-above.invariant.bits; reached = c.loop-above.invariant.reached; len = c.loop-above.invariant.len }

@@ -1,3 +1,4 @@
+use Rattle.std.proofs.Common.{rules}
 use Rattle.std.proofs.Common.{◌≡◌, ℕ, ◌-◌, ◌*◌, ◌≤◌, Bool, List, [], ◌++◌, length, sym, ap, ◌∙◌, arith, append-nil}
 use Rattle.zf_spec.specs.Numbers.{field}
 use Rattle.zf_spec.specs.Planes.{code_from}
@@ -33,13 +34,7 @@ loop-planes-preserved c =
     let part = code.part in
     let on = next_of_string c.loop-planes.above c.loop-planes.planes c.loop-planes.string code.above (field part.len part.bits) (omega (arith, c.loop-planes-test.true)) c.code_of_4-code.ensures.bits c.code_of_4-code.ensures.above in
     let written = Remains-more (field part.len part.bits) _ (Remains-same c.loop-planes.invariant.remains on.code) c.write_part-left.ensures.bits in
-    let spent : c.loop-planes.left - length (field part.len part.bits) ≡ c.write_part-left.result = omega (arith, length-field part.len part.bits, c.write_part-left.ensures.left) in
-    record {
-      remains = rw spent at written;
-      reached = c.loop-planes.invariant.reached ∙ on.reached;
-      above = c.code_of_4-code.result.within;
-      few = omega (arith, c.loop-planes.invariant.few);
-    }
+    let spent : c.loop-planes.left - length (field part.len part.bits) ≡ c.write_part-left.result = omega (arith, length-field part.len part.bits, c.write_part-left.ensures.left) in search rules
 
 -- ---- the digits of the planes that are left
 

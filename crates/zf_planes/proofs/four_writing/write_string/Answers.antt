@@ -1,3 +1,4 @@
+use Rattle.std.proofs.Common.{rules}
 use Rattle.std.proofs.Common.{◌≡◌, ℕ, ◌-◌, ◌≤◌, min, Bool, List, ◌++◌, take, [], length, sym, arith, append-nil}
 use Rattle.zf_spec.specs.Numbers.{field}
 use Rattle.zf_spec.specs.Planes.{code_from}
@@ -25,12 +26,7 @@ behind_pairs out left after above n len bits planes rest room split written is =
 pub returns-then-left-eq0 : goal.returns-then-left-eq0
 returns-then-left-eq0 c =
     let behind = (behind_pairs c.args.out.now c.args.left c.write_part-left.result c.args.above.now c.next_pairs-pairs.result.above c.next_pairs-pairs.result.part.len c.next_pairs-pairs.result.part.bits (string_planes c.args.planes c.args.string) (string_planes c.next_pairs-pairs.new.planes c.next_pairs-pairs.new.string) c.requires.fits c.next_pairs-pairs.ensures.rest.bits c.write_part-left.ensures.bits c.write_part-left.ensures.left) in
-    record {
-      bits = Remains-end behind (omega (arith, c.if-left-eq0.true));
-      left_over = omega (arith, behind.spent, c.if-left-eq0.true);
-      within = c.next_pairs-pairs.result.within;
-      reached = λ some. absurd (omega arith);
-    }
+    search rules
 
 pub write_rest-requires-clause-fits : goal.write_rest-requires-clause-fits
 write_rest-requires-clause-fits c = (behind_pairs c.args.out.now c.args.left c.write_part-left.result c.args.above.now c.next_pairs-pairs.result.above c.next_pairs-pairs.result.part.len c.next_pairs-pairs.result.part.bits (string_planes c.args.planes c.args.string)

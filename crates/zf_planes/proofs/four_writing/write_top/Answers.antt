@@ -1,3 +1,4 @@
+use Rattle.std.proofs.Common.{rules}
 use Rattle.std.proofs.Common.{◌≡◌, ℕ, ◌-◌, ◌<◌, ◌≤◌, min, max, Bool, true, List, ◌∷◌, ◌++◌, length, map, get_or, sym, ap, ◌∙◌, arith}
 use Rattle.zf_spec.specs.Numbers.{field}
 use Rattle.zf_spec.specs.Grid.{upto}
@@ -45,17 +46,9 @@ loop-planes-init c =
           let remains = alone c.args.out.now c.args.left c.args.planes lone.result c.args.words part.len part.bits c.requires.planes c.requires.fits w.if-lone-gt0.true lone.ensures.most (lone.ensures.first w.if-lone-gt0.true) lone.ensures.lone w.code_of_lone.ensures.bits in
           let spent : c.args.left - length (field part.len part.bits) ≡ w.write_part-left.result = omega (arith, length-field part.len part.bits, w.write_part-left.ensures.left) in
           let written = rw spent at (Remains-more (field part.len part.bits) _ remains w.write_part-left.ensures.bits) in
-          rw (w.out-is, w.left-is, w.planes-is, w.words-is, w.above-is) (record {
-            remains = rw (← w.below_top-words.ensures) at written;
-            above = omega arith;
-            few = omega (arith, c.requires.planes);
-          })
+          rw (w.out-is, w.left-is, w.planes-is, w.words-is, w.above-is) (search rules)
       | else-lone-gt0 w ↦
-          rw (w.out-is, w.left-is, w.planes-is, w.words-is, w.above-is) (record {
-            remains = Remains-start c.args.out.now c.args.left _ c.requires.fits;
-            above = omega arith;
-            few = c.requires.planes;
-          })
+          rw (w.out-is, w.left-is, w.planes-is, w.words-is, w.above-is) (search rules)
     ]
 
 -- ---- the strings
@@ -89,6 +82,4 @@ returns-after-loop-planes-clause-bits c =
     Remains-end c.loop-planes.invariant.remains (omega (arith, none))
 
 pub returns-after-loop-planes-clause-left : goal.returns-after-loop-planes-clause-left
-returns-after-loop-planes-clause-left c =
-    let none = ap (λ (ps : List (List Bool)). length (code_from c.loop-planes.above ps)) (no_top_planes c.loop-planes.planes c.loop-planes.words c.loop-planes-test.false) in
-    omega (arith, c.loop-planes.invariant.remains.spent, none)
+returns-after-loop-planes-clause-left c = search (rules, no_top_planes)

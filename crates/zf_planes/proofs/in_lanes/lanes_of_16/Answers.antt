@@ -1,3 +1,4 @@
+use Rattle.std.proofs.Common.{rules}
 use Rattle.std.proofs.Common.{◌≡◌, ℕ, ◌+◌, ◌*◌, ◌/◌, ◌%◌, ◌^◌, ◌<◌, refl, ◌∙◌, arith}
 use Rattle.zf_spec.proofs.Fields.{field-mod}
 use Rattle.zf_planes.specs.Fours.{string_planes}
@@ -54,7 +55,4 @@ returns-clause-digits c =
     ) refl)
 
 pub returns-clause-below : goal.returns-clause-below
-returns-clause-below c =
-    let first = two c.lanes_of_4-one.result c.lanes_of_4.result (omega arith) (omega arith) c.lanes_of_4-one.ensures.below c.lanes_of_4.ensures.below in
-    let second = three c.lanes_of_4-one.result c.lanes_of_4.result c.lanes_of_4-2.result (omega arith) c.lanes_of_4-2.ensures.below first in
-    (four _ c.lanes_of_4-2.result c.lanes_of_4-3.result (omega arith) c.lanes_of_4-3.ensures.below second).below
+returns-clause-below c = search (rules, two, three, four)

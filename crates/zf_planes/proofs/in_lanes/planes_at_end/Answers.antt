@@ -1,11 +1,10 @@
-use Rattle.std.proofs.Common.{◌≡◌, ℕ, ◌+◌, ◌*◌, ◌/◌, ◌%◌, ◌^◌, ◌<◌, ◌≤◌, min, Bool, false, cond, ltb, List, get_or, sym, ap, ◌∙◌, arith}
+use Rattle.std.proofs.Common.{rules}
+use Rattle.std.proofs.Common.{◌≡◌, ℕ, ◌*◌, ◌/◌, ◌%◌, ◌^◌, ◌<◌, ◌≤◌, min, cond, sym, ap, ◌∙◌, arith}
 use Rattle.std.proofs.Math.Nat.{mod-lt}
 use Rattle.std.proofs.lemmas.Nat.{one_shl, pow_pos}
 use Rattle.std.proofs.lemmas.Bool.{lt-ltb}
 use Rattle.std.proofs.lemmas.Bool.Decides.{nat_tests}
 use Rattle.zf_spec.proofs.Fields.{field-mod}
-use Rattle.zf_planes.specs.Decoding.{planes_ahead, planes_bits}
-use Rattle.zf_planes.specs.declared.entries.TheConstants.{LANES}
 use Rattle.zf_planes.specs.Lanes.{lanes_apart, AreAtEnd}
 use Rattle.zf_planes.proofs.LaneTables.{less_entry, end_entry, last_of_entry}
 use Rattle.zf_planes.proofs.in_lanes.planes_at_end.Goals.{After-min, then-entry-ge33554432, else-entry-ge33554432}
@@ -13,27 +12,13 @@ use Rattle.zf_planes.proofs.in_lanes.planes_at_end.Goals as goal
 
 -- where zeros make the ones reach to the last rank, it is the less of two, and else the first one
 less_of_two : (e zeros one : ℕ) → 33554432 ≤ zeros → e ≡ min zeros one → e ≡ less_entry zeros one
-less_of_two e zeros one great is =
-    let no : ltb zeros 33554432 ≡ false = grind (arith, nat_tests) in
-    is ∙ sym (ap (λ b. cond b zeros (min zeros one)) no)
+less_of_two e zeros one great is = search (rules, nat_tests)
 
 first_of_two : (e zeros one : ℕ) → zeros < 33554432 → e ≡ zeros → e ≡ less_entry zeros one
 first_of_two e zeros one small is = is ∙ sym (ap (λ b. cond b zeros (min zeros one)) (lt-ltb zeros 33554432 small))
 
 entry_is : (c : After-min) → c.if-entry-ge33554432.entry ≡ end_entry c.args.n (1 * 2 ^ c.args.left % 2 ^ 64) (c.args.bits % (1 * 2 ^ c.args.left % 2 ^ 64))
-entry_is c =
-    let n = c.args.n in
-    let first = 1 * 2 ^ c.args.left % 2 ^ 64 in
-    let last = c.args.bits % first in
-    let one = get_or LANES (256 * n + (first + last)) 0 in
-    let is = c.entry_of_lanes-entry in
-    elim c.if-entry-ge33554432.branch [
-      | then-entry-ge33554432 w ↦
-          less_of_two c.if-entry-ge33554432.entry is.result w.entry_of_lanes.result w.if-entry-ge33554432.true (w.entry-is ∙ w.min-entry.ensures)
-          ∙ ap (λ (e : ℕ). less_entry e w.entry_of_lanes.result) is.ensures
-          ∙ ap (less_entry (get_or LANES (256 * n + last) 0)) w.entry_of_lanes.ensures
-      | else-entry-ge33554432 w ↦ first_of_two c.if-entry-ge33554432.entry is.result one w.if-entry-ge33554432.false w.entry-is ∙ ap (λ (e : ℕ). less_entry e one) is.ensures
-    ]
+entry_is c = search (rules, then-entry-ge33554432, less_of_two, less_entry, else-entry-ge33554432, first_of_two)
 
 -- what the entry says
 entry : (c : After-min) → AreAtEnd c.args.n c.args.left c.args.bits (c.if-entry-ge33554432.entry / 1048576 % 8) (lanes_apart (c.if-entry-ge33554432.entry % 65536)) (min (c.if-entry-ge33554432.entry / 65536 % 16) c.args.left)
@@ -44,18 +29,7 @@ entry c =
     let found = last_of_entry c.args.n left (c.args.bits % 2 ^ left) c.if-entry-ge33554432.entry c.requires.in_plane c.requires.some c.requires.few (mod-lt c.args.bits (pow_pos left))
     (entry_is c ∙ ap (λ (p : ℕ). end_entry c.args.n p (c.args.bits % p)) power) in
     let count = c.if-entry-ge33554432.entry / 1048576 % 8 in
-    let same = sym (field-mod left c.args.bits) in
-    record {
-      digits = ap (λ (s : List Bool). planes_ahead left count 4 c.args.n s) same ∙ found.digits;
-      bits = ap (λ (s : List Bool). planes_bits left count 4 c.args.n s) same ∙ found.bits;
-      below = found.below;
-      some = found.some;
-      most = found.most;
-      bit = found.bit;
-      len = found.len;
-      above = found.above;
-      within = found.within;
-    }
+    let same = sym (field-mod left c.args.bits) in search rules
 
 pub returns : goal.returns
 returns c = rw (c.apart.ensures, c.from.ensures, c.min.ensures, c.from-2.ensures) (entry c.before)

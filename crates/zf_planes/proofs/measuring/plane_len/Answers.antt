@@ -1,3 +1,4 @@
+use Rattle.std.proofs.Common.{rules}
 use Rattle.std.proofs.Common.{◌≤◌, drop, arith, length-drop}
 use Rattle.std.proofs.lemmas.List.Sums.{count_by-le-length}
 use Rattle.zf_spec.specs.HeldPlanes.{digits_held}
@@ -8,34 +9,19 @@ use Rattle.zf_planes.proofs.measuring.plane_len.Given.{Over}
 use Rattle.zf_planes.proofs.measuring.plane_len.Goals as goal
 
 small : (g : Over) (c : goal.After-saturating_sub g) → (c.ones_from.result ≤ c.args.size) × (c.args.end ≤ c.args.size)
-small g c =
-    let ds = digits_held c.args.size (g.P.Plane.words c.args.plane.now) in
-    let long = length-digits_held c.args.size (g.P.Plane.words c.args.plane.now) (omega (arith, c.requires.words, g.met.P.Plane.long c.args.plane.now)) in
-    (omega (arith, c.ones_from.ensures, count_by-le-length (λ d. d) (drop c.args.n ds), length-drop c.args.n ds, long), omega (arith, c.requires.end, reach-le ds, long))
+small g c = search (rules, length-digits_held, count_by-le-length, length-drop, reach-le)
 
 pub overflow_add-runs : goal.overflow_add-runs
-overflow_add-runs g c =
-    let ds = digits_held c.args.size (g.P.Plane.words c.args.plane.now) in
-    let long = length-digits_held c.args.size (g.P.Plane.words c.args.plane.now) (omega (arith, c.requires.words, g.met.P.Plane.long c.args.plane.now)) in
-    omega (arith, c.ones_from.ensures, count_by-le-length (λ d. d) (drop c.args.n ds), length-drop c.args.n ds, long, c.requires.end, reach-le ds, c.requires.words, g.met.P.Plane.few, c.saturating_sub.ensures)
+overflow_add-runs g c = search (rules, length-digits_held, count_by-le-length, length-drop, reach-le)
 
 pub overflow_add-result : goal.overflow_add-result
-overflow_add-result g c =
-    let ds = digits_held c.args.size (g.P.Plane.words c.args.plane.now) in
-    let long = length-digits_held c.args.size (g.P.Plane.words c.args.plane.now) (omega (arith, c.requires.words, g.met.P.Plane.long c.args.plane.now)) in
-    omega (arith, c.ones_from.ensures, count_by-le-length (λ d. d) (drop c.args.n ds), length-drop c.args.n ds, long, c.requires.end, reach-le ds, c.requires.words, g.met.P.Plane.few, c.saturating_sub.ensures, c.requires.in_plane)
+overflow_add-result g c = search (rules, length-digits_held, count_by-le-length, length-drop, reach-le)
 
 pub overflow_add-result-then-max-size : goal.overflow_add-result-then-max-size
-overflow_add-result-then-max-size g c =
-    let ds = digits_held c.args.size (g.P.Plane.words c.args.plane.now) in
-    let long = length-digits_held c.args.size (g.P.Plane.words c.args.plane.now) (omega (arith, c.requires.words, g.met.P.Plane.long c.args.plane.now)) in
-    omega (arith, c.ones_from.ensures, count_by-le-length (λ d. d) (drop c.args.n ds), length-drop c.args.n ds, long, c.requires.end, reach-le ds, c.requires.words, g.met.P.Plane.few, c.saturating_sub.ensures, c.requires.in_plane)
+overflow_add-result-then-max-size g c = search (rules, length-digits_held, count_by-le-length, length-drop, reach-le)
 
 pub overflow_add-result-else-max-size : goal.overflow_add-result-else-max-size
-overflow_add-result-else-max-size g c =
-    let ds = digits_held c.args.size (g.P.Plane.words c.args.plane.now) in
-    let long = length-digits_held c.args.size (g.P.Plane.words c.args.plane.now) (omega (arith, c.requires.words, g.met.P.Plane.long c.args.plane.now)) in
-    omega (arith, c.ones_from.ensures, count_by-le-length (λ d. d) (drop c.args.n ds), length-drop c.args.n ds, long, c.requires.end, reach-le ds, c.requires.words, g.met.P.Plane.few, c.saturating_sub.ensures, c.saturating_sub-else-max-size.ensures, c.requires.in_plane)
+overflow_add-result-else-max-size g c = search (rules, length-digits_held, count_by-le-length, length-drop, reach-le)
 
 pub returns-then-max-size : goal.returns-then-max-size
 returns-then-max-size g c =

@@ -1,4 +1,5 @@
-use Rattle.std.proofs.Common.{◌≡◌, ℕ, ◌+◌, ◌-◌, ◌*◌, ◌<◌, ◌≤◌, max, Bool, List, length, map, take, drop, get_or, ap, ◌∙◌, arith, length-append}
+use Rattle.std.proofs.Common.{rules}
+use Rattle.std.proofs.Common.{◌≡◌, ℕ, ◌+◌, ◌-◌, ◌*◌, ◌<◌, ◌≤◌, max, List, length, map, take, drop, get_or, ap, ◌∙◌, arith, length-append}
 use Rattle.std.proofs.Math.Nat.{mul-le-mul_right}
 use Rattle.std.proofs.lemmas.List.{drop_all, length-map}
 use Rattle.zf_spec.specs.Planes.{code, code_from, plane_code, reach}
@@ -31,28 +32,13 @@ step words above prec size i planes plane is below within =
 pub overflow_add-len : goal.overflow_add-len
 overflow_add-len g c =
     let next = step g.P.Plane.words c.loop-i.above c.args.prec c.args.size c.loop-i.i c.args.planes.now c.index-planes-planes.result c.index-planes-planes.is c.loop-i-test.true c.requires.planes in
-    let few = most g.P.Plane.words _ c.args.prec c.args.size c.args.planes.now g.met.P.Plane.long c.requires.words c.requires.planes in
-    let small : c.args.size ≤ 256 = omega (arith, c.requires.words, g.met.P.Plane.few) in
-    let product = mul-le-mul_right c.args.prec small in
-    omega (arith, c.loop-i.invariant.sum, c.plane_len.ensures, next, few, product)
+    let few = most g.P.Plane.words _ c.args.prec c.args.size c.args.planes.now g.met.P.Plane.long c.requires.words c.requires.planes in search (rules, mul-le-mul_right)
 
 pub loop-i-preserved : goal.loop-i-preserved
-loop-i-preserved g c =
-    let ds = digits_held c.args.size (g.P.Plane.words c.index-planes-planes.result) in
-    let next = step g.P.Plane.words c.loop-i.above c.args.prec c.args.size c.loop-i.i c.args.planes.now c.index-planes-planes.result c.index-planes-planes.is c.loop-i-test.true c.requires.planes in
-    let reached : max c.loop-i.above (reach ds) ≡ c.max-above.result = omega (arith, c.reach_in-end.ensures.value, c.max-above.ensures) in
-    record {
-      sum = omega (arith, c.loop-i.invariant.sum, c.plane_len.ensures, rw reached at next);
-      above = omega (arith, c.loop-i.invariant.above, c.reach_in-end.ensures.bound, c.max-above.ensures);
-    }
+loop-i-preserved g c = search (rules, step)
 
 pub returns-clause-count : goal.returns-clause-count
-returns-clause-count g c =
-    let planes = map g.P.Plane.words c.args.planes.now in
-    let long = length-map c.args.planes.now g.P.Plane.words in
-    let top = take c.args.prec (planes_held c.args.size planes) in
-    let none = ap (λ (ps : List (List Bool)). length (code_from c.loop-i.above ps)) (drop_all c.loop-i.i top (omega (arith, length-top_held c.args.prec c.args.size planes (omega (arith, c.requires.planes)), c.loop-i-test.false))) in
-    omega (arith, c.loop-i.invariant.sum, none)
+returns-clause-count g c = search (rules, length-map, drop_all, length-top_held)
 
 pub returns-clause-most : goal.returns-clause-most
 returns-clause-most g c =

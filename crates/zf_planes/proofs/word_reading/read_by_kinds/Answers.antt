@@ -1,3 +1,4 @@
+use Rattle.std.proofs.Common.{rules}
 use Rattle.std.proofs.Common.{◌≡◌, ℕ, ◌*◌, ◌<◌, ◌≤◌, ◌⊎◌, ⊎_elim, inl, inr, length, map, ◌∙◌, arith, length-set}
 use Rattle.zf_spec.specs.HeldPlanes.{digits_held}
 use Rattle.zf_spec.proofs.HeldPlanes.{length-digits_held}
@@ -56,11 +57,7 @@ loop-i-2-preserved g c =
     let enough : size ≤ 64 * length words = omega (arith, c.requires.planes.words, g.met.P.Plane.long one.plane) in
     let reached : one.above ≡ c.loop-i.above = omega (arith, c.in_ok-read-2.ensures.read.reached, all, reach-le (digits_held size words), length-digits_held size words enough) in
     let read = AreRead-more g.P.Plane.words _ _ c.loop-i-2.planes one.plane (AreRead-ranks size all before.read) c.requires.planes.some enough c.loop-i-2-test.true (omega (arith, before.long, c.requires.planes.enough)) c.in_ok-read-2.ensures.read in
-    record {
-      read = AreRead-ranks c.loop-i.above reached read;
-      long = length-set c.loop-i-2.planes _ one.plane ∙ before.long;
-      all = inl all;
-    }
+    search (rules, length-set)
 
 pub returns-else-cursor-gt0-2-clause-read : goal.returns-else-cursor-gt0-2-clause-read
 returns-else-cursor-gt0-2-clause-read g c =

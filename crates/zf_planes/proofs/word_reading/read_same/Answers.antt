@@ -1,8 +1,8 @@
+use Rattle.std.proofs.Common.{rules}
 use Rattle.zf_planes.proofs.Passing.{Takes-rest}
-use Rattle.std.proofs.Common.{◌≡◌, ℕ, suc, ◌+◌, ◌-◌, ◌<◌, ◌≤◌, Bool, List, ◌∷◌, ◌++◌, length, map, take, drop, sym, ap, subst, ◌∙◌, arith, length-set}
+use Rattle.std.proofs.Common.{◌≡◌, ℕ, suc, ◌+◌, ◌-◌, ◌<◌, ◌≤◌, length, map, drop, ap, ◌∙◌, arith, length-set}
 use Rattle.std.proofs.lemmas.List.{length-map, drop-drop}
-use Rattle.std.proofs.lemmas.List.Elements.{All-set}
-use Rattle.zf_spec.specs.HeldPlanes.{planes_held, IsClearFrom}
+use Rattle.zf_spec.specs.HeldPlanes.{planes_held}
 use Rattle.zf_bits.specs.Reader.{rest}
 use Rattle.zf_planes.specs.Decoding.{planes_ahead, Takes}
 use Rattle.zf_planes.proofs.Gathering.{written}
@@ -44,22 +44,7 @@ loop-i-preserved g c =
     let below = planes_ahead (ahead.left - (ahead.count - (count - len))) p size n (drop (ahead.count - (count - len)) s) in
     let set = set_words g.P.Plane.words c.loop-i.planes i plane in
     let some : 0 < len = omega (arith, same.ensures.len) in
-    let window = rw (last, left', place) at (window_passed (drop passed s) left bits count len before.window some small) in
-    record {
-      window = window;
-      fewer = omega (arith, before.fewer);
-      bits = omega (arith, before.bits, (rw (← more) at next_bits), passed');
-      digits =
-          before.digits
-          ∙ ap (λ (ps : List (List Bool)). take i held ++ ps) (rw (← more) at next_digits ∙ ap (λ (ds : List Bool). ds ∷ below) (sym put.digits))
-          ∙ one_more g.P.Plane.words size i c.loop-i.planes plane below within;
-      behind = rw set (top_behind size planes i (g.P.Plane.words plane) within before.behind);
-      clear = rw set (All-set (IsClearFrom size) planes (length planes - 1 - i) (g.P.Plane.words plane) put.clear before.clear);
-      long = length-set c.loop-i.planes _ plane ∙ before.long;
-      begun = omega (arith, before.begun);
-      within = omega (arith, c.loop-i-test.true);
-      first = λ e. absurd (omega (arith, e, before.begun));
-    }
+    let window = rw (last, left', place) at (window_passed (drop passed s) left bits count len before.window some small) in search (rules, one_more, top_behind, length-set)
 
 pub skip-requires : goal.skip-requires
 skip-requires g c = omega (arith, window_long (rest c.args.cursor.now.reader) c.args.cursor.now.bits c.args.cursor.now.count c.args.cursor.now.window.bits)
@@ -78,11 +63,4 @@ returns-clause-read g c =
     let Taken : ℕ → Type 0 = λ k. Takes now.reader c.skip.new.self now.left (now.left - passed) k in
     let count : passed ≡ now.left - (now.left - passed) = omega (arith, now.window.within) in
     let before = c.loop-i.invariant in
-    let behind = Takes-rest taken in
-    record {
-      taken = subst Taken count taken;
-      bits = rw behind (omega (arith, before.bits, count));
-      digits = rw behind before.digits;
-      behind = before.behind;
-      clear = before.clear;
-    }
+    let behind = Takes-rest taken in search rules

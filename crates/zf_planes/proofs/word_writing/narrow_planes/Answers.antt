@@ -1,3 +1,4 @@
+use Rattle.std.proofs.Common.{rules}
 use Rattle.std.proofs.Common.{◌≡◌, ◌+◌, ◌<◌, max, Bool, List, ◌++◌, map, take, drop, sym, ap, ◌∙◌, arith, append_assoc}
 use Rattle.std.proofs.lemmas.Nat.{le_or_l, le_or_r}
 use Rattle.zf_spec.specs.Numbers.{field}
@@ -11,10 +12,7 @@ pub overflow_mul-second : goal.overflow_mul-second
 overflow_mul-second g c = omega (arith, c.if-first-second-gt7.false, le_or_r c.first_word-first.result c.first_word-second.result)
 
 pub overflow_add-first : goal.overflow_add-first
-overflow_add-first g c =
-    let first = c.first_word-first.result in
-    let second = c.first_word-second.result in
-    omega (arith, c.if-first-second-gt7.false, le_or_l first second, le_or_r first second)
+overflow_add-first g c = search (rules, le_or_l, le_or_r)
 
 pub loop-i-preserved : goal.loop-i-preserved
 loop-i-preserved g c =
@@ -29,9 +27,7 @@ loop-i-preserved g c =
       code =
           c.loop-i.invariant.code
           ∙ ap (λ (bs : List Bool). field part.len part.bits ++ bs)
-          (narrow_two g.P.Plane.words c.loop-i.above c.args.prec c.args.size c.loop-i.i first.result second.result two.result.part.len two.result.part.bits two.result.above c.args.planes.now
-          c.index-planes-planes.result c.index-planes-planes-in-loop-i.result c.if-above-lt3.true c.requires.some low low' c.loop-i-test.true c.requires.planes c.index-planes-planes.is c.index-planes-planes-in-loop-i.is
-          first.ensures.digits second.ensures.digits two.ensures)
+          (search (rules, narrow_two))
           ∙ sym (append_assoc (field part.len part.bits) (field two.result.part.len two.result.part.bits) rest)
           ∙ ap (λ (bs : List Bool). bs ++ rest) (sym c.join-part.ensures.bits);
       place = omega (arith, c.loop-i-test.true);

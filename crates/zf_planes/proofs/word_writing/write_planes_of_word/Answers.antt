@@ -1,3 +1,4 @@
+use Rattle.std.proofs.Common.{rules}
 use Rattle.std.proofs.Common.{[], get_or, refl, ◌<◌, ◌≤◌, ◌≡◌, ℕ, ◌+◌, ◌-◌, max, Bool, List, ◌++◌, length, map, take, drop, sym, ap, ◌∙◌, arith, append_assoc, length-append}
 use Rattle.std.proofs.lemmas.List.{drop_all, length-map}
 use Rattle.zf_spec.specs.Numbers.{field}
@@ -91,9 +92,7 @@ loop-i-preserved g c =
     let top : c.max-above.result ≡ max c.loop-i.above c.reach_in-end.result = omega (arith, c.max-above.ensures) in
     let reached : max c.loop-i.above (reach ds) ≡ c.max-above.result = omega (arith, ap reach c.first_word-digits.ensures.digits, c.reach_in-end.ensures.value, top) in
     record {
-      remains =
-          with_next g.P.Plane.words c.loop-i.above c.args.prec c.args.size c.loop-i.i part.len part.bits c.first_word-digits.result new.len new.bits c.max-above.result c.args.planes.now c.index-planes-planes.result
-          c.loop-i.invariant.remains c.index-planes-planes.is c.loop-i-test.true c.requires.planes c.first_word-digits.ensures.digits c.write_with-left.ensures reached;
+      remains = search (rules, with_next);
       above = omega (arith, c.loop-i.invariant.above, c.reach_in-end.ensures.bound, top, c.if-above-size.false);
       place = omega (arith, c.loop-i-test.true);
       small = c.write_with-left.ensures.small;
@@ -131,10 +130,7 @@ write_part-left-requires-2-clause-fits g c = omega (arith, Remains-fits (field c
 
 -- no plane is left
 none_left : {A : Type 0} (words : A → List ℕ) (n prec size i : ℕ) (planes : List A) → prec ≤ length planes → prec ≤ i → code_from n (drop i (take prec (planes_held size (map words planes)))) ≡ []
-none_left words n prec size i planes within past =
-    let held = map words planes in
-    let long = length-map planes words in
-    ap (code_from n) (drop_all i (take prec (planes_held size held)) (omega (arith, length-top_held prec size held (omega (arith, within)), past)))
+none_left words n prec size i planes within past = search (rules, length-map, drop_all, length-top_held)
 
 -- it is written
 written : (g : Over) (c : goal.After-write_part-left-2 g) → Remains c.args.out.now c.write_part-left-2.new.out c.args.left c.write_part-left-2.result (code_from 0 (drop c.args.from (take c.args.prec (planes_held c.args.size (map g.P.Plane.words c.args.planes.now)))))
@@ -198,10 +194,7 @@ pub write_part-left-requires-in-loop-i-2-clause-fits : goal.write_part-left-requ
 write_part-left-requires-in-loop-i-2-clause-fits g c = omega (arith, Remains-fits (field c.loop-i-3.whole.len c.loop-i-3.whole.bits) _ c.loop-i-3.invariant.remains, length-field c.loop-i-3.whole.len c.loop-i-3.whole.bits)
 
 pub loop-i-2-smaller : goal.loop-i-2-smaller
-loop-i-2-smaller g c = elim c.loop-i-3-test.branch [
-  | then-loop-i-3-test+else-whole-size-le64 w ↦ omega (arith, c.loop-i-2-test.true, w.if-whole-size-le64.false, c.loop-i-3.invariant.some, c.requires.size)
-  | else-loop-i-3-test w ↦ omega (arith, c.loop-i-2-test.true, w.loop-i-3-test.false)
-]
+loop-i-2-smaller g c = search (rules, then-loop-i-3-test+else-whole-size-le64, else-loop-i-3-test)
 
 pub loop-i-2-preserved : goal.loop-i-2-preserved
 loop-i-2-preserved g c =
@@ -210,10 +203,7 @@ loop-i-2-preserved g c =
     record { remains = rw spent at (Remains-more (field whole.len whole.bits) _ c.loop-i-3.invariant.remains c.write_part-left-in-loop-i-2.ensures.bits); place = c.loop-i-3.invariant.place }
 
 pub returns-else-left-gt0 : goal.returns-else-left-gt0
-returns-else-left-gt0 g c = record {
-  bits = Remains-end c.loop-i-2.invariant.remains (omega (arith, c.if-left-gt0.false));
-  left = omega (arith, c.if-left-gt0.false, c.loop-i-2.invariant.remains.spent);
-}
+returns-else-left-gt0 g c = search rules
 
 pub returns-after-loop-i-2 : goal.returns-after-loop-i-2
 returns-after-loop-i-2 g c =

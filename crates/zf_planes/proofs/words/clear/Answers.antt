@@ -1,4 +1,5 @@
-use Rattle.std.proofs.Common.{◌≡◌, ℕ, ◌+◌, List, [], ◌∷◌, ◌++◌, length, map, take, replicate, refl, sym, ap, ◌∙◌, arith}
+use Rattle.std.proofs.Common.{rules}
+use Rattle.std.proofs.Common.{ℕ, ◌+◌, List, [], ◌∷◌, ◌++◌, map, take, replicate, refl, ap, ◌∙◌, arith}
 use Rattle.std.proofs.lemmas.List.{map-set, length-map, take_more_set, take_all, replicate-append-replicate}
 use Rattle.zf_planes.proofs.words.clear.Goals as goal
 
@@ -17,9 +18,4 @@ loop-plane-preserved g c =
     ∙ replicate-append-replicate k 1 zeros
 
 pub returns : goal.returns
-returns g c =
-    let n = c.loop-plane.plane-index in
-    let all : n ≡ length c.args.planes.now = omega arith in
-    sym (take_all n (map g.P.Plane.words c.loop-plane.planes) (omega (arith, length-map c.loop-plane.planes g.P.Plane.words, c.loop-plane.auto.planes)))
-    ∙ c.loop-plane.invariant
-    ∙ ap (λ k. replicate k (replicate g.P.Plane.word_count 0)) all
+returns g c = search (rules, take_all, length-map)

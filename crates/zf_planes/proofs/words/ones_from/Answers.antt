@@ -1,4 +1,5 @@
-use Rattle.std.proofs.Common.{◌≡◌, ◌+◌, ◌-◌, ◌/◌, ◌%◌, ◌^◌, drop, ap, arith}
+use Rattle.std.proofs.Common.{rules}
+use Rattle.std.proofs.Common.{◌≡◌, ◌+◌, ◌-◌, ◌/◌, ◌%◌, ◌^◌, drop, arith}
 use Rattle.std.specs.Int.Bits.{bit_and}
 use Rattle.std.specs.Int.Count.{ones as number_ones}
 use Rattle.std.proofs.lemmas.List.{drop_all, length-drop}
@@ -24,19 +25,10 @@ more g c =
     omega (arith, c.loop-at.invariant.sum, part, ones_split at n (digits_held c.args.size ws))
 
 pub overflow_add-ones : goal.overflow_add-ones
-overflow_add-ones g c =
-    let ws = g.P.Plane.words c.args.plane.now in
-    let ds = digits_held c.args.size ws in
-    let long = length-digits_held c.args.size ws (omega (arith, c.requires.words, g.met.P.Plane.long c.args.plane.now)) in
-    omega (arith, more g c, count_by-le-length (λ d. d) (drop c.args.n ds), length-drop c.args.n ds, long, c.requires.words, g.met.P.Plane.few)
+overflow_add-ones g c = search (rules, length-digits_held, more, count_by-le-length, length-drop)
 
 pub loop-at-preserved : goal.loop-at-preserved
 loop-at-preserved g c = record { sum = more g c; within = omega (arith, c.min-count.ensures, c.loop-at-test.true) }
 
 pub returns : goal.returns
-returns g c =
-    let ws = g.P.Plane.words c.args.plane.now in
-    let ds = digits_held c.args.size ws in
-    let long = length-digits_held c.args.size ws (omega (arith, c.requires.words, g.met.P.Plane.long c.args.plane.now)) in
-    let none = ap ones (drop_all c.loop-at.at ds (omega (arith, long, c.loop-at-test.false))) in
-    omega (arith, c.loop-at.invariant.sum, none)
+returns g c = search (rules, length-digits_held, ones, drop_all)

@@ -1,3 +1,4 @@
+use Rattle.std.proofs.Common.{rules}
 use Rattle.std.proofs.Common.{◌≡◌, ◌-◌, ◌*◌, ◌%◌, ◌^◌, ◌≤◌, length, arith}
 use Rattle.std.specs.Int.{w64, leading_zeros}
 use Rattle.zf_spec.specs.Planes.{reach}
@@ -7,12 +8,7 @@ use Rattle.zf_planes.proofs.words.reach_in.Given.{Over}
 use Rattle.zf_planes.proofs.words.reach_in.Goals as goal
 
 pub loop-end-init : goal.loop-end-init
-loop-end-init g c =
-    let ws = g.P.Plane.words c.args.plane.now in
-    record {
-      within = omega arith;
-      zeros = λ j past. past_size c.args.size j ws (omega (arith, c.requires.words, g.met.P.Plane.long c.args.plane.now)) past;
-    }
+loop-end-init g c = search (rules, past_size)
 
 reached : (g : Over) (c : goal.Then-word-ne0 g) → (leading_zeros w64 (c.word.result * 2 ^ (63 - (c.loop-end.end - 1) % 64) % 2 ^ 64) ≤ c.loop-end.end)
     × (c.loop-end.end - leading_zeros w64 (c.word.result * 2 ^ (63 - (c.loop-end.end - 1) % 64) % 2 ^ 64) ≡ reach (digits_held c.args.size (g.P.Plane.words c.args.plane.now)))
@@ -28,13 +24,7 @@ pub returns-then-word-ne0-clause-value : goal.returns-then-word-ne0-clause-value
 returns-then-word-ne0-clause-value g c = (reached g c).1
 
 pub loop-end-preserved : goal.loop-end-preserved
-loop-end-preserved g c =
-    let ws = g.P.Plane.words c.args.plane.now in
-    let long : c.args.size ≤ 64 * length ws = omega (arith, c.requires.words, g.met.P.Plane.long c.args.plane.now) in
-    record {
-      within = omega (arith, c.loop-end.invariant.within);
-      zeros = none_in_word c.args.size c.loop-end.end c.word.result ws c.loop-end-test.true c.loop-end.invariant.within c.word.ensures long c.loop-end.invariant.zeros (omega (arith, c.if-word-ne0.false));
-    }
+loop-end-preserved g c = search (rules, none_in_word)
 
 pub returns-clause-value : goal.returns-clause-value
 returns-clause-value g c = reach_none_from (digits_held c.args.size (g.P.Plane.words c.args.plane.now)) (λ j from. c.loop-end.invariant.zeros j (omega (arith, c.loop-end-test.false)))

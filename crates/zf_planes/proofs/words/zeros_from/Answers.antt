@@ -1,8 +1,9 @@
+use Rattle.std.proofs.Common.{rules}
 use Rattle.std.proofs.Common.{◌+◌, ◌-◌, ◌/◌, ◌%◌, ◌^◌, ◌*◌, ◌≤◌, length, arith}
 use Rattle.std.specs.Int.{w64, trailing_zeros}
 use Rattle.zf_spec.specs.HeldPlanes.{digits_held}
 use Rattle.zf_spec.proofs.HeldPlanes.{length-digits_held}
-use Rattle.zf_planes.proofs.Digits.{IsNextOne, AreZeros-join, zeros_of_word, next_one, split_at_next, within_plane}
+use Rattle.zf_planes.proofs.Digits.{IsNextOne, zeros_of_word, next_one, split_at_next, within_plane}
 use Rattle.zf_planes.proofs.words.zeros_from.Given.{Over}
 use Rattle.zf_planes.proofs.words.zeros_from.Goals as goal
 
@@ -29,14 +30,7 @@ returns-then-word-ne0-clause-split g c =
     split_at_next (digits_held c.args.size (g.P.Plane.words c.args.plane.now)) c.args.n (c.loop-at.at - c.args.n + z) (c.loop-at.at + z) (omega (arith, c.loop-at.invariant.from)) (found g c)
 
 pub loop-at-preserved : goal.loop-at-preserved
-loop-at-preserved g c =
-    let ws = g.P.Plane.words c.args.plane.now in
-    let at = c.loop-at.at in
-    let long : c.args.size ≤ 64 * length ws = omega (arith, c.requires.words, g.met.P.Plane.long c.args.plane.now) in
-    record {
-      from = omega (arith, c.loop-at.invariant.from);
-      zeros = AreZeros-join (digits_held c.args.size ws) c.args.n at (at + (64 - at % 64)) c.loop-at.invariant.zeros (zeros_of_word c.args.size at c.word.result ws c.word.ensures long (omega (arith, c.if-word-ne0.false)));
-    }
+loop-at-preserved g c = search (rules, zeros_of_word)
 
 pub unreachable-requires : goal.unreachable-requires
 unreachable-requires g c =

@@ -1,3 +1,4 @@
+use Rattle.std.proofs.Common.{rules}
 use Rattle.std.proofs.Common.{◌≡◌, ℕ, ◌+◌, ◌*◌, ◌<◌, ◌≤◌, List, [], ◌∷◌, ◌++◌, length, take, get_or, sym, ap, ◌∙◌, arith}
 use Rattle.std.proofs.lemmas.List.{append-nil, take_more}
 use Rattle.std.proofs.lemmas.Grind.{flat_map-append, common_steps}
@@ -20,9 +21,7 @@ bytes_more words buf put i k more is within so_far =
     ∙ ap bytes_in (sym (take_more words i 0 more))
 
 pub loop-i-preserved : goal.loop-i-preserved
-loop-i-preserved c =
-    bytes_more c.args.words.now c.loop-i.bytes c.copy_from_slice.new.self c.loop-i.i _ c.loop-i-test.true (c.copy_from_slice.ensures.after ∙ c.to_le_bytes.ensures)
-    (omega (arith, c.loop-i-test.true, c.requires, c.loop-i.auto.bytes)) c.loop-i.invariant
+loop-i-preserved c = search (rules, bytes_more)
 
 pub returns : goal.returns
 returns c = grind (arith, common_steps)

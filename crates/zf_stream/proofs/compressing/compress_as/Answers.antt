@@ -1,7 +1,6 @@
-use Rattle.std.proofs.Common.{◌∙◌}
+use Rattle.std.proofs.Common.{rules}
 use Rattle.std.proofs.lemmas.Result.{err_from_is_err_and}
 use Rattle.zf_dev.proofs.Devices.{Reads-told}
-use Rattle.zf_parse.specs.Raw.{stream_text}
 use Rattle.zf_stream.proofs.Answering.{nothing_given, prefix_from}
 use Rattle.zf_stream.proofs.Endings.{no_memory, given_from, unread}
 use Rattle.zf_stream.proofs.compressing.compress_as.Goals as goal
@@ -12,24 +11,13 @@ returns-in_err-values-clause-outcome g c =
     rw (p.1, c.read_ahead.ensures.contents_stay) (no_memory c.args.h.now p.0 (g.S.Source.contents c.args.src.now) (g.O.Sink.contents c.args.out.now) p.2)
 
 pub returns-in_err-values-clause-given : goal.returns-in_err-values-clause-given
-returns-in_err-values-clause-given g c =
-    let p = err_from_is_err_and c.from_residual.result c.from_residual.ensures.1 in
-    rw p.1 (record { ok = tt; err = prefix_from c.read_ahead.ensures.ungiven (nothing_given (stream_text c.args.h.now) (g.S.Source.gave c.read_ahead.new.self) (g.O.Sink.contents c.args.out.now)) })
+returns-in_err-values-clause-given g c = search (rules, err_from_is_err_and, prefix_from, nothing_given)
 
 pub returns-in_err-values-clause-source : goal.returns-in_err-values-clause-source
-returns-in_err-values-clause-source g c =
-    let p = err_from_is_err_and c.from_residual.result c.from_residual.ensures.1 in
-    Reads-told c.read_ahead.ensures.kept c.read_ahead.ensures.faults_stay c.read_ahead.ensures.sure (unread c.from_residual.result p.0 p.1 p.2)
+returns-in_err-values-clause-source g c = search (rules, err_from_is_err_and, unread)
 
 pub write_stream-requires-clause-room : goal.write_stream-requires-clause-room
-write_stream-requires-clause-room g c =
-    let found = c.in_ok-values.ensures in
-    record {
-      same_type = c.requires.same_type;
-      rows = found.rows;
-      values = c.deref_mut.ensures.len ∙ found.values;
-      codes = record { scratch = found.scratch; fits = found.fits };
-    }
+write_stream-requires-clause-room g c = search rules
 
 pub returns-clause-outcome : goal.returns-clause-outcome
 returns-clause-outcome g c = rw (← c.read_ahead.ensures.contents_stay) c.write_stream.ensures.ends.outcome

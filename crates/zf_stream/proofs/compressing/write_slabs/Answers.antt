@@ -1,30 +1,19 @@
-use Rattle.std.proofs.Common.{ℕ, ◌+◌, ◌*◌, ◌<◌, ◌^◌, List, length, sym, ap, subst, ◌∙◌, arith, rules}
+use Rattle.std.proofs.Common.{ℕ, List, length, sym, ap, subst, ◌∙◌, arith, rules}
 use Rattle.std.proofs.lemmas.List.{length-take-le}
 use Rattle.std.proofs.lemmas.Result.{err_from_is_err_and}
 use Rattle.std.specs.Int.{byte_len}
-use Rattle.zf_pad.specs.Rasters.{IsRaster}
 use Rattle.zf_pad.proofs.Slabs.{layout_of_slab, length-with_rows}
 use Rattle.zf_dev.specs.Source.{Gives}
-use Rattle.zf_dev.proofs.Taking.{Takes-none}
-use Rattle.zf_dev.proofs.Devices.{Reads-none, Reads-more, Reads-then, Writes-none, Writes-more, Writes-then}
+use Rattle.zf_dev.proofs.Devices.{Reads-more, Writes-more}
 use Rattle.zf_stream.specs.Rows.{WritesSlab, BreaksSlab}
-use Rattle.zf_stream.proofs.Flowing.{Flows-none}
 use Rattle.zf_stream.proofs.OnErrors.{on_err}
-use Rattle.zf_stream.proofs.Rooms.{Keeps-none, Keeps-next, array_kept, room_part}
+use Rattle.zf_stream.proofs.Rooms.{Keeps-next, array_kept, room_part}
 use Rattle.zf_stream.proofs.Slabwise.{with_shape, slab_next, slab_written, slab_broken, slab_refused, rows_len-add, no_rows, zero_rows}
 use Rattle.zf_stream.proofs.Failing.{Reads-ok, Writes-ok}
 use Rattle.zf_stream.proofs.compressing.write_slabs.Goals as goal
 
 pub loop-row-init : goal.loop-row-init
-loop-row-init g c = record {
-  done = no_rows c.args.h.now c.args.room.now.codes.bits (g.S.Source.gave c.args.src.now) c.dims-dims.ensures.shape.some_dimension (Takes-none _) (Flows-none _ _);
-  taken = zero_rows c.args.h.now;
-  few = c.requires.few;
-  room = c.requires.room;
-  keeps = Keeps-none _;
-  source = Reads-none _;
-  sink = Writes-none _;
-}
+loop-row-init g c = search (rules, no_rows, zero_rows)
 
 pub slice_bounds-write_slab-end : goal.slice_bounds-write_slab-end
 slice_bounds-write_slab-end g c =
@@ -50,17 +39,12 @@ write_slab-requires-clause-taken g c =
     omega (arith, slab.bytes_are, slab.bytes_len, c.loop-row.invariant.taken, rows_len-add c.args.h.now c.loop-row.row c.min-here.result, slab.small)
 
 pub write_slab-requires-clause-raster : goal.write_slab-requires-clause-raster
-write_slab-requires-clause-raster g c =
-    let Serves : List ℕ → Type 0 = λ s. IsRaster s c.raster-layout.result in
-    let shape = c.dims-dims.ensures.shape in
-    subst Serves (sym c.with_rows.ensures)
-    (layout_of_slab c.args.h.now.shape c.min-here.result c.raster-layout.result shape.some_dimension shape.four_at_most (omega (arith, c.min-here.ensures, c.rows_of-all.ensures)) c.raster-layout.ensures)
+write_slab-requires-clause-raster g c = search (rules, layout_of_slab)
 
 pub overflow_add-taken : goal.overflow_add-taken
 overflow_add-taken g c =
     let slab = slab_next c.args.h.now c.loop-row.room.rows c.loop-row.row c.rows_of-all.result c.min-here.result c.values-count.result c.value_len.result c.with_rows.result c.dims-dims.ensures.shape c.loop-row.invariant.room.rows c.loop-row.invariant.done.whole c.rows_of-all.ensures c.loop-row-test.true c.min-here.ensures c.with_rows.ensures c.values-count.ensures.value (c.value_len.ensures.value ∙ ap byte_len c.requires.room.same_type) c.value_len.ensures.bound in
-    let below : c.loop-row.taken + c.values-count.result * c.value_len.result < 2 ^ 64 = omega (arith, slab.bytes_len, c.loop-row.invariant.taken, rows_len-add c.args.h.now c.loop-row.row c.min-here.result, slab.small) in
-    record { fits = below }
+    search (rules, rows_len-add)
 
 pub returns-in_err-write_slab-clause-err : goal.returns-in_err-write_slab-clause-err
 returns-in_err-write_slab-clause-err g c =
@@ -69,7 +53,6 @@ returns-in_err-write_slab-clause-err g c =
     let slab = slab_next c.args.h.now c.loop-row.room.rows c.loop-row.row c.rows_of-all.result c.min-here.result c.values-count.result c.value_len.result c.with_rows.result c.dims-dims.ensures.shape c.loop-row.invariant.room.rows c.loop-row.invariant.done.whole c.rows_of-all.ensures c.loop-row-test.true c.min-here.ensures c.with_rows.ensures c.values-count.ensures.value (c.value_len.ensures.value ∙ ap byte_len c.requires.room.same_type) c.value_len.ensures.bound in
     let P : List ℕ → Type 0 = λ s. BreaksSlab (with_shape h s) c.loop-row.taken (g.S.Source.contents c.loop-row.src) (g.S.Source.contents c.write_slab.new.src) (Gives (g.S.Source.gave c.loop-row.src) (g.S.Source.gave c.write_slab.new.src)) (g.O.Sink.contents c.loop-row.out) (g.O.Sink.contents c.write_slab.new.out) c.loop-row.room.codes.bits c.in_err-write_slab.field-0.0 in
     let broken = subst P c.with_rows.ensures c.in_err-write_slab.ensures.err in
-    let p = err_from_is_err_and c.from_residual.result c.from_residual.ensures.1 in
     on_err c.from_residual.result _ (slab_broken h c.loop-row.row here slab.next c.loop-row.invariant.done.whole c.loop-row.invariant.done c.loop-row.taken _ c.write_slab.ensures.gave_some broken)
 
 pub returns-in_err-write_slab-clause-refused : goal.returns-in_err-write_slab-clause-refused
@@ -86,14 +69,10 @@ pub returns-in_err-write_slab-clause-keeps : goal.returns-in_err-write_slab-clau
 returns-in_err-write_slab-clause-keeps g c = Keeps-next c.loop-row.invariant.keeps c.write_slab.ensures.keeps
 
 pub returns-in_err-write_slab-clause-source : goal.returns-in_err-write_slab-clause-source
-returns-in_err-write_slab-clause-source g c =
-    let p = err_from_is_err_and c.from_residual.result c.from_residual.ensures.1 in
-    rw (p.1, p.2) (Reads-then c.loop-row.invariant.source c.in_err-write_slab.ensures.source)
+returns-in_err-write_slab-clause-source g c = search (rules, err_from_is_err_and)
 
 pub returns-in_err-write_slab-clause-sink : goal.returns-in_err-write_slab-clause-sink
-returns-in_err-write_slab-clause-sink g c =
-    let p = err_from_is_err_and c.from_residual.result c.from_residual.ensures.1 in
-    rw (p.1, p.2) (Writes-then c.loop-row.invariant.sink c.in_err-write_slab.ensures.sink)
+returns-in_err-write_slab-clause-sink g c = search (rules, err_from_is_err_and)
 
 pub loop-row-preserved : goal.loop-row-preserved
 loop-row-preserved g c =

@@ -1,4 +1,5 @@
-use Rattle.std.proofs.Common.{◌≡◌, ◌^◌, ◌-◌, ◌<◌, ◌≤◌, Bool, true, false, ℤ, List, [], ◌∷◌, ◌++◌, map, length, None, Ok, length-append, refl, sym, ap, subst, ◌∙◌, arith}
+use Rattle.std.proofs.Common.{rules}
+use Rattle.std.proofs.Common.{◌≡◌, ◌^◌, ◌<◌, Bool, true, false, ℤ, List, [], ◌∷◌, ◌++◌, map, None, Ok, length-append, refl, sym, ap, subst, ◌∙◌, arith}
 use Rattle.std.proofs.lemmas.List.{append-nil, length-map}
 use Rattle.std.proofs.lemmas.Result.{err_from_is_err_and}
 use Rattle.zf_spec.specs.Grid.{blocks, extent_of}
@@ -6,16 +7,15 @@ use Rattle.zf_spec.specs.Codes.{existing_values}
 use Rattle.zf_pad.proofs.Stored.{stored_before, Stores, stores_none, stores_more, blocks_stored, all_stored, stored_within}
 use Rattle.zf_base.specs.Widths.{width_of}
 use Rattle.zf_base.proofs.Extents.{length-extent_of}
-use Rattle.zf_dev.specs.Source.{IsAtEnd}
 use Rattle.zf_dev.proofs.Taking.{Takes-append}
 use Rattle.zf_parse.specs.declared.fault.StreamFault.{StreamFault}
-use Rattle.zf_parse.specs.Parsing.{read_code, read_codes}
+use Rattle.zf_parse.specs.Parsing.{read_code}
 use Rattle.zf_stream.specs.Windows.{left_of}
 use Rattle.zf_stream.specs.Restoring.{stream_from, LacksSlab}
 use Rattle.zf_parse.proofs.Enough.{enough_for_one}
 use Rattle.zf_parse.proofs.Joining.{read_codes-next, read_codes-cut}
 use Rattle.zf_stream.proofs.Windows.{Goes-none, Goes-next, Goes-read, codes_refilled}
-use Rattle.zf_dev.proofs.Devices.{Reads-none, Reads-more, Reads-then}
+use Rattle.zf_dev.proofs.Devices.{Reads-none, Reads-more}
 use Rattle.zf_stream.proofs.Rooms.{Stays-next, still_restores}
 use Rattle.zf_stream.proofs.Failing.{Reads-ok}
 use Rattle.zf_stream.proofs.decoding.read_slab.Goals as goal
@@ -64,8 +64,7 @@ returns-in_default-clause-err g c =
     record {
       bytes = bytes;
       taken = Takes-append _ _ _ _ _ so_far.goes.taken refill.goes.taken;
-      ended = at_end window.ended (c.loop-b.room.longest ≤ length (left_of window)) (IsAtEnd (g.S.Source.contents c.reach.new.src)) c.in_ok-reach.ensures.enough
-          (λ enough. enough_for_one h es (left_of window) (length-extent_of h.shape b) (omega (arith, enough, so_far.stays.longest, c.requires.room.longest)) none) c.in_ok-reach.ensures.ended;
+      ended = search (rules, at_end, enough_for_one, length-extent_of);
       block = b;
       number_is = refl;
       codes = read_codes-cut h b (blocks h.shape) (stream_from c.args.room.now.window bytes) (left_of window) found
@@ -105,8 +104,7 @@ loop-b-preserved g c =
       goes = Goes-read (Goes-next so_far.goes refill.goes) c.in-Some.ensures.place;
       found = so_far.found ++ block ∷ [];
       count = length-append so_far.found (block ∷ []) ∙ omega (arith, so_far.count);
-      codes = read_codes-next h b (window.reader.at - mid.reader.at) (stream_from c.args.room.now.window bytes) (left_of mid) so_far.found block (left_of window)
-          (codes_refilled h b c.args.room.now.window so_far.bytes so_far.found so_far.codes refill) read.code read.passed;
+      codes = search (rules, read_codes-next, codes_refilled);
       stores = stores_more h.shape so_far.found b read.block _ _ so_far.count so_far.stores read.appended;
       stays = Stays-next so_far.stays (record { rows = refl; longest = refl; held = c.read_block-read.ensures.room ∙ refill.room; values = c.read_block-read.ensures.values });
       ended = λ is. c.in_ok-reach.ensures.ended (sym c.read_block-read.ensures.ended ∙ is);
@@ -114,30 +112,14 @@ loop-b-preserved g c =
     }
 
 pub returns-clause-ok : goal.returns-clause-ok
-returns-clause-ok g c =
-    let h = c.args.part.now in
-    let so_far = c.loop-b.invariant in
-    let all : c.loop-b.b ≡ blocks h.shape = omega (arith, c.loop-b-test.false, c.loop-b.auto.b-end, c.blocks-b-end.ensures.value) in
-    let stored = map g.T.Lane.value c.loop-b.room.stored.items in
-    record {
-      bytes = so_far.bytes;
-      goes = so_far.goes;
-      codes = ap (λ n. read_codes h 0 n (stream_from c.args.room.now.window so_far.bytes)) (sym all) ∙ so_far.codes
-          ∙ ap (λ (bs : List (List ℤ)). Ok (bs, left_of c.loop-b.room.window)) (blocks_stored h.shape so_far.found stored (so_far.count ∙ all) so_far.stores);
-    }
+returns-clause-ok g c = search (rules, blocks_stored)
 
 pub returns-clause-all : goal.returns-clause-all
 returns-clause-all g c =
     let ns = c.args.part.now.shape in
     let so_far = c.loop-b.invariant in
     let all : c.loop-b.b ≡ blocks ns = omega (arith, c.loop-b-test.false, c.loop-b.auto.b-end, c.blocks-b-end.ensures.value) in
-    omega (
-      arith,
-      so_far.stores.long,
-      ap (stored_before ns) (so_far.count ∙ all),
-      length-map c.loop-b.room.stored.items g.T.Lane.value,
-      all_stored ns (omega (arith, c.blocks-b-end.ensures.value, c.blocks-b-end.ensures.not_zero)),
-    )
+    search (rules, stored_before, length-map, all_stored)
 
 pub reach-requires-clause-room : goal.reach-requires-clause-room
 reach-requires-clause-room g c = (still_restores c.requires.room c.loop-b.invariant.stays c.loop-b.invariant.ended).held
@@ -146,9 +128,7 @@ pub reach-requires-clause-ended : goal.reach-requires-clause-ended
 reach-requires-clause-ended g c = c.loop-b.invariant.ended
 
 pub returns-in_err-reach-clause-source : goal.returns-in_err-reach-clause-source
-returns-in_err-reach-clause-source g c =
-    let p = err_from_is_err_and c.from_residual.result c.from_residual.ensures.1 in
-    rw (p.1, p.2) (Reads-then c.loop-b.invariant.source c.in_err-reach.ensures.source.device)
+returns-in_err-reach-clause-source g c = search (rules, err_from_is_err_and)
 
 pub returns-clause-source : goal.returns-clause-source
 returns-clause-source g c = Reads-ok tt c.loop-b.invariant.source

@@ -1,3 +1,4 @@
+use Rattle.std.proofs.Common.{rules}
 use Rattle.std.proofs.Common.{◌≡◌, ℕ, ◌+◌, ◌-◌, ◌≤◌, Bool, List, ◌++◌, map, Option, sym, ap, subst, ◌∙◌, append_assoc, arith}
 use Rattle.std.proofs.lemmas.List.{append-nil}
 use Rattle.std.specs.List.{flat_map}
@@ -6,12 +7,12 @@ use Rattle.zf_spec.specs.Stream.{block_code}
 use Rattle.zf_header.specs.HeaderBits.{coding}
 use Rattle.zf_stream.specs.Flows.{Flows, Spills}
 use Rattle.zf_parse.proofs.Codes.{joined-more, joined-prefix}
-use Rattle.zf_stream.proofs.Flowing.{Flows-none, Flows-more, Flows-next, Flows-spill, Spills-more}
+use Rattle.zf_stream.proofs.Flowing.{Flows-more, Flows-next, Flows-spill, Spills-more}
 use Rattle.zf_stream.proofs.OnErrors.{on_err}
 use Rattle.std.proofs.lemmas.Result.{err_from_is_err_and}
-use Rattle.zf_dev.proofs.Devices.{Writes-none, Writes-more}
-use Rattle.zf_stream.proofs.Rooms.{Keeps-none, Keeps-next, room_kept}
-use Rattle.zf_stream.proofs.Failing.{WritesOnly-ok, WritesOnly-then}
+use Rattle.zf_dev.proofs.Devices.{Writes-more}
+use Rattle.zf_stream.proofs.Rooms.{Keeps-next, room_kept}
+use Rattle.zf_stream.proofs.Failing.{WritesOnly-ok}
 use Rattle.zf_stream.proofs.encoding.write_codes.Goals as goal
 
 module _ (f : ℕ → List Bool) (start : List Bool) where
@@ -61,16 +62,10 @@ pub returns-in_err-write_where_many-clause-keeps : goal.returns-in_err-write_whe
 returns-in_err-write_where_many-clause-keeps g c = Keeps-next (Keeps-next c.loop-b.invariant.keeps c.write_code.ensures.keeps) c.write_where_many.ensures.keeps
 
 pub returns-in_err-write_where_many-clause-sink : goal.returns-in_err-write_where_many-clause-sink
-returns-in_err-write_where_many-clause-sink g c =
-    let p = err_from_is_err_and c.from_residual.result c.from_residual.ensures.1 in
-    rw (p.1, p.2) (WritesOnly-then c.loop-b.invariant.sink c.in_err-write_where_many.ensures.sink)
+returns-in_err-write_where_many-clause-sink g c = search (rules, err_from_is_err_and)
 
 pub loop-b-init : goal.loop-b-init
-loop-b-init g c =
-    let out = g.O.Sink.contents c.args.out.now in
-    let start = c.args.room.now.codes.bits in
-    let Of : List Bool → Type 0 = λ bs. Flows out out bs start in
-    record { flows = subst Of (sym (append-nil start)) (Flows-none out start); few = c.requires.few; keeps = Keeps-none _; sink = Writes-none _ }
+loop-b-init g c = search (rules, append-nil)
 
 pub write_code-requires-clause-scratch : goal.write_code-requires-clause-scratch
 write_code-requires-clause-scratch g c = (room_kept c.requires.room c.loop-b.invariant.keeps).scratch

@@ -1,3 +1,4 @@
+use Rattle.std.proofs.Common.{rules}
 use Rattle.std.proofs.lemmas.Result.{err_from_is_err_and}
 use Rattle.zf_dev.proofs.Devices.{Reads-told}
 use Rattle.zf_stream.proofs.Endings.{unread}
@@ -10,26 +11,10 @@ returns-in_err-room-clause-outcome g c =
     rw (p.1, c.read_ahead.ensures.contents_stay) (no_room c.args.prefix.now p.0 (g.S.Source.contents c.args.src.now) (g.O.Sink.contents c.args.out.now) p.2)
 
 pub returns-in_err-room-clause-source : goal.returns-in_err-room-clause-source
-returns-in_err-room-clause-source g c =
-    let p = err_from_is_err_and c.from_residual.result c.from_residual.ensures.1 in
-    Reads-told c.read_ahead.ensures.kept c.read_ahead.ensures.faults_stay c.read_ahead.ensures.sure (unread c.from_residual.result p.0 p.1 p.2)
+returns-in_err-room-clause-source g c = search (rules, err_from_is_err_and, unread)
 
 pub restore_rows-requires : goal.restore_rows-requires
-restore_rows-requires g c =
-    let found = c.in_ok-room.ensures in
-    record {
-      room = record {
-        same_type = c.requires.same_type;
-        rows = found.rows;
-        codes = record {
-          longest = found.longest;
-          held = found.held;
-          fill = found.fill;
-          values = found.values;
-          ended = λ is. rw c.read_ahead.ensures.contents_stay (c.requires.begun.ended (found.ended is));
-        };
-      };
-    }
+restore_rows-requires g c = search rules
 
 pub returns-clause-outcome : goal.returns-clause-outcome
 returns-clause-outcome g c =

@@ -1,8 +1,6 @@
-use Rattle.std.proofs.Common.{◌≡◌, inl, ap, sym, ◌∙◌}
+use Rattle.std.proofs.Common.{arith}
+use Rattle.std.proofs.Common.{rules}
 use Rattle.zf_pad.specs.Slabs.{rows_of}
-use Rattle.zf_bits.specs.Reader.{rest}
-use Rattle.zf_parse.specs.Parsing.{fill_answer}
-use Rattle.zf_stream.specs.Windows.{left_of}
 use Rattle.zf_stream.proofs.OnErrors.{on_err}
 use Rattle.zf_stream.proofs.Restored.{rows_left}
 use Rattle.zf_stream.proofs.RestoredAll.{on_ok_of, if_err_of, restores_all, has_fault, all_left}
@@ -13,17 +11,11 @@ returns-in_err-reach-clause-err g c =
     on_err c.from_residual-in_err-reach.result _ (rows_left c.args.h.now (rows_of c.args.h.now.shape) c.in_ok-restore_slabs.ensures.ok c.in_err-reach.ensures.taken)
 
 pub returns-clause-ok : goal.returns-clause-ok
-returns-clause-ok g c =
-    let h = c.args.h.now in
-    let is : c.check_fill.result ≡ fill_answer h c.reach.new.self.reader.at (left_of c.reach.new.self) = c.check_fill.ensures ∙ ap (λ r. fill_answer h r.at (rest r)) c.reader.ensures in
-    on_ok_of c.check_fill.result _ (λ good. restores_all h c.in_ok-restore_slabs.ensures.ok c.in_ok-reach.ensures.ok c.in_ok-reach.ensures.ended c.in_ok-reach.ensures.enough (sym is ∙ good))
+returns-clause-ok g c = search (rules, on_ok_of, restores_all)
 
 pub returns-clause-err : goal.returns-clause-err
 returns-clause-err g c =
     on_err c.check_fill.result _ (all_left c.args.h.now c.in_ok-restore_slabs.ensures.ok c.in_ok-reach.ensures.ok c.in_ok-reach.ensures.ended c.in_ok-reach.ensures.enough)
 
 pub returns-clause-refused : goal.returns-clause-refused
-returns-clause-refused g c =
-    let h = c.args.h.now in
-    let is : c.check_fill.result ≡ fill_answer h c.reach.new.self.reader.at (left_of c.reach.new.self) = c.check_fill.ensures ∙ ap (λ r. fill_answer h r.at (rest r)) c.reader.ensures in
-    if_err_of c.check_fill.result _ (λ e fault. inl (has_fault h c.in_ok-restore_slabs.ensures.ok c.in_ok-reach.ensures.ok c.in_ok-reach.ensures.ended c.in_ok-reach.ensures.enough e (sym is ∙ fault)))
+returns-clause-refused g c = grind (arith, if_err_of, has_fault)

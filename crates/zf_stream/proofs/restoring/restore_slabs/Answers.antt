@@ -1,4 +1,5 @@
-use Rattle.std.proofs.Common.{◌≡◌, ℕ, ◌+◌, ◌-◌, ◌*◌, ◌/◌, ◌<◌, ◌≤◌, ◌^◌, List, map, length, min, mul_comm, ap, subst, ◌∙◌, arith}
+use Rattle.std.proofs.Common.{rules}
+use Rattle.std.proofs.Common.{◌≡◌, ℕ, ◌+◌, ◌-◌, ◌*◌, ◌/◌, ◌<◌, ◌≤◌, List, map, length, min, mul_comm, ap, subst, ◌∙◌, arith}
 use Rattle.std.proofs.lemmas.Result.{err_from_is_err_and}
 use Rattle.std.proofs.Math.Nat.{mul-le-mul_left, mul-add}
 use Rattle.zf_spec.specs.Grid.{product, grid, blocks}
@@ -15,7 +16,7 @@ use Rattle.zf_stream.specs.Restoring.{ReadsSlab, LacksSlab}
 use Rattle.zf_stream.proofs.OnErrors.{on_err}
 use Rattle.zf_stream.proofs.Restored.{blocks_behind, slab_restored, slab_spilled, slab_cut, slab_lacked, Restores-none}
 use Rattle.zf_stream.proofs.Slabwise.{with_shape, part_of, IsNext, next_here, next_whole}
-use Rattle.zf_dev.proofs.Devices.{Reads-none, Reads-more, Reads-then, Writes-none, Writes-more, Writes-then}
+use Rattle.zf_dev.proofs.Devices.{Reads-none, Reads-more, Writes-none, Writes-more}
 use Rattle.zf_stream.proofs.Rooms.{Stays-none, Stays-next, still_restores_all, restores_part}
 use Rattle.zf_stream.proofs.Failing.{Reads-ok, Writes-ok}
 use Rattle.zf_stream.proofs.restoring.restore_slabs.Goals as goal
@@ -43,15 +44,7 @@ slab_here h rows row all here first shape pieces whole all_is more here_is shape
     let upto_here = next_whole h row here next whole in
     let rest = blocks_behind ns (row + here) upto_here in
     let few : here ≤ rows = omega (arith, here_is) in
-    let count : product shape ≡ row_len ns * here = ap product shape_is ∙ product-with_rows here ns whole.some_axis in
-    record {
-      next = next;
-      number = number;
-      count = count;
-      within = omega (arith, count, mul-le-mul_left (row_len ns) few);
-      behind = behind;
-      fits = omega (arith, behind, rest.1);
-    }
+    let count : product shape ≡ row_len ns * here = ap product shape_is ∙ product-with_rows here ns whole.some_axis in search (rules, mul-le-mul_left)
 
 pub loop-row-init : goal.loop-row-init
 loop-row-init g c = record {
@@ -111,8 +104,7 @@ returns-in_err-write_stored-clause-err g c =
 pub overflow_add-first : goal.overflow_add-first
 overflow_add-first g c =
     let slab = slab_here c.args.h.now c.loop-row.room.rows c.loop-row.row c.rows_of-all.result c.min-here.result c.loop-row.first c.with_rows.result c.loop-row.invariant.room.rows c.loop-row.invariant.done.whole c.rows_of-all.ensures c.loop-row-test.true c.min-here.ensures c.with_rows.ensures c.loop-row.invariant.first in
-    let below : c.loop-row.first + c.blocks-first.result < 2 ^ 64 = omega (arith, slab.fits, c.blocks-first.ensures.value, c.blocks-blocks.ensures.value, c.blocks-blocks.ensures.bound) in
-    record { fits = below }
+    search rules
 
 pub loop-row-preserved : goal.loop-row-preserved
 loop-row-preserved g c =
@@ -143,14 +135,10 @@ loop-row-preserved g c =
     }
 
 pub returns-in_err-read_slab-clause-source : goal.returns-in_err-read_slab-clause-source
-returns-in_err-read_slab-clause-source g c =
-    let p = err_from_is_err_and c.from_residual.result c.from_residual.ensures.1 in
-    rw (p.1, p.2) (Reads-then c.loop-row.invariant.source c.in_err-read_slab.ensures.source)
+returns-in_err-read_slab-clause-source g c = search (rules, err_from_is_err_and)
 
 pub returns-in_err-write_stored-clause-sink : goal.returns-in_err-write_stored-clause-sink
-returns-in_err-write_stored-clause-sink g c =
-    let p = err_from_is_err_and c.from_residual-in_err-write_stored.result c.from_residual-in_err-write_stored.ensures.1 in
-    rw (p.1, p.2) (Writes-then c.loop-row.invariant.sink c.in_err-write_stored.ensures.sink.device)
+returns-in_err-write_stored-clause-sink g c = search (rules, err_from_is_err_and)
 
 pub returns-clause-source : goal.returns-clause-source
 returns-clause-source g c = Reads-ok tt c.loop-row.invariant.source

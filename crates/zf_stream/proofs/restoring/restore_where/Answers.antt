@@ -5,9 +5,7 @@ use Rattle.zf_stream.proofs.TypedAnswers.{where_unread, where_header, where_othe
 use Rattle.zf_stream.proofs.restoring.restore_where.Goals as goal
 
 pub returns-in_err-read-clause-outcome : goal.returns-in_err-read-clause-outcome
-returns-in_err-read-clause-outcome g c =
-    let p = err_from_is_err_and c.from_residual.result c.from_residual.ensures.1 in
-    rw (p.1, p.2) (where_unread c.args.wanted _ _ _ _ c.in_err-read.ensures.source.fault c.read_into.ensures.some)
+returns-in_err-read-clause-outcome g c = search (rules, err_from_is_err_and, where_unread)
 
 pub returns-in_err-header-clause-outcome : goal.returns-in_err-header-clause-outcome
 returns-in_err-header-clause-outcome g c =

@@ -1,3 +1,4 @@
+use Rattle.std.proofs.Common.{rules}
 use Rattle.std.proofs.Common.{◌≡◌, ℕ, ◌≤◌, List, [], ◌∷◌, length, get_or, take, refl, sym, subst, ◌∙◌, arith}
 use Rattle.zf_spec.specs.Grid.{IsShape}
 use Rattle.zf_pad.specs.Slabs.{with_rows}
@@ -24,7 +25,4 @@ unreachable-requires c =
     cc
 
 pub returns : goal.returns
-returns c =
-    c.in-Ok.ensures.sizes
-    ∙ sizes c.dims.result c.args.rows _ _ _ _ c.args.shape.now c.dims.ensures.value (omega (arith, c.dims.ensures.value, c.dims.ensures.shape.four_at_most))
-    c.size_with_rows.ensures c.size_with_rows-2.ensures c.size_with_rows-3.ensures c.size_with_rows-4.ensures
+returns c = search (rules, sizes)

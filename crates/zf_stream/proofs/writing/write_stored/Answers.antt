@@ -1,4 +1,5 @@
-use Rattle.std.proofs.Common.{◌≡◌, ℕ, ◌≤◌, ℤ, List, map, length, take, sym, ap, subst, ◌∙◌, arith}
+use Rattle.std.proofs.Common.{rules}
+use Rattle.std.proofs.Common.{◌≡◌, ℕ, ◌≤◌, ℤ, List, map, length, take, subst}
 use Rattle.std.proofs.lemmas.List.{take_all, take-map, length-map}
 use Rattle.std.specs.Prelude.{OnOk, OnErr}
 use Rattle.std.specs.Int.{Width}
@@ -11,7 +12,7 @@ use Rattle.zf_stream.proofs.OnErrors.{on_err}
 use Rattle.zf_stream.proofs.RawValues.{raw-append}
 use Rattle.zf_stream.proofs.Piecewise.{part_written, part_failed}
 use Rattle.zf_dev.proofs.Devices.{Writes-more}
-use Rattle.zf_stream.proofs.Failing.{WritesOnly-ok, WritesOnly-then}
+use Rattle.zf_stream.proofs.Failing.{WritesOnly-ok}
 use Rattle.std.proofs.lemmas.Result.{err_from_is_err_and}
 use Rattle.zf_stream.proofs.writing.write_stored.Goals as goal
 
@@ -35,23 +36,12 @@ loop-at-preserved g c =
     }
 
 pub returns-clause-ok : goal.returns-clause-ok
-returns-clause-ok g c =
-    let w = g.T.Lane.width in
-    let ns = c.args.shape.now in
-    let values = raster_of ns (map g.T.Lane.value c.args.stored.now) in
-    let from = g.O.Sink.contents c.args.out.now in
-    let to = g.O.Sink.contents c.loop-at.out in
-    let P : List ℤ → Type 0 = λ vs. Appends from to (raw w vs) in
-    let long : length values ≤ c.loop-at.at = omega (arith, length-raster_of ns (map g.T.Lane.value c.args.stored.now), c.loop-at-test.false, c.values-all.ensures.value) in
-    subst P (take_all c.loop-at.at values long) c.loop-at.invariant.written
+returns-clause-ok g c = search (rules, length-raster_of, take_all)
 
 -- in one dimension they stand in raster order
 in_order : {X : Type 0} (w : Width) (value : X → ℤ) (ns : List ℕ) (stored : List X) (dims all : ℕ) → dims ≡ length ns → dims ≡ 1 → all ≡ product ns → product ns ≤ length stored
     → raw w (map value (take all stored)) ≡ raw w (raster_of ns (map value stored))
-in_order w value ns stored dims all is one all_is within =
-    let vs = map value stored in
-    ap (raw w)
-    (sym (take-map value all stored) ∙ ap (λ k. take k vs) all_is ∙ sym (raster_of_one ns vs (sym is ∙ one) (omega (arith, length-map stored value, within))))
+in_order w value ns stored dims all is one all_is within = search (rules, take-map, raster_of_one, length-map)
 
 pub returns-then-dims-eq1-clause-ok : goal.returns-then-dims-eq1-clause-ok
 returns-then-dims-eq1-clause-ok g c =
@@ -66,9 +56,7 @@ returns-then-dims-eq1-clause-err g c =
     c.write_values.ensures.err
 
 pub returns-in_err-write_values-clause-sink : goal.returns-in_err-write_values-clause-sink
-returns-in_err-write_values-clause-sink g c =
-    let p = err_from_is_err_and c.from_residual.result c.from_residual.ensures.1 in
-    rw (p.1, p.2) (WritesOnly-then c.loop-at.invariant.sink c.in_err-write_values.ensures.sink)
+returns-in_err-write_values-clause-sink g c = search (rules, err_from_is_err_and)
 
 pub returns-clause-sink : goal.returns-clause-sink
 returns-clause-sink g c = WritesOnly-ok tt c.loop-at.invariant.sink

@@ -1,3 +1,4 @@
+use Rattle.std.proofs.Common.{rules}
 use Rattle.std.proofs.lemmas.Grind.{common_steps}
 use Rattle.std.proofs.Common.{◌≡◌, ℕ, ◌+◌, ◌-◌, ◌*◌, ◌/◌, ◌≤◌, ℤ, List, ◌++◌, map, length, take, drop, ap, subst, ◌∙◌, arith}
 use Rattle.std.proofs.lemmas.List.{take_at, length-take, map-append}
@@ -9,7 +10,7 @@ use Rattle.zf_stream.proofs.Piecewise.{part_written, part_failed}
 use Rattle.zf_stream.proofs.OnErrors.{on_err}
 use Rattle.zf_stream.proofs.RawValues.{raw-append}
 use Rattle.zf_dev.proofs.Devices.{Writes-more}
-use Rattle.zf_stream.proofs.Failing.{WritesOnly-ok, WritesOnly-then}
+use Rattle.zf_stream.proofs.Failing.{WritesOnly-ok}
 use Rattle.std.proofs.lemmas.Result.{err_from_is_err_and}
 use Rattle.zf_stream.proofs.writing.write_values.Goals as goal
 
@@ -56,9 +57,7 @@ loop-at-preserved g c =
     }
 
 pub returns-in_err-write_bytes-clause-sink : goal.returns-in_err-write_bytes-clause-sink
-returns-in_err-write_bytes-clause-sink g c =
-    let p = err_from_is_err_and c.from_residual.result c.from_residual.ensures.1 in
-    rw (p.1, p.2) (WritesOnly-then c.loop-at.invariant.sink c.in_err-write_bytes.ensures.sink)
+returns-in_err-write_bytes-clause-sink g c = search (rules, err_from_is_err_and)
 
 pub returns-clause-sink : goal.returns-clause-sink
 returns-clause-sink g c = WritesOnly-ok tt c.loop-at.invariant.sink

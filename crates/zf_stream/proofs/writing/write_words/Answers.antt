@@ -1,3 +1,4 @@
+use Rattle.std.proofs.Common.{rules}
 use Rattle.std.proofs.Common.{◌≡◌, ℕ, ◌+◌, ◌-◌, ◌*◌, ◌<◌, ◌^◌, List, ◌++◌, length, take, drop, ap, subst, ◌∙◌, arith}
 use Rattle.std.proofs.lemmas.List.{take_at, length-take}
 use Rattle.std.proofs.lemmas.List.Elements.{All-from_get_or}
@@ -8,7 +9,7 @@ use Rattle.zf_stream.proofs.Piecewise.{part_written, part_failed}
 use Rattle.zf_stream.specs.Flows.{bytes_in}
 use Rattle.zf_stream.proofs.OnErrors.{on_err}
 use Rattle.zf_dev.proofs.Devices.{Writes-more}
-use Rattle.zf_stream.proofs.Failing.{WritesOnly-ok, WritesOnly-then}
+use Rattle.zf_stream.proofs.Failing.{WritesOnly-ok}
 use Rattle.std.proofs.lemmas.Result.{err_from_is_err_and}
 use Rattle.zf_stream.proofs.writing.write_words.Goals as goal
 
@@ -49,9 +50,7 @@ pub returns-clause-words : goal.returns-clause-words
 returns-clause-words g c = All-from_get_or (λ v. v < 2 ^ 64) c.args.words.now 0 (λ i within. (c.type_inv.words i).fits)
 
 pub returns-in_err-write_bytes-clause-sink : goal.returns-in_err-write_bytes-clause-sink
-returns-in_err-write_bytes-clause-sink g c =
-    let p = err_from_is_err_and c.from_residual.result c.from_residual.ensures.1 in
-    rw (p.1, p.2) (WritesOnly-then c.loop-at.invariant.sink c.in_err-write_bytes.ensures.sink)
+returns-in_err-write_bytes-clause-sink g c = search (rules, err_from_is_err_and)
 
 pub returns-clause-sink : goal.returns-clause-sink
 returns-clause-sink g c = WritesOnly-ok tt c.loop-at.invariant.sink

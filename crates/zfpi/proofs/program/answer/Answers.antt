@@ -1,4 +1,5 @@
-use Rattle.std.proofs.Common.{map, string_bytes, refl}
+use Rattle.std.proofs.Common.{rules}
+use Rattle.std.proofs.Common.{map, string_bytes}
 use Rattle.zfpi.specs.Calls.{Fulfils}
 use Rattle.zfpi.proofs.Promises.{OfCommand-one, RefusesWords-of, OnUsage-of}
 use Rattle.zfpi.proofs.program.answer.Goals as goal
@@ -18,10 +19,4 @@ returns-in-Ok g c =
     }
 
 pub returns-in-Err : goal.returns-in-Err
-returns-in-Err g c = record {
-  usage = c.in-Err.ensures.usage;
-  untouched = (refl, refl, refl);
-  fulfils = λ d spelled. absurd (c.in-Err.ensures.usage.no_command d spelled);
-  sure_shelf = λ sure. ((λ is. cc), sure);
-  sent = λ flushed why. flushed;
-}
+returns-in-Err g c = search rules

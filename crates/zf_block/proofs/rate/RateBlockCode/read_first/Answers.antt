@@ -1,17 +1,16 @@
+use Rattle.std.proofs.Common.{rules}
 use Rattle.std.proofs.Common.{ℕ, ◌-◌, ◌∷◌, take, replicate, subst, arith}
 use Rattle.zf_spec.specs.Planes.{planes_of}
 use Rattle.zf_spec.specs.Kept.{kept_planes}
 use Rattle.zf_spec.specs.ReadPlanes.{planes_in}
 use Rattle.zf_coef.specs.HeldDigits.{digits_in}
-use Rattle.zf_bits.specs.Reader.{rest, Reads}
+use Rattle.zf_bits.specs.Reader.{rest}
 use Rattle.zf_block.specs.Block.{AreAbove}
 use Rattle.zf_block.proofs.FirstAlone.{rate_first}
 use Rattle.zf_block.proofs.rate.RateBlockCode.read_first.Goals as goal
 
 pub returns-clause-reads : goal.returns-clause-reads
-returns-clause-reads g c =
-    let Passed : ℕ → Type 0 = λ n. Reads c.args.reader.now c.skip.new.self (take n (rest c.args.reader.now)) in
-    record { whole = omega arith; passed = subst Passed c.from-bits.ensures c.skip.ensures }
+returns-clause-reads g c = search rules
 
 pub returns-clause-planes : goal.returns-clause-planes
 returns-clause-planes g c =

@@ -1,7 +1,7 @@
-use Rattle.std.proofs.Common.{◌≡◌, ◌-◌, false, ◌++◌, length, take, replicate, sym, ap, ◌∙◌, arith}
+use Rattle.std.proofs.Common.{rules}
+use Rattle.std.proofs.Common.{◌≡◌, ◌-◌, length, take, arith}
 use Rattle.std.proofs.lemmas.List.{take_all}
 use Rattle.zf_spec.specs.Planes.{planes_of, code}
-use Rattle.zf_spec.specs.ReadPlanes.{first_bits}
 use Rattle.zf_spec.proofs.PlaneDigits.{length-planes_of}
 use Rattle.zf_coef.specs.HeldDigits.{digits_in}
 use Rattle.zf_bits.proofs.Appending.{Appends-append, Appends-same}
@@ -17,8 +17,4 @@ returns g c =
     let whole : take width planes ≡ planes = take_all width planes (omega (arith, length-planes_of width (digits_in width c.args.digits.now))) in
     let left : budget - c.write_four-used.result ≡ budget - length bits = omega (arith, c.write_four-used.ensures.count) in
     Appends-same (Appends-append c.write_four-used.ensures.bits c.write_zeros.ensures)
-    (ap (λ n. take budget bits ++ replicate n false) left
-    ∙ ap (λ ps. take budget (code ps) ++ replicate (budget - length (code ps)) false) whole
-    ∙ sym (first_bits-take budget (code planes))
-    ∙ ap (λ n. first_bits n (code planes)) c.from-bits.ensures
-    ∙ ap (λ n. first_bits c.args.self.now.bits (code (planes_of n (digits_in n c.args.digits.now)))) c.WIDTH-width.ensures)
+    (search (rules, first_bits-take))

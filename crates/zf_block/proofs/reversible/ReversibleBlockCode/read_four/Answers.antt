@@ -1,7 +1,3 @@
-use Rattle.std.proofs.Common.{ℕ, List, Bool}
-use Rattle.zf_spec.specs.Planes.{planes_of}
-use Rattle.zf_coef.specs.HeldDigits.{digits_in}
-use Rattle.zf_block.specs.Block.{AreAbove}
 use Rattle.zf_block.proofs.ReadCodes.{planes-behind_count, passes-behind_count, lacks-behind_count, lacks-count}
 use Rattle.zf_block.proofs.reversible.ReversibleBlockCode.read_four.Goals as goal
 
@@ -15,7 +11,6 @@ returns-in-Some g c =
     let middle = c.read_count.new.reader in
     let count = c.in_ok-prec.ensures in
     let behind = c.in-Some.ensures.1 in
-    let Above : ℕ → List (List Bool) → Type 0 = λ n ps. AreAbove 4 ps (planes_of n (digits_in n c.read_uncut_four.new.digits)) in
     let planes = planes-behind_count w 4 prec c.args.reader.now middle count.value count.reads in
     (tt, (passes-behind_count w 4 prec c.args.reader.now middle count.value count.reads c.read_uncut_four.new.reader behind.0, rw (← planes, ← c.WIDTH.ensures) behind.1))
 

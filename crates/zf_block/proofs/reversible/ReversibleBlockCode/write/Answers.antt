@@ -1,4 +1,5 @@
-use Rattle.std.proofs.Common.{◌≡◌, ◌-◌, max, ◌++◌, map, take, sym, ap, ◌∙◌, arith}
+use Rattle.std.proofs.Common.{rules}
+use Rattle.std.proofs.Common.{◌≡◌, ◌-◌, max, ◌++◌, map, take, sym, ap, ◌∙◌}
 use Rattle.std.proofs.Math.Nat.{mul-le-mul_left}
 use Rattle.zf_spec.specs.Numbers.{field}
 use Rattle.zf_spec.specs.Planes.{needed_planes, code}
@@ -8,9 +9,7 @@ use Rattle.zf_bits.proofs.Appending.{Appends-append, Appends-same}
 use Rattle.zf_block.proofs.reversible.ReversibleBlockCode.write.Goals as goal
 
 pub write_uncut-requires-clause-fits : goal.write_uncut-requires-clause-fits
-write_uncut-requires-clause-fits g c =
-    let digits = mul-le-mul_left c.args.size c.write_count-prec.ensures.within in
-    omega (arith, c.requires.fits, c.write_count-prec.ensures.room)
+write_uncut-requires-clause-fits g c = search (rules, mul-le-mul_left)
 
 pub returns : goal.returns
 unfolding rev_of_planes

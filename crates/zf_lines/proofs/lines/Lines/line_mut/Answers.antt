@@ -5,8 +5,7 @@ use Rattle.zf_lines.proofs.lines.Lines.line_mut.Goals as goal
 pub overflow_mul-i : goal.overflow_mul-i
 overflow_mul-i g c =
     let s = c.self.inside in let h = c.self.invariant in let is = c.self.view_is in
-    let ends = line_ends s.base s.lines s.len s.cells s.deed s.alloc h c.args.self.now is c.args.i c.requires in let small = h.small.0 in
-    record { fits = omega arith }
+    let ends = line_ends s.base s.lines s.len s.cells s.deed s.alloc h c.args.self.now is c.args.i c.requires in record { fits = omega arith }
 
 pub slice_mut-requires : goal.slice_mut-requires
 slice_mut-requires g c =

@@ -5,14 +5,12 @@ use Rattle.zf_lines.proofs.lines.Lines.part_mut.Goals as goal
 pub overflow_mul-i : goal.overflow_mul-i
 overflow_mul-i g c =
     let s = c.self.inside in let h = c.self.invariant in let is = c.self.view_is in
-    let ends = part_ends s.base s.lines s.len s.cells s.deed s.alloc h c.args.self.now is c.args.i c.requires.line c.args.a c.args.n c.requires.within in let small = h.small.0 in
-    record { fits = omega arith }
+    let ends = part_ends s.base s.lines s.len s.cells s.deed s.alloc h c.args.self.now is c.args.i c.requires.line c.args.a c.args.n c.requires.within in record { fits = omega arith }
 
 pub overflow_add-i : goal.overflow_add-i
 overflow_add-i g c =
     let s = c.self.inside in let h = c.self.invariant in let is = c.self.view_is in
-    let ends = part_ends s.base s.lines s.len s.cells s.deed s.alloc h c.args.self.now is c.args.i c.requires.line c.args.a c.args.n c.requires.within in let small = h.small.0 in
-    record { fits = omega arith }
+    let ends = part_ends s.base s.lines s.len s.cells s.deed s.alloc h c.args.self.now is c.args.i c.requires.line c.args.a c.args.n c.requires.within in record { fits = omega arith }
 
 pub slice_mut-requires : goal.slice_mut-requires
 slice_mut-requires g c =

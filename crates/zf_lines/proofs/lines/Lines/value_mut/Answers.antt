@@ -9,14 +9,12 @@ use Rattle.zf_lines.proofs.lines.Lines.value_mut.Goals as goal
 pub overflow_mul-i : goal.overflow_mul-i
 overflow_mul-i g c =
     let s = c.self.inside in let h = c.self.invariant in let is = c.self.view_is in let one : c.args.a + 1 ≤ length (line_at c.args.self.now c.args.i) = omega (arith, c.requires.within) in
-    let ends = part_ends s.base s.lines s.len s.cells s.deed s.alloc h c.args.self.now is c.args.i c.requires.line c.args.a 1 one in let small = h.small.0 in
-    record { fits = omega arith }
+    let ends = part_ends s.base s.lines s.len s.cells s.deed s.alloc h c.args.self.now is c.args.i c.requires.line c.args.a 1 one in record { fits = omega arith }
 
 pub overflow_add-i : goal.overflow_add-i
 overflow_add-i g c =
     let s = c.self.inside in let h = c.self.invariant in let is = c.self.view_is in let one : c.args.a + 1 ≤ length (line_at c.args.self.now c.args.i) = omega (arith, c.requires.within) in
-    let ends = part_ends s.base s.lines s.len s.cells s.deed s.alloc h c.args.self.now is c.args.i c.requires.line c.args.a 1 one in let small = h.small.0 in
-    record { fits = omega arith }
+    let ends = part_ends s.base s.lines s.len s.cells s.deed s.alloc h c.args.self.now is c.args.i c.requires.line c.args.a 1 one in record { fits = omega arith }
 
 pub value_mut-requires : goal.value_mut-requires
 value_mut-requires g c =

@@ -1,3 +1,4 @@
+use Rattle.std.proofs.Common.{rules}
 use Rattle.std.proofs.Common.{length, replicate, refl, sym, ap, ◌∙◌, arith}
 use Rattle.std.proofs.lemmas.List.{take_more_set}
 use Rattle.zf_narrow.specs.Promoting.{listed}
@@ -16,13 +17,4 @@ returns-in-Some-clause-half c = record {
 }
 
 pub returns-in-None-clause-half : goal.returns-in-None-clause-half
-returns-in-None-clause-half c = record {
-  given_are = sym (ap (λ h. replicate (length (listed h)) 0) c.in-None.is);
-  count_is = sym (ap (λ h. length (listed h)) c.in-None.is);
-  spent = (λ is. absurd (c.requires.idle.unspent is), λ some. absurd (omega arith));
-  same_type = refl;
-  kept = refl;
-  all_given = c.requires.idle.all_given;
-  half = refl;
-  taken = refl;
-}
+returns-in-None-clause-half c = search rules

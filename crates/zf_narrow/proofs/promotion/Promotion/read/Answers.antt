@@ -1,15 +1,12 @@
 use Rattle.std.proofs.lemmas.Grind.{common_steps}
-use Rattle.std.proofs.Common.{rules, ◌≡◌, ap, length, take, [], arith}
+use Rattle.std.proofs.Common.{rules, ◌≡◌, ap, length, take, arith}
 use Rattle.zf_stream.proofs.OnErrors.{on_err}
 use Rattle.zf_narrow.specs.Promotions.{IsIdle}
 use Rattle.zf_narrow.proofs.Given.{gives_all, gives_half}
 use Rattle.zf_narrow.proofs.promotion.Promotion.read.Goals as goal
 
 pub returns-in_err-count-clause-ungiven : goal.returns-in_err-count-clause-ungiven
-returns-in_err-count-clause-ungiven g c =
-    let idle : IsIdle c.args.self.now = record { all_given = omega (arith, c.if-self-lt4.false, c.args.self.now.within); unspent = search rules } in
-    let four : length c.args.self.now.value ≡ 4 = search rules in
-    on_err c.from_residual.result _ (gives_all c.args.self.now c.read_values.new.self (g.S.Source.contents c.args.src.now) (g.S.Source.contents c.read_values.new.src) [] idle four c.in_err-count.ensures.err)
+returns-in_err-count-clause-ungiven g c = search (rules, on_err, gives_all)
 
 pub returns-then-count-eq0-clause-given : goal.returns-then-count-eq0-clause-given
 returns-then-count-eq0-clause-given g c =

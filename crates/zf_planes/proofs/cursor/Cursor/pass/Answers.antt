@@ -1,3 +1,4 @@
+use Rattle.std.proofs.Common.{rules}
 use Rattle.std.proofs.Common.{◌-◌, ◌/◌, ◌^◌, Bool, List, sym, subst, arith}
 use Rattle.zf_bits.specs.Reader.{rest}
 use Rattle.zf_planes.specs.Decoding.{IsWindow}
@@ -18,7 +19,4 @@ invariant_of-self c =
     record { window = subst P (sym (Takes-rest taken)) (window_passed (rest now.reader) now.left now.bits now.count n now.window c.requires.some c.requires.within) }
 
 pub returns-clause-taken : goal.returns-clause-taken
-returns-clause-taken c =
-    let now = c.args.self.now in
-    let there = window_long (rest now.reader) now.bits now.count now.window.bits in
-    Takes-skip now.left c.args.n (omega (arith, c.requires.within, now.window.within)) (omega (arith, c.requires.within, there)) c.skip.ensures
+returns-clause-taken c = search (rules, window_long)

@@ -1,9 +1,9 @@
-use Rattle.std.proofs.Common.{◌≡◌, ℕ, ◌+◌, ◌-◌, ◌/◌, ◌%◌, ◌^◌, ◌≤◌, Bool, false, List, ◌++◌, take, replicate, ap, ◌∙◌, arith}
+use Rattle.std.proofs.Common.{rules}
+use Rattle.std.proofs.Common.{◌≡◌, ℕ, ◌+◌, ◌-◌, ◌/◌, ◌%◌, ◌^◌, ◌≤◌, Bool, false, List, ◌++◌, replicate, ap, ◌∙◌, arith}
 use Rattle.std.proofs.lemmas.Nat.{mod_below, pow_pos}
 use Rattle.std.proofs.Math.Nat.{div-eq_of_lt}
 use Rattle.zf_spec.specs.Numbers.{field}
 use Rattle.zf_spec.proofs.Fields.{field-add, field-mod, field-zero}
-use Rattle.zf_bits.specs.Reader.{rest}
 use Rattle.zf_planes.proofs.Digits.{masked}
 use Rattle.zf_planes.proofs.Peeking.{window_prefix}
 use Rattle.zf_planes.proofs.cursor.Cursor.read_word.Goals as goal
@@ -31,9 +31,4 @@ pub returns-clause-taken : goal.returns-clause-taken
 returns-clause-taken c = rw (c.sees.ensures.left, c.sees.ensures.reader) at c.pass.ensures.taken
 
 pub returns-clause-digits : goal.returns-clause-digits
-returns-clause-digits c =
-    let seen = c.sees.new.self in
-    ap (field 64) (masked seen.bits c.args.n c.requires.in_word)
-    ∙ low_field seen.bits c.args.n c.requires.in_word
-    ∙ ap (λ (bs : List Bool). bs ++ replicate (64 - c.args.n) false) (window_prefix (rest seen.reader) seen.bits seen.count c.args.n seen.window.bits (c.sees.ensures.there c.if-not-sees.false))
-    ∙ ap (λ r. take c.args.n (rest r) ++ replicate (64 - c.args.n) false) c.sees.ensures.reader
+returns-clause-digits c = search (rules, masked, low_field, window_prefix)

@@ -1,8 +1,7 @@
-use Rattle.std.proofs.Common.{◌≡◌, subst, ◌∙◌, pos, get_or, lit<}
-use Rattle.std.specs.Bool.{OnTrue}
+use Rattle.std.proofs.Common.{◌∙◌, lit<, rules}
 use Rattle.zf_cached.specs.Acts.{Act}
-use Rattle.zf_private.specs.Standing.{block_at, place_at, state}
-use Rattle.zf_cache.specs.Standing.{state_of, values_of}
+use Rattle.zf_private.specs.Standing.{block_at, place_at}
+use Rattle.zf_cache.specs.Standing.{state_of}
 use Rattle.zf_private.proofs.Calls.{backed_at, exists_there, answer_is, acts_at, does}
 use Rattle.zf_private.proofs.Others.{acted-get}
 use Rattle.zf_private.proofs.private.Private.get.Goals as goal
@@ -29,12 +28,4 @@ pub invariant_of-self : goal.invariant_of-self
 invariant_of-self g c = (returns-clause-does g c).whole
 
 pub returns-clause-value : goal.returns-clause-value
-returns-clause-value g c =
-    let f = g.B.Reading.format c.args.back.now in let k = g.B.Reading.codes c.args.back.now in let value = g.T.Lane.value in let w = g.T.Lane.width in let d = g.row.D in
-    let now = c.args.self.now in let is = c.self.view_is in let whole = c.self.invariant in
-    let p = c.args.p in let b = c.place-b.result.0 in let place = c.place-b.result.1 in let e = c.place-b.ensures in let sits = c.requires.sits in
-    let h = g.B.Reading.format c.get.new.back in let j = g.B.Reading.codes c.get.new.back in let new = c.get.new.self in
-    let exists = exists_there value w d _ now is whole f k p b place e.block e.place e.at sits.places sits.owned in
-    let read : value c.get.result ≡ get_or (values_of value new h j b) place (pos 0) =
-    subst (λ t. OnTrue t (value c.get.result ≡ get_or (values_of value new h j b) place (pos 0))) exists c.get.ensures.value in
-    answer_is value w d _ now is whole f k p b place e.block e.place e.at new h j (value c.get.result) read
+returns-clause-value g c = search (rules, exists_there, answer_is)

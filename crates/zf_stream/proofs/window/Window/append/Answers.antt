@@ -30,12 +30,7 @@ returns-clause-ok g c =
     let whole : w.bits ≡ 64 * held = omega (arith, c.self.invariant.whole (ap (λ v. v.ended) c.self.view_is ∙ c.requires.going)) in
     let size : w.bits + 8 * count ≡ 64 * held + 8 * length bytes = omega (arith, whole, long) in
     let room = with_items_is w.words new (search (rules, places)) in
-    let all : take (w.bits + 8 * count) (word_bits (with_items w.words new).items) ≡ c.args.self.now.reader.all ++ to_bits bytes =
-    ap (λ ws. take (w.bits + 8 * count) (word_bits ws)) room
-    ∙ ap (λ n. take n (word_bits new)) size ∙ c.put_words_at.ensures.bits
-    ∙ ap (λ ws. take (64 * held) (word_bits ws) ++ to_bits bytes) c.deref_mut.ensures.value
-    ∙ ap (λ n. take n (word_bits words) ++ to_bits bytes) (sym whole)
-    ∙ ap (λ v. v.reader.all ++ to_bits bytes) c.self.view_is in
+    let all : take (w.bits + 8 * count) (word_bits (with_items w.words new).items) ≡ c.args.self.now.reader.all ++ to_bits bytes = search rules in
     Refills-put from to c.args.self.now _ bytes (subst Taken (sym (take-append-le count buf rest within)) c.in_ok-count.ensures.first.taken) all
     (ap (λ v. v.reader.at) c.self.view_is)
     (omega (arith, c.self.invariant.at_within, ap (λ v. v.reader.at) c.self.view_is, ap (λ v. length v.reader.all) c.self.view_is, length-reader_of words w.bits w.at c.self.invariant.within))

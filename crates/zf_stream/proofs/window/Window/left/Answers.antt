@@ -1,12 +1,10 @@
-use Rattle.std.proofs.Common.{length, ap, sym, ◌∙◌, arith}
+use Rattle.std.proofs.Common.{rules}
+use Rattle.std.proofs.Common.{length, ap, arith}
 use Rattle.zf_bits.proofs.Reading.{length-rest, length-reader_of}
-use Rattle.zf_stream.specs.Windows.{left_of}
 use Rattle.zf_stream.proofs.window.Window.left.Goals as goal
 
 pub returns-clause-count : goal.returns-clause-count
-returns-clause-count c =
-    let w = c.self.inside in
-    sym (length-rest w.words.items w.bits w.at c.self.invariant.within) ∙ ap (λ v. length (left_of v)) c.self.view_is
+returns-clause-count c = search (rules, length-rest)
 
 pub returns-clause-within : goal.returns-clause-within
 returns-clause-within c =

@@ -1,10 +1,11 @@
+use Rattle.std.proofs.Common.{rules}
 use Rattle.std.proofs.Common.{sym, ◌∙◌, arith}
 use Rattle.zf_dev.proofs.Taking.{Takes-append}
 use Rattle.zf_stream.proofs.OnErrors.{on_err}
 use Rattle.zf_stream.proofs.Windows.{Refills-next, Refills-moved}
 use Rattle.zf_dev.proofs.Devices.{Reads-none, Reads-more}
 use Rattle.std.proofs.lemmas.Result.{err_from_is_err_and}
-use Rattle.zf_stream.proofs.Failing.{ReadsOnly-ok, ReadsOnly-then}
+use Rattle.zf_stream.proofs.Failing.{ReadsOnly-ok}
 use Rattle.zf_stream.proofs.window.Window.refill.Goals as goal
 
 pub loop-self-init : goal.loop-self-init
@@ -29,9 +30,7 @@ returns-in_err-append-clause-taken g c =
     on_err c.from_residual.result _ (_, Takes-append _ _ _ _ _ c.loop-self.invariant.refills.goes.taken more.1)
 
 pub returns-in_err-append-clause-source : goal.returns-in_err-append-clause-source
-returns-in_err-append-clause-source g c =
-    let p = err_from_is_err_and c.from_residual.result c.from_residual.ensures.1 in
-    rw (p.1, p.2) (ReadsOnly-then c.loop-self.invariant.source c.in_err-append.ensures.source)
+returns-in_err-append-clause-source g c = search (rules, err_from_is_err_and)
 
 pub returns-else-not-self-clause-source : goal.returns-else-not-self-clause-source
 returns-else-not-self-clause-source g c = ReadsOnly-ok tt c.loop-self.invariant.source

@@ -1,9 +1,10 @@
-use Rattle.std.proofs.Common.{refl, ap, Err, sym, subst}
+use Rattle.std.proofs.Common.{rules}
+use Rattle.std.proofs.Common.{refl, sym, subst}
 use Rattle.zfpi.specs.declared.command.Command.TheVariants.{Bound}
 use Rattle.zfpi.specs.Opened.{array_in}
 use Rattle.zfpi.specs.Loaded.{HoldsFile}
 use Rattle.zfpi.proofs.Causes.{HasCauses-unloaded}
-use Rattle.zfpi.proofs.Stepping.{Steps-loaded, Steps-unloaded}
+use Rattle.zfpi.proofs.Stepping.{Steps-loaded}
 use Rattle.zfpi.proofs.Loading.{Behaves-unloaded}
 use Rattle.zfpi.proofs.Certifying.{IsLoading-bound}
 use Rattle.zfpi.proofs.HandedOn.{unloaded_status}
@@ -33,14 +34,10 @@ pub returns-in-Err-clause-causes : goal.returns-in-Err-clause-causes
 returns-in-Err-clause-causes g c = λ src. rw c.from.ensures (HasCauses-unloaded (Bound c.args.name.now c.args.most) c.in-Err.error src _)
 
 pub returns-in-Err-clause-steps : goal.returns-in-Err-clause-steps
-returns-in-Err-clause-steps g c =
-    rw c.from.ensures (Steps-unloaded g.F.Shelf.loads g.F.Shelf.saves g.F.Shelf.faults (Bound c.args.name.now c.args.most) c.in-Err.error _ _ refl c.load.ensures.step
-    (c.in-Err.ensures.cause.0, λ is. c.in-Err.ensures.cause.1 (ap Err is)))
+returns-in-Err-clause-steps g c = search rules
 
 pub returns-in-Ok-clause-sure_shelf : goal.returns-in-Ok-clause-sure_shelf
 returns-in-Ok-clause-sure_shelf g c = λ sure. (c.bound_file.ensures.shelfless.no_load, (c.load.ensures.sure sure).1)
 
 pub returns-in-Err-clause-sure_shelf : goal.returns-in-Err-clause-sure_shelf
-returns-in-Err-clause-sure_shelf g c = λ sure.
-    let loaded = c.in-Err.ensures.sure sure in
-    rw c.from.ensures (unloaded_status c.in-Err.error (λ is. loaded.0 (ap Err is)), loaded.1)
+returns-in-Err-clause-sure_shelf g c = search (rules, unloaded_status)

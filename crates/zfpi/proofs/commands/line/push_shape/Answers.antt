@@ -1,4 +1,5 @@
-use Rattle.std.proofs.Common.{◌++◌, ◌∷◌, [], decimal, take, ap, ◌∙◌, arith, append_assoc}
+use Rattle.std.proofs.Common.{rules}
+use Rattle.std.proofs.Common.{◌++◌, ◌∷◌, [], decimal, take, ap, ◌∙◌, append_assoc}
 use Rattle.zfpi.specs.Words.{shape_word}
 use Rattle.zfpi.proofs.ShapeWords.{shape_word_more}
 use Rattle.zfpi.proofs.commands.line.push_shape.Goals as goal
@@ -14,7 +15,4 @@ loop-axis-preserved c =
     ∙ (append_assoc c.loop-axis.line.bytes (120 ∷ []) digits
     ∙ (ap (λ prefix. prefix ++ 120 ∷ digits) c.loop-axis.invariant.text
     ∙ ap (λ n. (start ++ shape_word (take at ns)) ++ 120 ∷ decimal n) c.size-in-loop-axis.ensures))) in
-    record {
-      text = shape_word_more ns c.push_number-in-loop-axis.new.line.bytes start at (omega arith) (omega arith) text;
-      len = omega (arith, c.loop-axis.invariant.len, c.push_str.ensures.len, c.push_number-in-loop-axis.ensures.len);
-    }
+    search (rules, shape_word_more)

@@ -1,5 +1,6 @@
+use Rattle.std.proofs.Common.{rules}
 use Rattle.std.proofs.Common.{refl, ◌∙◌}
-use Rattle.zfpi.specs.declared.status.Status.TheVariants.{Done, LoadFault, SaveFault, Memory}
+use Rattle.zfpi.specs.declared.status.Status.TheVariants.{LoadFault, SaveFault, Memory}
 use Rattle.zfpi.proofs.Statuses.{differ}
 use Rattle.zfpi.proofs.Making.{Behaves-saved, Behaves-unsaved, Behaves-starved}
 use Rattle.zfpi.proofs.commands.new.new.Goals as goal
@@ -18,18 +19,10 @@ pub returns-clause-behaves : goal.returns-clause-behaves
 returns-clause-behaves g c = λ src out. Behaves-starved c.args.name.now c.args.ty c.args.shape c.args.bits src out _
 
 pub returns-in-Ok-save-clause-steps : goal.returns-in-Ok-save-clause-steps
-returns-in-Ok-save-clause-steps g c = record {
-  loaded = c.args.shelf.now;
-  load = (refl, λ is. absurd (differ Done LoadFault refl is));
-  save = (c.save.ensures.step, (c.save.ensures.cause.0, λ is. absurd (differ Done SaveFault refl is)));
-}
+returns-in-Ok-save-clause-steps g c = search (rules, differ)
 
 pub returns-in-Ok-clause-steps : goal.returns-in-Ok-clause-steps
-returns-in-Ok-clause-steps g c = record {
-  loaded = c.args.shelf.now;
-  load = (refl, λ is. absurd (differ SaveFault LoadFault refl is));
-  save = (c.save.ensures.step, (c.save.ensures.cause.0, λ is. c.in-Err-save.ensures.cause.1 refl));
-}
+returns-in-Ok-clause-steps g c = search (rules, differ)
 
 pub returns-clause-steps : goal.returns-clause-steps
 returns-clause-steps g c = record { loaded = c.args.shelf.now; load = (refl, λ is. absurd (differ Memory LoadFault refl is)); save = (refl, λ is. absurd (differ Memory SaveFault refl is)) }

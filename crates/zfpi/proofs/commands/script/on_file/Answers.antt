@@ -1,17 +1,11 @@
+use Rattle.std.proofs.Common.{rules}
 use Rattle.std.proofs.Common.{sym, ◌∙◌}
 use Rattle.zfpi.specs.declared.status.Status.TheVariants.{Header, NotRate}
-use Rattle.zfpi.proofs.Rungs.{IsRefused-header, IsRefused-mode, Admits-mode, WorksOn-refused}
+use Rattle.zfpi.proofs.Rungs.{IsRefused-header, IsRefused-mode, WorksOn-refused}
 use Rattle.zfpi.proofs.commands.script.on_file.Goals as goal
 
 pub on_header-requires : goal.on_header-requires
-on_header-requires g c =
-    let good = rw c.deref.ensures.value at c.in-Ok.ensures.fault in
-    let fields = rw c.deref.ensures.value at c.in-Ok.ensures.fields in
-    record {
-      lines = c.requires;
-      header = record { good = sym good; header = fields };
-      mode = Admits-mode c.args.access c.in-Ok.header.mode c.in-Ok.ensures.header.mode (sym c.may_access.ensures ∙ c.if-may_access.true);
-    }
+on_header-requires g c = search rules
 
 pub returns-else-may_access : goal.returns-else-may_access
 returns-else-may_access g c =

@@ -1,25 +1,16 @@
+use Rattle.std.proofs.Common.{rules}
 use Rattle.std.proofs.Common.{ap, Err}
 use Rattle.zfpi.specs.Accesses.{command_on, reading_of}
 use Rattle.zfpi.proofs.Causes.{HasCauses-unloaded}
 use Rattle.zfpi.proofs.Stopping.{StopsAtEnd-same}
-use Rattle.zfpi.proofs.Stepping.{Steps-saved, Steps-unloaded}
+use Rattle.zfpi.proofs.Stepping.{Steps-unloaded}
 use Rattle.zfpi.proofs.Loading.{Behaves-unloaded}
 use Rattle.zfpi.proofs.Scripting.{IsScripted-on, loads-on}
 use Rattle.zfpi.proofs.HandedOn.{unloaded_status}
 use Rattle.zfpi.proofs.commands.script.script.Goals as goal
 
 pub returns-in-Ok : goal.returns-in-Ok
-returns-in-Ok g c =
-    let held = rw c.as_str.ensures at c.in-Ok.ensures.ok in
-    let worked = c.on_file.ensures in
-    record {
-      behaves = worked.behaves (g.F.Shelf.files c.args.shelf.now) (record { held = held; size = c.in-Ok.ensures.bound }) c.load.ensures.files_stay;
-      causes = worked.causes;
-      stops = worked.stops;
-      steps = Steps-saved g.F.Shelf.loads g.F.Shelf.saves g.F.Shelf.faults (command_on c.args.access c.args.name.now) c.on_file.result c.args.shelf.now c.load.new.self _ (loads-on c.args.access c.args.name.now) c.load.ensures.step c.load.ensures.cause.0 worked.once;
-      sure_shelf = λ sure. (worked.once.no_load, worked.still (c.load.ensures.sure sure).1);
-      sent = worked.sent;
-    }
+returns-in-Ok g c = search (rules, loads-on)
 
 pub returns-in-Err : goal.returns-in-Err
 returns-in-Err g c =

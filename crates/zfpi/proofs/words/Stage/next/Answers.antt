@@ -1,7 +1,8 @@
+use Rattle.std.proofs.Common.{rules}
 use Rattle.std.proofs.Common.{◌≡◌, ◌++◌, ◌∷◌, [], None, ap, sym, subst, ◌∙◌}
 use Rattle.zfpi.specs.Stages.{script_word, LeadsTo}
 use Rattle.zfpi.proofs.Completed.{IsSpelled-script}
-use Rattle.zfpi.proofs.CommandWords.{IsRateWord-begun, IsRateWord-begun_new, IsPrecisionWord-begun, IsLinesWord-begun, IsLinesWord-begun_twoway}
+use Rattle.zfpi.proofs.CommandWords.{IsRateWord-begun, IsRateWord-begun_new}
 use Rattle.zfpi.proofs.words.Stage.next.Goals as goal
 
 pub returns-in_err-rate_in-in-AtRate-clause-none : goal.returns-in_err-rate_in-in-AtRate-clause-none
@@ -21,24 +22,13 @@ returns-in_err-bits-in-NamedShaped-clause-none c =
     c.in_err-bits-in-NamedShaped.ensures.none rate.0 rate.1)
 
 pub returns-in_err-precision_in-in-AtPrecision-clause-none : goal.returns-in_err-precision_in-in-AtPrecision-clause-none
-returns-in_err-precision_in-in-AtPrecision-clause-none c =
-    rw c.from_residual-in_err-precision_in-in-AtPrecision.ensures (λ words leads begins.
-    let planes = IsPrecisionWord-begun c.in-AtPrecision.task words c.in-AtPrecision.ty c.in-AtPrecision.shape c.args.word.now (subst (LeadsTo words) c.in-AtPrecision.is leads) begins in
-    c.in_err-precision_in-in-AtPrecision.ensures.none planes.0 planes.1)
+returns-in_err-precision_in-in-AtPrecision-clause-none c = search rules
 
 pub returns-in_err-lines_in-in-AtLines-clause-none : goal.returns-in_err-lines_in-in-AtLines-clause-none
-returns-in_err-lines_in-in-AtLines-clause-none c =
-    rw c.from_residual-in_err-lines_in-in-AtLines.ensures (λ words leads begins.
-    let led = subst (LeadsTo words) c.in-AtLines.is leads in
-    let lines = IsLinesWord-begun c.in-AtLines.script c.in-AtLines.name words c.args.word.now led.1 begins in
-    c.in_err-lines_in-in-AtLines.ensures.none lines.0 lines.1)
+returns-in_err-lines_in-in-AtLines-clause-none c = search rules
 
 pub returns-in_err-lines_in-in-AtTwoWay-clause-none : goal.returns-in_err-lines_in-in-AtTwoWay-clause-none
-returns-in_err-lines_in-in-AtTwoWay-clause-none c =
-    rw c.from_residual-in_err-lines_in-in-AtTwoWay.ensures (λ words leads begins.
-    let led = subst (LeadsTo words) c.in-AtTwoWay.is leads in
-    let lines = IsLinesWord-begun_twoway c.in-AtTwoWay.name words c.args.word.now led.1 begins in
-    c.in_err-lines_in-in-AtTwoWay.ensures.none lines.0 lines.1)
+returns-in_err-lines_in-in-AtTwoWay-clause-none c = search rules
 
 pub returns-in-Whole-clause-none : goal.returns-in-Whole-clause-none
 returns-in-Whole-clause-none c = rw c.in-Whole.is c.behind_whole.ensures.none

@@ -1,19 +1,14 @@
+use Rattle.std.proofs.Common.{rules}
 use Rattle.std.proofs.Common.{◌≢◌, get_or, lit<}
 use Rattle.std.proofs.lemmas.Str.Pattern.{starts_char}
 use Rattle.zfpi.proofs.Decimals.{decimal_no_plus, decimal_no_zero, parsed_some, parsed_none, zero_alone}
 use Rattle.zfpi.proofs.words.numbers.number_in.Goals as goal
 
 pub returns-then-starts_with-clause-none : goal.returns-then-starts_with-clause-none
-returns-then-starts_with-clause-none c =
-    let word = c.args.word.now in
-    let plus = starts_char 43 word c.starts_with.result c.starts_with.ensures.cases (lit< tt) (lit< tt) in
-    λ n small is. decimal_no_plus word n small is (plus.0 c.if-starts_with.true)
+returns-then-starts_with-clause-none c = search (rules, starts_char, decimal_no_plus)
 
 pub returns-then-word-gt1-clause-none : goal.returns-then-word-gt1-clause-none
-returns-then-word-gt1-clause-none c =
-    let word = c.args.word.now in
-    let zero = starts_char 48 word c.starts_with-2.result c.starts_with-2.ensures.cases (lit< tt) (lit< tt) in
-    λ n small is. decimal_no_zero word n small is (zero.0 c.if-starts_with-2.true) c.if-word-gt1.true
+returns-then-word-gt1-clause-none c = search (rules, starts_char, decimal_no_zero)
 
 pub returns-clause-number : goal.returns-clause-number
 returns-clause-number c =

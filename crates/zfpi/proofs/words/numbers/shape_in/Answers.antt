@@ -1,4 +1,5 @@
-use Rattle.std.proofs.Common.{◌≡◌, ◌<◌, ◌^◌, ◌↔◌, ◌∷◌, [], length, get_or, take, map, IsOk, IfOk, ap, sym, subst, ◌∙◌, arith, length-append, length-set, decimal}
+use Rattle.std.proofs.Common.{rules}
+use Rattle.std.proofs.Common.{◌≡◌, ◌<◌, ◌^◌, ◌↔◌, ◌∷◌, [], get_or, take, map, IsOk, IfOk, ap, sym, subst, ◌∙◌, arith, length-append, length-set, decimal}
 use Rattle.std.proofs.lemmas.Iterator.Consumers.{YieldsList-turn, YieldsList-end}
 use Rattle.zf_spec.specs.Grid.{IsShape}
 use Rattle.zfpi.proofs.ShapeWords.{parts_of, YieldsList-parts, four_parts, some_part, part_is_number, sizes_more, texts_more, shape_some, shape_none}
@@ -17,9 +18,7 @@ returns-in_err-sizes-clause-none c =
     let word = c.args.word.now in
     let split = c.split-part-items in
     let turn = YieldsList-turn (YieldsList-parts word split.result c.into_iter-part-iterator.ensures.into_iter_gives split.ensures.text split.ensures.has_more split.ensures.pattern) c.loop-part.yielded _ c.loop-part.yielded_by _ _ c.in-Some.part c.in-Some.is c.next.ensures.steps in
-    rw c.from_residual.ensures (λ ns shape is.
-    let number = part_is_number word ns c.in-Some.part.now (length c.loop-part.yielded) shape is turn.0 turn.1 in
-    c.in_err-sizes.ensures.none number.0 number.1 number.2)
+    rw c.from_residual.ensures (search (rules, part_is_number))
 
 pub loop-part-preserved : goal.loop-part-preserved
 loop-part-preserved c =
@@ -38,10 +37,7 @@ new-requires c =
     let word = c.args.word.now in
     let split = c.split-part-items in
     let end = YieldsList-end (YieldsList-parts word split.result c.into_iter-part-iterator.ensures.into_iter_gives split.ensures.text split.ensures.has_more split.ensures.pattern) c.loop-part.yielded _ c.loop-part.yielded_by _ _ c.in-None.is c.next.ensures.steps in
-    record {
-      one_at_least = omega (arith, end.1, some_part word, c.loop-part.invariant.count);
-      four_at_most = c.loop-part.invariant.four_at_most;
-    }
+    search (rules, some_part)
 
 pub returns-clause-shape : goal.returns-clause-shape
 returns-clause-shape c =
