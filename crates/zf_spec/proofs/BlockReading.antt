@@ -52,10 +52,11 @@ read_rev-rev w es block more narrow ok fits =
     let read = read_rev-planes w es qs more (omega (arith, count))
     (omega (arith, count, few, count_bits_hold w narrow))
     (All-take (λ ds. length ds ≡ 4 ^ length es) p ps (planes-length w d c)) in
-    cc (coefficients_of-needed_planes w d c (length-lorenzo w d (pad es block))
-    (lorenzo_fits w d (pad es block)),
-    unlorenzo-lorenzo w d (pad es block) (length-pad es block) (pad_fits w es block fits),
-    existing_values-pad es block ok, length-append (field n (p - 1)) (code qs), length-field n (p - 1))
+    let padded = pad es block in
+    let back = coefficients_of-needed_planes w d c (length-lorenzo w d padded) (lorenzo_fits w d padded) in
+    let undone = unlorenzo-lorenzo w d padded (length-pad es block) (pad_fits w es block fits) in
+    let long = length-append (field n (p - 1)) (code qs) in
+    cc (existing_values-pad es block ok, length-field n (p - 1))
 
 -- reading a rate code gives what the rate makes of the block
 pub read_rate-rate : (w : Width) (budget : ℕ) (es : List ℕ) (block : List ℤ) → read_rate w es (rate w budget es block) ≡ round w budget es block
@@ -64,8 +65,9 @@ read_rate-rate w budget es block =
     let d = length es in
     let c = lift w d (pad es block) in
     let ps = planes w d c in
-    cc (length-first_bits budget (code ps), length-planes w d c,
-    kept_planes-planes_in (4 ^ d) budget ps (one-le-pow d 4 (omega arith)) (planes-length w d c))
+    let some = one-le-pow d 4 (omega arith) in
+    let kept = kept_planes-planes_in (4 ^ d) budget ps some (planes-length w d c) in
+    cc (length-first_bits budget (code ps), length-planes w d c)
 
 -- reading a precision code gives what the precision makes of the block, whatever comes after, with the length of the code
 pub read_prec-prec : (w : Width) (p : ℕ) (es : List ℕ) (block : List ℤ) (more : List Bool) → read_prec w p es (prec w p es block ++ more) ≡ Some (round_prec w p es block, length (prec w p es block))
@@ -90,8 +92,8 @@ length-prec-le w p es block =
     let few : length (take (min p (bits w)) ps) ≤ bits w = omega (arith, length-take (min p (bits w)) ps) in
     let sizes = All-take (λ ds. length ds ≡ 4 ^ length es) (min p (bits w)) ps
     (planes-length w (length es) _) in
-    omega (arith, length-code-le (4 ^ length es) (take (min p (bits w)) ps) sizes,
-    mul-le-mul_left (4 ^ length es) few)
+    let bound = length-code-le (4 ^ length es) (take (min p (bits w)) ps) sizes in
+    omega (arith, mul-le-mul_left (4 ^ length es) few)
 
 pub length-rate : (w : Width) (budget : ℕ) (es : List ℕ) (block : List ℤ) → length (rate w budget es block) ≡ budget
 unfolding rate

@@ -59,10 +59,10 @@ plane_same n r a b rest more l h fits e =
     let s = plane_code n b ++ more in
     let k = length c in
     let begins : c ≡ first_bits k s =
-    cc (first_bits-all c rest, first_bits-first_bits k r (c ++ rest) fits,
-    first_bits-first_bits k r s fits) in
-    cc (full_plane_only n a s h (begins_from_first c s begins),
-    full_plane_only n b s (omega arith) (begins_itself (plane_code n b) more))
+    let same = first_bits-first_bits k r (c ++ rest) fits in
+    cc (first_bits-all c rest, first_bits-first_bits k r s fits) in
+    let only = full_plane_only n b s (omega arith) (begins_itself (plane_code n b) more) in
+    cc (full_plane_only n a s h (begins_from_first c s begins))
 
 -- of a plane whose code is cut as much is kept as the bits tell
 cut_same : (n r : ℕ) (a b rest more : List Bool) → length a ≡ length b → n ≤ length a → r < length (plane_code n a) → r < length (plane_code n b)
@@ -78,9 +78,9 @@ cut_same n r a b rest more l h cut_a cut_b e =
     ∙ take-take k n ds f in
     let prefixes : (k : ℕ) → k ≤ n → k ≤ r → take k a ≡ take k b =
     λ k f g.
-    cc (of_prefix k a rest f h, of_prefix k b more f (omega arith),
-    first_bits-first_bits k r (plane_code n a ++ rest) g,
-    first_bits-first_bits k r (plane_code n b ++ more) g) in
+    let of_a = first_bits-first_bits k r (plane_code n a ++ rest) g in
+    let of_b = first_bits-first_bits k r (plane_code n b ++ more) g in
+    cc (of_prefix k a rest f h, of_prefix k b more f (omega arith)) in
     let prefix = prefixes q (omega arith) (omega arith) in
     let middle = zeros_same (drop q (take n a)) (drop q (take n b))
     (omega (arith, length-drop q (take n a), length-drop q (take n b), length-take n a, length-take n b)) in
@@ -159,9 +159,9 @@ kept_from_same size n r (a ∷ ps) (b ∷ qs) some h l f g e =
     let plane = cut_same n r a b rest_a rest_b (length_a ∙ sym length_b)
     (omega (arith, length_a)) cut_a cut_b e in
     let count : length ps ≡ length qs = omega arith in
-    cc (kept_cut r n a cut_a, kept_cut r n b cut_b,
-    kept_planes_from-none size (max n (reach a)) ps some sizes,
-    kept_planes_from-none size (max n (reach b)) qs some others))
+    let below_a = kept_planes_from-none size (max n (reach a)) ps some sizes in
+    let below_b = kept_planes_from-none size (max n (reach b)) qs some others in
+    cc (kept_cut r n a cut_a, kept_cut r n b cut_b))
     (λ (fits : length d ≤ r).
     let same =
     sym (plane_same n r b a rest_b rest_a (length_b ∙ sym length_a) (omega (arith, length_b)) fits (sym e)) in

@@ -77,8 +77,8 @@ digits_at-planes_of w coefficients r l =
     let h : i < w = omega (arith, s, e) in
     let back : w - 1 - (w - 1 - i) ≡ i = omega arith in
     let at = get_or-planes_of w coefficients (w - 1 - i) (omega arith) in
-    cc (get_or-digits_at w (planes_of w coefficients) r i h,
-    get_or-plane (w - 1 - (w - 1 - i)) coefficients r))
+    let there = get_or-plane (w - 1 - (w - 1 - i)) coefficients r in
+    cc (get_or-digits_at w (planes_of w coefficients) r i h))
 
 -- planes that have no one may be missing at the end
 pub digits_at-take : (w n : ℕ) (planes : List (List Bool)) (r : ℕ) → needed_planes planes ≤ n → digits_at w (take n planes) r ≡ digits_at w planes r
@@ -138,9 +138,8 @@ planes-coefficients_of w d ps few all =
     let vs = values_by_rank w d ps in
     let cs = map (digits (bits w)) vs in
     let missing = replicate (bits w - length ps) (replicate (4 ^ d) false) in
-    let whole : length (ps ++ missing) ≡ bits w =
-    omega (arith, length-append ps missing,
-    length-replicate (bits w - length ps) (replicate (4 ^ d) false)) in
+    let count = length-replicate (bits w - length ps) (replicate (4 ^ d) false) in
+    let whole : length (ps ++ missing) ≡ bits w = omega (arith, length-append ps missing) in
     let length-cs : length cs ≡ 4 ^ d = length-map vs (digits (bits w)) ∙ length-values_by_rank w d ps in
     let digit_at : (k r : ℕ) → k < bits w → r < 4 ^ d
     → get_or (plane (bits w - 1 - k) cs) r false ≡ get_or (get_or ps k []) r false =
@@ -148,9 +147,9 @@ planes-coefficients_of w d ps few all =
     let back : bits w - 1 - (bits w - 1 - k) ≡ k = omega arith in
     let of_rank = get_or-map (digits (bits w)) vs r (pos 0) []
     (omega (arith, g, length-values_by_rank w d ps)) in
-    cc (get_or-plane (bits w - 1 - k) cs r, get_or-values_by_rank w d ps r g,
-    digits-value_of w (digits_at (bits w) ps r) (length-digits_at (bits w) ps r),
-    get_or-digits_at (bits w) ps r (bits w - 1 - k) (omega arith)) in
+    let value = digits-value_of w (digits_at (bits w) ps r) (length-digits_at (bits w) ps r) in
+    let digit = get_or-digits_at (bits w) ps r (bits w - 1 - k) (omega arith) in
+    cc (get_or-plane (bits w - 1 - k) cs r, get_or-values_by_rank w d ps r g) in
     let there : (k r : ℕ) → k < bits w → r < 4 ^ d
     → get_or (get_or (ps ++ missing) k []) r false ≡ get_or (get_or ps k []) r false =
     λ k r h g. ⊎_elim
