@@ -69,7 +69,9 @@ none_past_reach (false ∷ ds) (suc k) h = let next = none_past_reach ds k in se
 -- a one stands just before it
 pub one_at_reach : (ds : List Bool) (k : ℕ) → reach ds ≡ suc k → get_or ds k false ≡ true
 one_at_reach [] k h = absurd (omega arith)
-one_at_reach (d ∷ ds) k h = let next = one_at_reach ds in search (rules, none_from_each, none_past_reach)
+one_at_reach (true ∷ ds) zero h = refl
+one_at_reach (false ∷ ds) zero h = search (rules, none_from_each, none_past_reach)
+one_at_reach (d ∷ ds) (suc k) h = let next = one_at_reach ds k in search rules
 
 -- a number is known by what stands just before it and nowhere from it on
 pub only_end : (A : ℕ → Type 0) (n r : ℕ) → ((k : ℕ) → n ≤ k → A k → ⊥) → ((k : ℕ) → n ≡ suc k → A k)

@@ -8,6 +8,7 @@ use Rattle.zf_spec.specs.Numbers.{IsSameModulo}
 use Rattle.zf_spec.specs.Grid.{count_from}
 use Rattle.zf_spec.specs.Lorenzo.{weighted_sum}
 use Rattle.zf_spec.proofs.Ring.{add-*ℤ, *ℤ-add}
+use Rattle.std.proofs.Common.{⊎_elim}
 use Rattle.zf_spec.proofs.Wrapping.{same_modulo_refl, same_modulo_add}
 
 -- the sum of f at the numbers from k on, n of them
@@ -85,9 +86,13 @@ one_term_none m b k (suc n) h =
 
 pub one_term : (m : ℕ) (b : ℕ → ℤ) (k n : ℕ) → k ≤ m → m < k + n → total (λ i. same_number m i *ℤ b i) k n ≡ b m
 one_term m b k zero l h = absurd (omega arith)
-one_term m b k (suc n) l h =
-    let next = one_term m b (suc k) n in
-    search (rules, same_number-yes, same_number-no, one_term_none, zero-*ℤ, ints, cases_eq)
+one_term m b k (suc n) l h = ⊎_elim
+    (λ (e : m ≡ k).
+    let none = one_term_none m b (suc k) n (omega arith) in
+    let at : b k ≡ b m = ap b (sym e) in rw (same_number-yes m k e) (omega (arith, ints)))
+    (λ other.
+    let next = one_term m b (suc k) n (omega arith) (omega arith) in rw (same_number-no m k other) (omega (arith, ints, zero-*ℤ (b k))))
+    (cases_eq m k)
 
 -- ---- the sum of values with weights is such a sum
 
