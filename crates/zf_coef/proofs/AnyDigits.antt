@@ -1,6 +1,6 @@
 -- The digits that any coefficient has, and the planes that are needed.
 use Rattle.std.proofs.Common.{rules}
-use Rattle.std.proofs.Common.{◌≡◌, refl, sym, ap, ◌∙◌, ℕ, ◌-◌, ◌/◌, ◌%◌, ◌^◌, ◌*◌, ◌+◌, ◌<◌, ◌≤◌, ⊎_elim, Bool, true, false, true≢false, ◌||◌, eqb, List, [], ◌∷◌, ◌++◌, get_or, get_or-take, ext_get_or, length, take, replicate, mod-lt, arith}
+use Rattle.std.proofs.Common.{◌≡◌, refl, sym, ap, ◌∙◌, ℕ, ◌-◌, ◌/◌, ◌%◌, ◌^◌, ◌*◌, ◌+◌, ◌<◌, ◌≤◌, ⊎_elim, Bool, true, false, ◌||◌, eqb, List, [], ◌∷◌, ◌++◌, get_or, get_or-take, ext_get_or, length, take, replicate, mod-lt, arith}
 use Rattle.std.specs.Int.{bit_at, trailing_zeros, leading_zeros, w64}
 use Rattle.std.specs.Int.RustNames.{bit_or}
 use Rattle.std.specs.Int.Count.{trailing_of_zero}
@@ -15,6 +15,9 @@ use Rattle.zf_spec.proofs.PlaneDigits.{get_or-planes_of, length-planes_of}
 use Rattle.zf_spec.proofs.Reach.{used_only, zeros_from_none, none_at}
 use Rattle.zf_coef.specs.HeldDigits.{digits_in}
 use Rattle.zf_coef.specs.Turned.{bit_of}
+use Rattle.zf_spec.proofs.PlaneDigits.{get_or-plane}
+use Rattle.zf_spec.specs.Numbers.{digit_value}
+use Rattle.zf_spec.proofs.Halves.{digit_value-is_odd}
 use Rattle.zf_coef.proofs.ShiftedBits.{bit_at-mod, bit_at-shl_high}
 
 has_one-last : (ds : List Bool) (d : Bool) → has_one (ds ++ d ∷ []) ≡ (has_one ds || d)
@@ -41,30 +44,29 @@ any_more any v digits before n k h = search (rules, odd_or, get_or-field, has_on
 pub needed-is : (any width : ℕ) (digits : List ℕ) → width ≤ 64 → any < 2 ^ 64 → IsAny any digits
     → width - trailing_zeros w64 any ≡ needed_planes (planes_of width (digits_in width digits))
 needed-is any width digits within word is =
-    let coefficients = digits_in width digits in
-    let ps = planes_of width coefficients in
+    let ps = planes_of width (digits_in width digits) in
     let low = trailing_zeros w64 any in
+    let bits = bit_at-trailing_zeros w64 any in
+    let none : any ≡ 0 → low ≡ 64 = λ zero. ap (trailing_zeros w64) zero ∙ trailing_of_zero 64 in
+    let has : (k : ℕ) → k < width → has_one (get_or ps k []) ≡ eqb (bit_at any (width - 1 - k)) 1 =
+    λ k below. ap has_one (get_or-planes_of width (digits_in width digits) k below)
+    ∙ sym (is width (width - 1 - k) (omega arith)) in
+    let clear : (j : ℕ) → j < low → bit_at any j ≡ 0 = λ j below. ⊎_elim
+    (λ (zero : any ≡ 0). ap (λ n. bit_at n j) zero ∙ bit_at-zero j)
+    (λ some. (bits (omega arith) word).2 j below)
+    (cases_eq any 0) in
     used_only ps (width - low)
     (λ k past. ⊎_elim
-    (λ (below : k < width).
-    ap has_one (get_or-planes_of width coefficients k below) ∙ sym (is width (width - 1 - k) (omega arith)) ∙ ap (λ b. eqb b 1) (zero_below (width - 1 - k) (omega arith) (omega arith)))
-    (λ none. ap has_one (get_or_past ps k [] (omega (arith, length-planes_of width coefficients))))
+    (λ (below : k < width). has k below ∙ ap (λ b. eqb b 1) (clear (width - 1 - k) (omega arith)))
+    (λ past.
+    ap has_one (get_or_past ps k [] (omega (arith, length-planes_of width (digits_in width digits)))))
     (cases_lt k width))
-    (λ k last.
+    (λ k last. ⊎_elim
+    (λ (zero : any ≡ 0). absurd (omega (arith, none zero)))
+    (λ some.
     let lowest : width - 1 - k ≡ low = omega arith in
-    ap has_one (get_or-planes_of width coefficients k (omega arith)) ∙ sym (is width (width - 1 - k) (omega arith)) ∙ ap (λ j. is_odd (any / 2 ^ j)) lowest ∙ ap (λ b. eqb b 1) (one_at_lowest (omega arith)))
-  where
-    zero_below : (j : ℕ) → j < 64 → j < trailing_zeros w64 any → bit_at any j ≡ 0
-    zero_below j small below = ⊎_elim
-        (λ (none : any ≡ 0). ap (λ n. bit_at n j) none ∙ bit_at-zero j)
-        (λ some. (bit_at-trailing_zeros w64 any (omega arith) word).2 j below)
-        (cases_eq any 0)
-
-    one_at_lowest : trailing_zeros w64 any < 64 → bit_at any (trailing_zeros w64 any) ≡ 1
-    one_at_lowest found = ⊎_elim
-        (λ (none : any ≡ 0). let all : trailing_zeros w64 any ≡ 64 = ap (trailing_zeros w64) none ∙ trailing_of_zero 64 in absurd (omega arith))
-        (λ some. (bit_at-trailing_zeros w64 any (omega arith) word).1)
-        (cases_eq any 0)
+    rw (has k (omega arith), lowest) (ap (λ b. eqb b 1) (bits (omega arith) word).1))
+    (cases_eq any 0))
 
 -- above the greatest digit that any has, no plane has a one
 pub leading_zero_planes : (any w r : ℕ) (digits : List ℕ) → w ≤ 64 → IsAny any digits → r ≤ w → r ≤ leading_zeros w64 (any * 2 ^ (64 - w) % 2 ^ 64)
@@ -76,15 +78,10 @@ leading_zero_planes any w r digits within is few zeros =
     ext_get_or [] (take r ps) (replicate r blank) (omega (arith, length-take r ps, length-planes_of w coefficients, length-replicate r blank))
     (λ j low.
     let below : j < r = omega (arith, length-take r ps) in
-    let k = w - 1 - j in
-    let one = plane k coefficients in
-    let long : length one ≡ length digits = length-map coefficients (λ ds. get_or ds k false) ∙ length-map digits (field w) in
-    let none : has_one one ≡ false = sym (is w k (omega arith)) ∙ ap (λ b. eqb b 1) (zero_at j below) in
-    get_or-take r ps j [] below
-    ∙ get_or-planes_of w coefficients j (omega arith)
-    ∙ zeros_from_none one none
-    ∙ ap (λ n. replicate n false) long
-    ∙ sym (get_or-replicate r j blank [] below))
+    let one = plane (w - 1 - j) coefficients in
+    let none : has_one one ≡ false =
+    sym (is w (w - 1 - j) (omega arith)) ∙ ap (λ b. eqb b 1) (zero_at j below) in
+    search (rules, get_or-take, get_or-planes_of, zeros_from_none, length-map, get_or-replicate))
   where
     zero_at : (j : ℕ) → j < r → bit_at any (w - 1 - j) ≡ 0
     zero_at j below =
@@ -94,7 +91,8 @@ leading_zero_planes any w r digits within is few zeros =
         let top = leading_length 64 a (mod-lt (any * 2 ^ s) (pow_pos 64)) in
         let sum : leading_zeros w64 a + top.0 ≡ 64 = top.1 in
         let place : i - s ≡ w - 1 - j = omega arith in
-        ap (bit_at any) (sym place) ∙ sym (bit_at-mod (any * 2 ^ s) i (omega arith) ∙ bit_at-shl_high any s i (omega arith)) ∙ bit_at_above a top.0 i top.2 (omega arith)
+        let none = bit_at_above a top.0 i top.2 (omega arith) in
+        cc (bit_at-mod (any * 2 ^ s) i (omega arith), bit_at-shl_high any s i (omega arith))
 
 -- where no digit is so great, none has a one from that place on
 pub none_from : (any from : ℕ) (digits : List ℕ) → IsAny any digits → any < 2 ^ from → (r k : ℕ) → from ≤ k → k < 64 → bit_of digits r k ≡ 0
@@ -102,16 +100,9 @@ none_from any from digits is few r k past small = ⊎_elim
     (λ (inside : r < length digits).
     let one = plane k (digits_in 64 digits) in
     let none : has_one one ≡ false = sym (is 64 k small) ∙ ap (λ b. eqb b 1) (bit_at_above any from k few past) in
-    let digit : get_or one r false ≡ is_odd (get_or digits r 0 / 2 ^ k) =
-    get_or-map (λ ds. get_or ds k false) (digits_in 64 digits) r [] false (omega (arith, length-map digits (field 64)))
-    ∙ ap (λ ds. get_or ds k false) (get_or-map (field 64) digits r 0 [] inside)
-    ∙ get_or-field 64 (get_or digits r 0) k false small in
-    even (get_or digits r 0 / 2 ^ k) (sym digit ∙ none_at one r none))
-    (λ (behind : length digits ≤ r). ap (λ v. bit_at v k) (get_or_past digits r 0 behind) ∙ bit_at-zero k)
+    let of_rank = get_or-map (field 64) digits r 0 [] inside in
+    let even : is_odd (get_or digits r 0 / 2 ^ k) ≡ false =
+    cc (get_or-plane k (digits_in 64 digits) r, get_or-field 64 _ k false small, none_at one r none) in
+    omega (arith, digit_value-is_odd (get_or digits r 0 / 2 ^ k), ap digit_value even))
+    (search (rules, get_or_past, bit_at-zero))
     (cases_lt r (length digits))
-  where
-    even : (n : ℕ) → is_odd n ≡ false → n % 2 ≡ 0
-    even n h = ⊎_elim
-        (λ (one : n % 2 ≡ 1). absurd (true≢false (sym (ap (λ b. eqb b 1) one) ∙ h)))
-        (λ other. omega arith)
-        (cases_eq (n % 2) 1)

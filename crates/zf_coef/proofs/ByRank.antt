@@ -1,21 +1,22 @@
 -- The digits of a block by rank, and a block whose places are filled by rank.
 use Rattle.std.proofs.Common.{rules}
-use Rattle.std.proofs.Common.{◌≡◌, sym, ap, ◌∙◌, ℕ, ◌+◌, ◌^◌, ◌<◌, ◌≢◌, ⊎_elim, ℤ, pos, List, [], length, get_or, set, All, get_or-set_same, get_or-set_other, arith}
+use Rattle.std.proofs.Common.{◌≡◌, sym, ap, ◌∙◌, ℕ, ◌+◌, ◌^◌, ◌<◌, ◌≢◌, ℤ, pos, List, [], length, get_or, set, All, get_or-set_same, get_or-set_other, arith}
 use Rattle.std.proofs.lemmas.Bool.{cases_lt}
 use Rattle.std.proofs.lemmas.List.{length-map, get_or-map}
-use Rattle.std.proofs.lemmas.List.Elements.{All-same, All-from_get_or}
+use Rattle.std.proofs.lemmas.List.Elements.{All-from_get_or}
 use Rattle.std.specs.Int.{Width}
 use mir.Val.{bits}
 use Rattle.zf_spec.specs.Numbers.{digits}
 use Rattle.zf_spec.specs.Ranks.{order, by_rank, by_place}
 use Rattle.zf_spec.proofs.Counting.{from_places}
 use Rattle.zf_spec.proofs.Ranking.{length-order, order_below, rank_of, rank_of_below, order-rank_of, rank_of-order, length-by_rank, get_or-by_rank}
+use Rattle.std.proofs.Common.{subst}
 use Rattle.zf_coef.specs.HeldDigits.{ranked_digits, HasRanks}
 
 pub order_within : (d : ℕ) (ps : List ℕ) → ps ≡ order d → All (λ p. p < 4 ^ d) ps
 order_within d ps same =
-    All-same (λ p. p < 4 ^ d) ps (order d) same
-    (All-from_get_or (λ p. p < 4 ^ d) (order d) 0 (λ k below. order_below d k (omega (arith, below, length-order d))))
+    subst (All (λ p. p < 4 ^ d)) (sym same)
+    (All-from_get_or (λ p. p < 4 ^ d) (order d) 0 (search (rules, order_below, length-order)))
 
 pub length-ranked_digits : (w : Width) (d : ℕ) (block : List ℤ) → length (ranked_digits w d block) ≡ 4 ^ d
 length-ranked_digits w d block = length-map (by_rank d block) (digits (bits w)) ∙ length-by_rank d block
@@ -29,13 +30,10 @@ pub ranks_more : (d : ℕ) (block values : List ℤ) (r : ℕ) (v : ℤ) → len
     → HasRanks d r values block → v ≡ get_or values r (pos 0) → HasRanks d (r + 1) values (set block (get_or (order d) r 0) v)
 ranks_more d block values r v long below before here k small =
     let place : get_or (order d) r 0 < length block = omega (arith, order_below d r below) in
-    ⊎_elim
-    (λ earlier.
-    let apart : get_or (order d) k 0 ≢ get_or (order d) r 0 =
-    λ same. let rank : k ≡ r = sym (rank_of-order d k (omega arith)) ∙ ap (rank_of d) same ∙ rank_of-order d r below in omega arith in
-    get_or-set_other block (get_or (order d) r 0) (get_or (order d) k 0) v (pos 0) apart ∙ before k earlier)
-    (search (rules, get_or-set_same))
-    (cases_lt k r)
+    let apart : k < r → get_or (order d) k 0 ≢ get_or (order d) r 0 =
+    λ earlier same.
+    let rank : k ≡ r = cc (rank_of-order d k (omega arith), rank_of-order d r below) in omega arith in
+    search (rules, apart, get_or-set_other, get_or-set_same, cases_lt)
 
 pub ranks_all : (d : ℕ) (block values : List ℤ) → length block ≡ 4 ^ d → HasRanks d (4 ^ d) values block → block ≡ by_place d values
 ranks_all d block values long has =

@@ -10,7 +10,6 @@ use Rattle.zf_spec.specs.Numbers.{field, value_of, digits_sum, wrap}
 use Rattle.zf_spec.specs.Ranks.{order, by_place}
 use Rattle.zf_spec.proofs.Fields.{field-zero}
 use Rattle.zf_spec.proofs.Ranking.{rank_of-order}
-use Rattle.zf_spec.proofs.Ranking.{rank_of}
 use Rattle.zf_spec.proofs.Wrapping.{wrap_value, zero_fits}
 use Rattle.zf_base.proofs.Values.{alike_at}
 use Rattle.zf_coef.specs.Turned.{bit_of}
@@ -18,6 +17,7 @@ use Rattle.zf_coef.specs.Groups.{word_of}
 use Rattle.zf_coef.specs.HeldDigits.{digits_in, unranked_values}
 use Rattle.zf_coef.proofs.ByRank.{ranks_all}
 use Rattle.zf_coef.proofs.Halves.{no_word}
+use Rattle.std.proofs.Common.{◌≢◌}
 use Rattle.zf_coef.proofs.Transposed.{HoldsGroups}
 
 -- ---- the coefficients
@@ -33,23 +33,20 @@ first_place (suc (suc (suc (suc (suc d))))) dims = absurd (omega (arith, dims.1)
 
 -- behind the first place of a block all values are zero
 behind_first : (v : ℤ) (n k : ℕ) → 0 < k → get_or (v ∷ replicate n (pos 0)) k (pos 0) ≡ pos 0
-behind_first v n zero later = absurd (omega arith)
-behind_first v n (suc k) later = alike_at (pos 0) n k
+behind_first v n k later = grind (arith, alike_at)
 
 by_place_first : (d : ℕ) (v : ℤ) → IsDimension d → 0 < 4 ^ d → by_place d (v ∷ replicate (4 ^ d - 1) (pos 0)) ≡ v ∷ replicate (4 ^ d - 1) (pos 0)
 by_place_first d v dims some =
     let block = v ∷ replicate (4 ^ d - 1) (pos 0) in
     let long : length block ≡ 4 ^ d = omega (arith, length-replicate (4 ^ d - 1) (pos 0)) in
+    let first = first_place d dims in
     sym (ranks_all d block block long (λ k below. ⊎_elim
-    (λ (none : k ≡ 0). ap (λ r. get_or block (get_or (order d) r 0) (pos 0)) none ∙ ap (λ p. get_or block p (pos 0)) (first_place d dims) ∙ ap (λ r. get_or block r (pos 0)) (sym none))
+    (λ (none : k ≡ 0). rw (none, first) refl)
     (λ later.
-    let apart : 0 < get_or (order d) k 0 = ⊎_elim
-    (λ (same : get_or (order d) k 0 ≡ 0).
-    let rank : k ≡ 0 = sym (rank_of-order d k below) ∙ ap (rank_of d) (same ∙ sym (first_place d dims)) ∙ rank_of-order d 0 some in
-    absurd (omega arith))
-    (λ other. omega arith)
-    (cases_eq (get_or (order d) k 0) 0) in
-    behind_first v (4 ^ d - 1) (get_or (order d) k 0) apart ∙ sym (behind_first v (4 ^ d - 1) k (omega arith)))
+    let apart : get_or (order d) k 0 ≢ 0 =
+    λ same. later (cc (rank_of-order d k below, rank_of-order d 0 some)) in
+    behind_first v (4 ^ d - 1) (get_or (order d) k 0) (omega arith)
+    ∙ sym (behind_first v (4 ^ d - 1) k (omega arith)))
     (cases_eq k 0)))
 
 sum_of_none : (n : ℕ) → digits_sum (replicate n false) ≡ pos 0
@@ -61,14 +58,14 @@ value_of_none w m = ap (value_of w) (field-zero m) ∙ ap (wrap w) (sum_of_none 
 
 values_of_zeros : (w : Width) (m n : ℕ) → map (value_of w) (digits_in m (replicate n 0)) ≡ replicate n (pos 0)
 values_of_zeros w m zero = refl
-values_of_zeros w m (suc n) =
-    ap (λ v. v ∷ map (value_of w) (digits_in m (replicate n 0))) (value_of_none w m) ∙ ap (λ (vs : List ℤ). pos 0 ∷ vs) (values_of_zeros w m n)
+values_of_zeros w m (suc n) = let first = value_of_none w m in cc (values_of_zeros w m n)
 
 -- the coefficients whose digits these are
 pub unranked_first : (w : Width) (d u : ℕ) → IsDimension d → 0 < 4 ^ d
     → unranked_values w d (digits_in (bits w) (u ∷ replicate (4 ^ d - 1) 0)) ≡ value_of w (field (bits w) u) ∷ replicate (4 ^ d - 1) (pos 0)
 unranked_first w d u dims some =
-    ap (λ vs. by_place d (value_of w (field (bits w) u) ∷ vs)) (values_of_zeros w (bits w) (4 ^ d - 1)) ∙ by_place_first d (value_of w (field (bits w) u)) dims some
+    let value = value_of w (field (bits w) u) in
+    rw (values_of_zeros w (bits w) (4 ^ d - 1)) (by_place_first d value dims some)
 
 -- ---- the way there
 
@@ -92,16 +89,15 @@ pub groups_of_first : (number first size : ℕ) (planes : List (List ℕ)) → 0
     → HoldsGroups number (first ∷ replicate (size - 1) 0) planes
 groups_of_first number first size planes some few holds = record { each = bit }
   where
+    behind : (i : ℕ) → 0 < i → get_or (first ∷ replicate (size - 1) 0) i 0 ≡ 0
+    behind zero later = absurd (omega arith)
+    behind (suc i) later = no_word (size - 1) i
+
     bit : (p k r : ℕ) → p < number → k < length planes → r < 64 → bit_at (word_of planes p k) r ≡ bit_of (first ∷ replicate (size - 1) 0) (64 * p + r) k
-    bit zero k zero inside below small =
-        let place : 64 * 0 + 0 ≡ 0 = omega arith in
-        let whole : word_of planes 0 k / 2 ^ 0 % 2 ≡ word_of planes 0 k = omega (arith, holds.word k below) in
-        whole ∙ holds.word k below ∙ ap (λ i. bit_of (first ∷ replicate (size - 1) 0) i k) (sym place)
+    bit zero k zero inside below small = omega (arith, holds.word k below)
     bit zero k (suc r) inside below small =
-        let place : 64 * 0 + suc r ≡ suc r = omega arith in
-        bit_at_above (word_of planes 0 k) 1 (suc r) (omega (arith, holds.word k below)) (omega arith)
-        ∙ sym (ap (λ i. bit_of (first ∷ replicate (size - 1) 0) i k) place ∙ ap (λ v. bit_at v k) (no_word (size - 1) r) ∙ bit_at-zero k)
+        rw (behind (64 * 0 + suc r) (omega arith), bit_at-zero k)
+        (bit_at_above (word_of planes 0 k) 1 (suc r) (omega (arith, holds.word k below)) (omega arith))
     bit (suc p) k r inside below small =
-        let place : 64 * suc p + r ≡ suc (64 * suc p + r - 1) = omega arith in
-        ap (λ v. bit_at v r) (holds.others (suc p) k (omega arith) below) ∙ bit_at-zero r
-        ∙ sym (ap (λ i. bit_of (first ∷ replicate (size - 1) 0) i k) place ∙ ap (λ v. bit_at v k) (no_word (size - 1) (64 * suc p + r - 1)) ∙ bit_at-zero k)
+        let none = holds.others (suc p) k (omega arith) below in
+        rw (behind (64 * suc p + r) (omega arith), none, bit_at-zero r, bit_at-zero k) refl

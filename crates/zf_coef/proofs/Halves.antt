@@ -1,6 +1,6 @@
 -- Halves of digits that become planes, 32 at a time, and planes that become halves of digits.
 use Rattle.std.proofs.Common.{rules}
-use Rattle.std.proofs.Common.{◌≡◌, sym, ap, subst, ◌∙◌, ℕ, ◌+◌, ◌-◌, ◌*◌, ◌/◌, ◌%◌, ◌<◌, ◌≤◌, ⊎_elim, List, [], length, get_or, replicate, arith}
+use Rattle.std.proofs.Common.{◌≡◌, sym, ap, ◌∙◌, ℕ, ◌+◌, ◌-◌, ◌*◌, ◌/◌, ◌%◌, ◌<◌, ◌≤◌, ⊎_elim, List, [], length, get_or, replicate, arith}
 use Rattle.std.specs.Int.{bit_at}
 use Rattle.std.proofs.lemmas.Bool.{cases_lt}
 use Rattle.std.proofs.lemmas.List.{get_or-replicate, get_or_past, length-replicate}
@@ -83,28 +83,13 @@ pub digits_of_halves : (number : ℕ) (planes : List (List ℕ)) (low high digit
     → ((r k : ℕ) → r < 32 → k < 32 → (bit_of digits (32 + r) k ≡ bit_of low r (32 + k)) × (bit_of digits (32 + r) (32 + k) ≡ bit_of high r (32 + k)))
     → IsOfGroup number planes digits
 unfolding IsOfGroup
-digits_of_halves number planes low high digits long is_low is_high lower upper r k h small = ⊎_elim
-    (λ (prefix : r < 32). ⊎_elim
-    (λ (first : k < 32). (lower r k prefix first).0 ∙ is_low r k prefix (omega arith) ∙ at 0 k k r r (omega arith) (omega arith))
-    (λ (second : 32 ≤ k).
-    let back : k ≡ 32 + (k - 32) = omega arith in
-    ap (bit_of digits r) back ∙ (lower r (k - 32) prefix (omega arith)).1 ∙ is_high r (k - 32) prefix (omega arith) ∙ at 32 (k - 32) k r r (omega arith) (omega arith))
-    (cases_lt k 32))
-    (λ (behind : 32 ≤ r).
-    let row : r ≡ 32 + (r - 32) = omega arith in
-    ap (λ j. bit_of digits j k) row
-    ∙ ⊎_elim
-    (λ (first : k < 32). (upper (r - 32) k (omega arith) first).0 ∙ is_low (r - 32) (32 + k) (omega arith) (omega arith) ∙ at 0 (32 + k) k (r - 32) r (omega arith) (omega arith))
-    (λ (second : 32 ≤ k).
-    let back : k ≡ 32 + (k - 32) = omega arith in
-    ap (bit_of digits (32 + (r - 32))) back ∙ (upper (r - 32) (k - 32) (omega arith) (omega arith)).1
-    ∙ is_high (r - 32) (32 + (k - 32)) (omega arith) (omega arith) ∙ at 32 (32 + (k - 32)) k (r - 32) r (omega arith) (omega arith))
-    (cases_lt k 32))
-    (cases_lt r 32)
-  where
-    at : (from i plane j rank : ℕ) → from + i % 32 ≡ plane → i - i % 32 + j ≡ rank
-        → bit_at (word_of planes number (from + i % 32)) (i - i % 32 + j) ≡ bit_at (word_of planes number plane) rank
-    at from i plane j rank a b = ap (λ p. bit_at (word_of planes number p) (i - i % 32 + j)) a ∙ ap (bit_at (word_of planes number plane)) b
+digits_of_halves number planes low high digits long is_low is_high lower upper r k h small =
+    let parts = lower (r % 32) (k % 32) (omega arith) (omega arith) in
+    let others = upper (r % 32) (k % 32) (omega arith) (omega arith) in
+    let j : r / 32 * 32 + k % 32 < 64 = omega arith in
+    let of_low = is_low (r % 32) (r / 32 * 32 + k % 32) (omega arith) j in
+    let of_high = is_high (r % 32) (r / 32 * 32 + k % 32) (omega arith) j in
+    grind (arith, cases_lt)
 
 -- a window of 32 planes has all the ones
 pub digits_of_window : (number from : ℕ) (planes : List (List ℕ)) (words digits : List ℕ) → length digits ≡ 64
@@ -115,32 +100,29 @@ pub digits_of_window : (number from : ℕ) (planes : List (List ℕ)) (words dig
     → ((r : ℕ) → r < 32 → IsMoved 32 from (get_or words r 0) (get_or digits (32 + r) 0))
     → IsOfGroup number planes digits
 unfolding IsOfGroup
-digits_of_window number from planes words digits long below above half lower upper r k h small = ⊎_elim
-    (λ (prefix : r < 32). digit 0 r r k prefix small (λ i less. omega arith) (λ i less. omega arith) (lower r prefix))
+digits_of_window number from planes words digits long below above half lower upper r k h small =
+    let digit : (start j : ℕ) → j < 32 → start + j ≡ r → start % 32 ≡ 0 → start < 33
+    → IsMoved start from (get_or words j 0) (get_or digits r 0)
+    → bit_of digits r k ≡ bit_at (word_of planes number k) r =
+    λ start j less at whole few moved. ⊎_elim
+    (λ (first : k < from). cc (moved.below k first, below k first, bit_at-zero r))
+    (λ (later : from ≤ k). ⊎_elim
+    (λ (inside : k - from < 32).
+    let i = k - from in
+    let back : from + i ≡ k = omega arith in
+    let column : (start + i) % 32 ≡ i = omega arith in
+    let row : start + i - (start + i) % 32 + j ≡ r = omega arith in
+    cc (moved.inside i inside, half j (start + i) less (omega arith)))
+    (λ (past : 32 ≤ k - from). cc (moved.above k (omega arith) small, above k (omega arith), bit_at-zero r))
+    (cases_lt (k - from) 32))
+    (cases_lt k from) in
+    ⊎_elim
+    (λ (prefix : r < 32). digit 0 r prefix (omega arith) (omega arith) (omega arith) (lower r prefix))
     (λ (behind : 32 ≤ r).
     let row : 32 + (r - 32) ≡ r = omega arith in
-    digit 32 (r - 32) r k (omega arith) small (λ i less. omega arith) (λ i less. omega arith)
-    (subst (λ j. IsMoved 32 from (get_or words (r - 32) 0) (get_or digits j 0)) row (upper (r - 32) (omega arith))))
+    digit 32 (r - 32) (omega arith) row (omega arith) (omega arith)
+    (rw row at (upper (r - 32) (omega arith))))
     (cases_lt r 32)
-  where
-    none : (r k : ℕ) → bit_of digits r k ≡ 0 → word_of planes number k ≡ 0 → bit_of digits r k ≡ bit_at (word_of planes number k) r
-    none r k zero_here zero_there = zero_here ∙ sym (bit_at-zero r) ∙ ap (λ w. bit_at w r) (sym zero_there)
-
-    digit : (start j r k : ℕ) → j < 32 → k < 64 → ((i : ℕ) → i < 32 → start + i < 64 × ((start + i) % 32 ≡ i)) → ((i : ℕ) → i < 32 → start + i - (start + i) % 32 + j ≡ r)
-        → IsMoved start from (get_or words j 0) (get_or digits r 0) → bit_of digits r k ≡ bit_at (word_of planes number k) r
-    digit start j r k less small column row moved = ⊎_elim
-        (λ (first : k < from). none r k (moved.below k first) (below k first))
-        (λ (later : from ≤ k). ⊎_elim
-        (λ (inside : k - from < 32).
-        let i = k - from in
-        let at : from + i ≡ k = omega arith in
-        ap (bit_of digits r) (sym at) ∙ moved.inside i inside ∙ half j (start + i) less (column i inside).0
-        ∙ ap (λ p. bit_at (word_of planes number (from + p)) (start + i - (start + i) % 32 + j)) (column i inside).1
-        ∙ ap (bit_at (word_of planes number (from + i))) (row i inside)
-        ∙ ap (λ p. bit_at (word_of planes number p) r) at)
-        (λ (past : 32 ≤ k - from). none r k (moved.above k (omega arith) small) (above k (omega arith)))
-        (cases_lt (k - from) 32))
-        (cases_lt k from)
 
 -- the first of more digits
 pub group_of_prefix : (number : ℕ) (planes : List (List ℕ)) (whole digits : List ℕ) → length digits ≤ length whole

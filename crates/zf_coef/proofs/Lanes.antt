@@ -1,6 +1,6 @@
 -- Words that are swapped in lanes of two.
 use Rattle.std.proofs.Common.{rules}
-use Rattle.std.proofs.Common.{◌≡◌, refl, sym, ap, ◌∙◌, ℕ, ◌+◌, ◌*◌, ◌/◌, ◌%◌, ◌^◌, ◌<◌, ◌≤◌, ◌≢◌, List, [], ◌∷◌, length, get_or, replicate, arith}
+use Rattle.std.proofs.Common.{◌≡◌, refl, sym, ◌∙◌, ℕ, ◌+◌, ◌*◌, ◌/◌, ◌%◌, ◌^◌, ◌<◌, ◌≤◌, ◌≢◌, List, [], ◌∷◌, length, get_or, replicate, arith}
 use Rattle.std.proofs.lemmas.Bool.{cases_lt, cases_eq}
 use Rattle.std.specs.Int.RustNames.{bit_xor}
 use lib.Bits.{bit_and}
@@ -53,19 +53,18 @@ lanes_swapped low high s m words apart within =
     let bs = chunk high 2 words in
     let long_a : length as' ≡ 2 = length-chunk low 2 words (omega arith) in
     let long_b : length bs ≡ 2 = length-chunk high 2 words within in
-    let up = high_lanes s m as' bs in
-    let down = low_lanes s m as' bs in
     let lane = λ (l : ℕ) (h : l < 2). each_lane s m as' bs l long_a long_b h in
     let first = lane 0 (omega arith) in
-    let mid = put_chunk high words up in
-    let long_mid : length mid ≡ length words = length-put_chunk high words up in
+    let mid = put_chunk high words (high_lanes s m as' bs) in
+    let long_mid : length mid ≡ length words = length-put_chunk high words (high_lanes s m as' bs) in
     let at_a : (l : ℕ) → l < 2 → get_or as' l 0 ≡ get_or words (low + l) 0 = λ l h. get_or-chunk low 2 words l 0 h in
     let at_b : (l : ℕ) → l < 2 → get_or bs l 0 ≡ get_or words (high + l) 0 = λ l h. get_or-chunk high 2 words l 0 h in
     record {
-      long = length-put_chunk low mid down ∙ long_mid;
-      lower = λ l h. get_or-put_chunk_at low mid down l 0 (omega (arith, first.long_lower)) (omega (arith, first.long_lower))
-          ∙ (lane l h).lower
-          ∙ ap (λ a. swapped_low s m a (get_or bs l 0)) (at_a l h) ∙ ap (swapped_low s m (get_or words (low + l) 0)) (at_b l h);
+      long = length-put_chunk low mid (low_lanes s m as' bs) ∙ long_mid;
+      lower = λ l h.
+          let long = first.long_lower in
+          let put = get_or-put_chunk_at low mid (low_lanes s m as' bs) l 0 (omega arith) (omega arith) in
+          cc ((lane l h).lower, at_a l h, at_b l h);
       upper = search (rules, get_or-put_chunk_above, get_or-put_chunk_at);
       other = search (rules, outside);
     }

@@ -56,8 +56,9 @@ flipped_sum (suc m) (suc k) y h =
     let pair = pair_sum (twice m) x (y % 4) (omega arith) in
     let rest = flipped_sum m k (y / 4) (omega arith) in
     let more : twice (suc m) ≡ twice m + 2 = omega arith in
-    let low : y % 2 ^ twice (suc m) ≡ y / 4 % 2 ^ twice m * 4 + y % 4 = ap (λ j. y % 2 ^ j) more ∙ mod-pow-add y (twice m) 2 in
-    ap (λ z. digits_sum (field (twice (suc m)) (bit_xor z (mask (suc k))))) split ∙ ap (λ z. digits_sum (field (twice (suc m)) z)) block ∙ pair ∙ omega (arith, ints, rest, low)
+    let low : y % 2 ^ twice (suc m) ≡ y / 4 % 2 ^ twice m * 4 + y % 4 = rw more (mod-pow-add y (twice m) 2) in
+    let whole : bit_xor y (mask (suc k)) ≡ x * 4 + bit_xor (y % 4) 2 = cc in
+    rw whole (pair ∙ omega (arith, ints, rest, low))
 
 -- ---- the mask of 64 digits at both widths
 
@@ -94,11 +95,11 @@ same_modulo_width w p a b h =
 -- the number that flipped digits stand for
 flipped_value : (w : Width) (p : IsPaired w) (y : ℕ) → IsSameModulo (bits w) (digits_sum (field (bits w) (bit_xor y (mask 32)))) (pos y +ℤ neg_ℤ (pos (mask 32)))
 flipped_value w p y =
-    let exact = flipped_sum p.pairs 32 y p.few in
-    let sum : digits_sum (field (bits w) (bit_xor y (mask 32))) ≡ pos (y % 2 ^ bits w) +ℤ neg_ℤ (pos (mask p.pairs)) =
-    subst (λ k. digits_sum (field k (bit_xor y (mask 32))) ≡ pos (y % 2 ^ k) +ℤ neg_ℤ (pos (mask p.pairs))) p.size exact in
-    subst (λ s. IsSameModulo (bits w) s (pos y +ℤ neg_ℤ (pos (mask 32)))) (sym sum)
-    (same_modulo_add (bits w) (pos (y % 2 ^ bits w)) (pos y) (neg_ℤ (pos (mask p.pairs))) (neg_ℤ (pos (mask 32))) (same_modulo_mod (bits w) y) (same_modulo_neg (bits w) (pos (mask p.pairs)) (pos (mask 32)) p.same))
+    let exact = rw p.size at (flipped_sum p.pairs 32 y p.few) in
+    rw exact
+    (same_modulo_add (bits w) (pos (y % 2 ^ bits w)) (pos y) (neg_ℤ (pos (mask p.pairs)))
+    (neg_ℤ (pos (mask 32))) (same_modulo_mod (bits w) y)
+    (same_modulo_neg (bits w) (pos (mask p.pairs)) (pos (mask 32)) p.same))
 
 -- the word of a wrapped number
 word-wrap : (w : Width) (x : ℕ) → cast_unsigned w (wrap w (pos x)) ≡ x % 2 ^ bits w

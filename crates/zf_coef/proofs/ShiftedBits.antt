@@ -26,14 +26,10 @@ pub bit_at-mod : (a i : ℕ) → i < 64 → bit_at (a % 2 ^ 64) i ≡ bit_at a i
 bit_at-mod a i h = bit_at-mod_pow a 64 i h
 
 pub bit_at-shl_low : (a s i : ℕ) → i < s → bit_at (a * 2 ^ s) i ≡ 0
-bit_at-shl_low a s i h =
-    let whole : a * 2 ^ s ≡ a * 2 ^ s + 0 = omega arith in
-    ap (λ n. bit_at n i) whole ∙ bit_at_cat_low a s 0 i h ∙ bit_at-zero i
+bit_at-shl_low a s i h = search (rules, bit_at_cat_low a s 0 i h, bit_at-zero)
 
 pub bit_at-shl_high : (a s i : ℕ) → s ≤ i → bit_at (a * 2 ^ s) i ≡ bit_at a (i - s)
-bit_at-shl_high a s i h =
-    let whole : a * 2 ^ s ≡ a * 2 ^ s + 0 = omega arith in
-    ap (λ n. bit_at n i) whole ∙ bit_at_cat_high a s 0 i (pow_pos s) h
+bit_at-shl_high a s i h = search (rules, bit_at_cat_high a s 0 i (pow_pos s) h)
 
 -- the low half of a word and, above it, another
 pub low_half : (a b i : ℕ) → i < 32 → bit_at (bit_or (bit_and a 0xffff_ffff) (b * 0x1_0000_0000 % 2 ^ 64)) i ≡ bit_at a i

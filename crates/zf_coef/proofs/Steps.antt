@@ -5,7 +5,8 @@ use Rattle.std.proofs.lemmas.Bool.{cases_lt, cases_eq}
 use Rattle.std.specs.Int.{bit_at}
 use Rattle.zf_coef.proofs.ShiftedBits.{bit_at-shr, bit_at-mod, bit_at-shl_low, bit_at-shl_high}
 use Rattle.std.proofs.lemmas.Nat.Bits.{bit_at_and, bit_at_xor, bit_at-lt}
-use Rattle.zf_coef.specs.Turned.{bit_of, moved, swapped_low, swapped_high, IsSwapped, IsStep, IsMask, with_digit, IsStepped}
+use Rattle.std.proofs.Common.{inl, inr, subst}
+use Rattle.zf_coef.specs.Turned.{moved, swapped_low, swapped_high, IsSwapped, IsStep, IsMask, with_digit, IsStepped}
 
 -- ---- bits of swapped words
 
@@ -14,8 +15,7 @@ bit_at-moved s m a b i = search (rules, bit_at_and, bit_at_xor, bit_at-shr)
 
 -- the upper word, where the mask has a one and where it has none
 high_taken : (s m a b i : ℕ) → bit_at m i ≡ 1 → bit_at (swapped_high s m a b) i ≡ bit_at a (s + i)
-high_taken s m a b i one =
-    omega (arith, bit_at_xor b (moved s m a b) i, bit_at-moved s m a b i, one, bit_at-lt a (s + i), bit_at-lt b i)
+high_taken s m a b i one = search (rules, bit_at_xor, bit_at-moved, bit_at-lt)
 
 high_kept : (s m a b i : ℕ) → bit_at m i ≡ 0 → bit_at (swapped_high s m a b) i ≡ bit_at b i
 high_kept s m a b i none =
@@ -31,18 +31,11 @@ low_kept s m a b i large within none = search (rules, bit_at_xor, bit_at-mod, bi
 low_taken : (s m a b i : ℕ) → s ≤ i → i < 64 → bit_at m (i - s) ≡ 1 → bit_at (swapped_low s m a b) i ≡ bit_at b (i - s)
 low_taken s m a b i large within one =
     let t = moved s m a b in
-    let back : s + (i - s) ≡ i = omega arith in
-    omega (
-      arith,
-      bit_at_xor a (t * 2 ^ s % 2 ^ 64) i,
-      bit_at-mod (t * 2 ^ s) i within,
-      bit_at-shl_high t s i large,
-      bit_at-moved s m a b (i - s),
-      ap (bit_at a) back,
-      one,
-      bit_at-lt a i,
-      bit_at-lt b (i - s),
-    )
+    let same : bit_at a (s + (i - s)) ≡ bit_at a i = ap (bit_at a) (omega arith) in
+    let first = bit_at_xor a (t * 2 ^ s % 2 ^ 64) i in
+    let back : bit_at (t * 2 ^ s % 2 ^ 64) i ≡ bit_at t (i - s) =
+    bit_at-mod (t * 2 ^ s) i within ∙ bit_at-shl_high t s i large in
+    omega (arith, bit_at-moved s m a b (i - s), bit_at-lt a i, bit_at-lt b (i - s))
 
 -- ---- where the words of a step stand
 
@@ -69,20 +62,11 @@ pub record Paired (lanes s : ℕ) : Type 0 where
 pub paired_1 : Paired 1 1
 paired_1 = search rules
 
-pub paired_2 : Paired 2 2
-paired_2 = search rules
-
-pub paired_4 : Paired 2 4
-paired_4 = search rules
-
-pub paired_8 : Paired 2 8
-paired_8 = search rules
-
-pub paired_16 : Paired 2 16
-paired_16 = search rules
-
 pub paired : (s : ℕ) → IsStep s → Paired 2 s
-paired s step = search (rules, paired_2, paired_4, paired_8, paired_16)
+paired s (inl e) = subst (Paired 2) (sym e) (search rules)
+paired s (inr (inl e)) = subst (Paired 2) (sym e) (search rules)
+paired s (inr (inr (inl e))) = subst (Paired 2) (sym e) (search rules)
+paired s (inr (inr (inr e))) = subst (Paired 2) (sym e) (search rules)
 
 -- the pairs go up in lanes
 pub in_lanes : (s n : ℕ) → IsStep s → n % (2 * s) ≡ 0 → n % 4 ≡ 0
@@ -122,10 +106,7 @@ more_stepped lanes s m done old mid new p whole prefix swap =
           let none : j / s % 2 * s ≡ 0 = ap (λ x. x * s) half ∙ omega arith in
           let at : j ≡ low + l = omega (arith, p.place done j whole later h, none) in
           let above : high + l ≡ j + s = omega arith in
-          ap (λ k. get_or new k 0) at
-          ∙ swap.lower l less
-          ∙ ap (λ a. swapped_low s m a (get_or mid (high + l) 0)) (fresh_low l less ∙ ap (λ k. get_or old k 0) (sym at))
-          ∙ ap (λ b. swapped_low s m (get_or old j 0) b) (fresh_high l less ∙ ap (λ k. get_or old k 0) above))
+          cc (swap.lower l less, fresh_low l less, fresh_high l less))
           (cases_lt (pair_of s j) done);
       upper = λ j h half. ⊎_elim
           (λ earlier. kept j (λ l less e. absurd (omega arith)) ∙ prefix.upper j earlier half)
@@ -135,10 +116,7 @@ more_stepped lanes s m done old mid new p whole prefix swap =
           let one : j / s % 2 * s ≡ s = ap (λ x. x * s) half ∙ omega arith in
           let at : j ≡ high + l = omega (arith, p.place done j whole later h, one) in
           let below : low + l ≡ j - s = omega arith in
-          ap (λ k. get_or new k 0) at
-          ∙ swap.upper l less
-          ∙ ap (λ a. swapped_high s m a (get_or mid (high + l) 0)) (fresh_low l less ∙ ap (λ k. get_or old k 0) below)
-          ∙ ap (λ b. swapped_high s m (get_or old (j - s) 0) b) (fresh_high l less ∙ ap (λ k. get_or old k 0) (sym at)))
+          cc (swap.upper l less, fresh_low l less, fresh_high l less))
           (cases_lt (pair_of s j) done);
       rest = λ j h. kept j (λ l less e. absurd (omega arith)) ∙ prefix.rest j (omega arith);
     }
@@ -154,17 +132,17 @@ all_stepped lanes s m done old new p mask whole all prefix j i below within =
     let is = prefix.lower j in_pairs word in
     ⊎_elim
     (λ (bit : i / s % 2 ≡ 0).
-    let same : bit_at (swapped_low s m (get_or old j 0) (get_or old (j + s) 0)) i ≡ bit_of old j i = ⊎_elim
+    rw (p.word_kept j i (word ∙ sym bit), p.word_kept i j (bit ∙ sym word), is)
+    (⊎_elim
     (λ first. low_first s m (get_or old j 0) (get_or old (j + s) 0) i first within)
     (λ far. low_kept s m (get_or old j 0) (get_or old (j + s) 0) i far within (omega (arith, mask (i - s) (omega arith), p.digit_less i far)))
-    (cases_lt i s) in
-    ap (λ x. bit_at x i) is ∙ same ∙ moved_to j i (p.word_kept j i (word ∙ sym bit)) (p.word_kept i j (bit ∙ sym word)))
+    (cases_lt i s)))
     (λ (bit : i / s % 2 ≢ 0).
     let one : i / s % 2 ≡ 1 = omega arith in
     let down = p.word_down i j one word in
-    ap (λ x. bit_at x i) is
-    ∙ low_taken s m (get_or old j 0) (get_or old (j + s) 0) i down.0 within (omega (arith, mask (i - s) (omega arith), p.digit_less i down.0))
-    ∙ moved_to (j + s) (i - s) (p.word_up j i word one) down.1)
+    rw (p.word_up j i word one, down.1, is)
+    (low_taken s m (get_or old j 0) (get_or old (j + s) 0) i down.0 within
+    (omega (arith, mask (i - s) (omega arith), p.digit_less i down.0))))
     (cases_eq (i / s % 2) 0))
     (λ (word : j / s % 2 ≢ 0).
     let one : j / s % 2 ≡ 1 = omega arith in
@@ -172,17 +150,13 @@ all_stepped lanes s m done old new p mask whole all prefix j i below within =
     ⊎_elim
     (λ (bit : i / s % 2 ≡ 0).
     let down = p.word_down j i one bit in
-    ap (λ x. bit_at x i) is
-    ∙ high_taken s m (get_or old (j - s) 0) (get_or old j 0) i (omega (arith, mask i within))
-    ∙ ap (bit_at (get_or old (j - s) 0)) (omega arith)
-    ∙ moved_to (j - s) (i + s) down.1 (p.word_up i j bit one))
+    let place : s + i ≡ i + s = omega arith in
+    rw (p.word_up i j bit one, down.1, is)
+    (high_taken s m (get_or old (j - s) 0) (get_or old j 0) i (omega (arith, mask i within))
+    ∙ ap (bit_at (get_or old (j - s) 0)) place))
     (λ (bit : i / s % 2 ≢ 0).
     let two : i / s % 2 ≡ 1 = omega arith in
-    ap (λ x. bit_at x i) is
-    ∙ high_kept s m (get_or old (j - s) 0) (get_or old j 0) i (omega (arith, mask i within))
-    ∙ moved_to j i (p.word_kept j i (one ∙ sym two)) (p.word_kept i j (two ∙ sym one)))
+    rw (p.word_kept j i (one ∙ sym two), p.word_kept i j (two ∙ sym one), is)
+    (high_kept s m (get_or old (j - s) 0) (get_or old j 0) i (omega (arith, mask i within))))
     (cases_eq (i / s % 2) 0))
     (cases_eq (j / s % 2) 0)
-  where
-    moved_to : (word place : ℕ) → with_digit s j i ≡ word → with_digit s i j ≡ place → bit_of old word place ≡ bit_of old (with_digit s j i) (with_digit s i j)
-    moved_to word place a b = ap (λ k. bit_of old k place) (sym a) ∙ ap (bit_of old (with_digit s j i)) (sym b)

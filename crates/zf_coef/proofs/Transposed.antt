@@ -1,8 +1,8 @@
 -- Planes that are made of coefficients, and coefficients that are made of planes.
 use Rattle.std.proofs.Common.{rules}
-use Rattle.std.proofs.Common.{◌≡◌, refl, sym, ap, subst, ◌∙◌, ℕ, suc, ◌+◌, ◌-◌, ◌*◌, ◌/◌, ◌%◌, ◌^◌, ◌<◌, ◌≤◌, Bool, false, min, All, List, [], ◌∷◌, ◌++◌, map, reverse, length, get_or, take, drop, replicate, ext_get_or, get_or-take, get_or-drop, length-take, length-drop, mod-lt, arith}
+use Rattle.std.proofs.Common.{◌≡◌, refl, sym, ◌∙◌, ℕ, suc, ◌+◌, ◌-◌, ◌*◌, ◌/◌, ◌%◌, ◌^◌, ◌<◌, ◌≤◌, Bool, false, min, All, List, [], ◌∷◌, map, reverse, length, get_or, take, drop, replicate, ext_get_or, get_or-take, get_or-drop, length-take, length-drop, mod-lt, arith}
 use Rattle.std.proofs.lemmas.Bool.{cases_lt}
-use Rattle.std.proofs.lemmas.List.{get_or_past, get_or_append_left, get_or-append_right, length-map, get_or-map, map-append, reverse-append, length-replicate, get_or-replicate}
+use Rattle.std.proofs.lemmas.List.{get_or_past, get_or_append_left, get_or-append_right, length-map, get_or-map, length-replicate, get_or-replicate}
 use Rattle.std.proofs.lemmas.Nat.Bits.{bit_at-zero}
 use Rattle.zf_spec.specs.Numbers.{field, number, word_bits, is_odd}
 use Rattle.zf_spec.specs.Grid.{upto}
@@ -24,29 +24,9 @@ use Rattle.zf_coef.specs.Groups.{word_of, HoldsGroup, KeepsOthers, IsOfGroup}
 use Rattle.zf_spec.specs.Planes.{digits_in_planes}
 use Rattle.zf_spec.proofs.Fields.{get_or-field, length-field}
 use Rattle.zf_spec.proofs.WordBits.{length-word_bits, get_or-word_bits}
+use Rattle.zf_spec.proofs.HeldPlanes.{length-planes_held}
+use Rattle.zf_spec.proofs.PlaneDigits.{get_or-planes_of, length-planes_of}
 use Rattle.zf_spec.proofs.HeldPlanes.{get_or-planes_held}
-
--- ---- all planes
-
-map-reverse : {X Y : Type 0} (f : X → Y) (xs : List X) → map f (reverse xs) ≡ reverse (map f xs)
-map-reverse f [] = refl
-map-reverse f (x ∷ xs) =
-    ap (map f) (reverse-append (x ∷ []) xs) ∙ map-append f (reverse xs) (x ∷ []) ∙ ap (λ ys. ys ++ f x ∷ []) (map-reverse f xs) ∙ sym (reverse-append (f x ∷ []) (map f xs))
-
--- the planes of coefficients, the lowest first
-abbrev pub planes_up : ℕ → List (List Bool) → List (List Bool)
-planes_up n coefficients = map (λ k. plane k coefficients) (upto n)
-
-pub length-planes_up : (n : ℕ) (coefficients : List (List Bool)) → length (planes_up n coefficients) ≡ n
-length-planes_up n coefficients = length-map-upto (λ k. plane k coefficients) n
-
-pub get_or-planes_up : (n : ℕ) (coefficients : List (List Bool)) (k : ℕ) → k < n → get_or (planes_up n coefficients) k [] ≡ plane k coefficients
-get_or-planes_up n coefficients k below = get_or-map-upto (λ j. plane j coefficients) n k [] below
-
-pub planes_all : (size n : ℕ) (coefficients : List (List Bool)) (planes : List (List ℕ)) → map (digits_held size) planes ≡ planes_up n coefficients → planes_held size planes ≡ planes_of n coefficients
-unfolding planes_held
-planes_all size n coefficients planes same =
-    map-reverse (digits_held size) planes ∙ ap reverse same ∙ sym (map-reverse (λ k. plane k coefficients) (upto n))
 
 -- ---- one plane
 
@@ -120,13 +100,16 @@ planes_of_groups number digits planes room long groups =
     let n = length planes in
     let size = length digits in
     let coefficients = digits_in n digits in
-    planes_all size n coefficients planes
-    (ext_get_or [] (map (digits_held size) planes) (planes_up n coefficients) (length-map planes (digits_held size) ∙ sym (length-planes_up n coefficients))
+    let count = length-planes_held size planes in
+    ext_get_or [] (planes_held size planes) (planes_of n coefficients)
+    (count ∙ sym (length-planes_of n coefficients))
     (λ k h.
-    let within : k < n = omega (arith, length-map planes (digits_held size)) in
-    get_or-map (digits_held size) planes k [] [] within
-    ∙ plane_digits k digits (get_or planes k []) n within (plane_of_groups number k digits planes room within (long k within) groups)
-    ∙ sym (get_or-planes_up n coefficients k within)))
+    let j = n - 1 - k in
+    let within : j < n = omega arith in
+    get_or-planes_held size planes k [] (omega arith)
+    ∙ plane_digits j digits (get_or planes j []) n within
+    (plane_of_groups number j digits planes room within (long j within) groups)
+    ∙ sym (get_or-planes_of n coefficients k (omega arith)))
 
 pub clear_of_groups : (number : ℕ) (digits : List ℕ) (planes : List (List ℕ)) → length digits ≤ 64 * number
     → ((k : ℕ) → k < length planes → length (get_or planes k []) ≡ number) → HoldsGroups number digits planes
@@ -134,8 +117,6 @@ pub clear_of_groups : (number : ℕ) (digits : List ℕ) (planes : List (List �
 clear_of_groups number digits planes room long groups =
     All-from_get_or (IsClearFrom (length digits)) planes []
     (λ k within. plane_clear k digits (get_or planes k []) (plane_of_groups number k digits planes room within (long k within) groups))
-
--- ---- one coefficient
 
 -- ---- all coefficients
 
@@ -161,19 +142,15 @@ get_or-digits_in_planes size planes r below =
     (λ i h.
     let small : i < n = omega arith in
     let turned : n - 1 - (n - 1 - i) ≡ i = omega arith in
-    get_or-map-reverse-upto digit n i false small
-    ∙ ap (λ ds. get_or ds r false) (get_or-planes_held size planes (n - 1 - i) [] (omega arith))
-    ∙ get_or-digits_held size (get_or planes (n - 1 - (n - 1 - i)) []) r below
-    ∙ ap (λ j. bit_at_rank (get_or planes j [])) turned
-    ∙ sym (get_or-map bit_at_rank planes i [] false small))
+    search (rules, get_or-map-reverse-upto, get_or-planes_held, get_or-digits_held, get_or-map))
 
 -- planes of four words are what they are by their words
 pub all_four : (planes : List (List ℕ)) → ((k : ℕ) → k < length planes → length (get_or planes k []) ≡ 4)
     → map (λ ws. get_or ws 0 0 ∷ get_or ws 1 0 ∷ get_or ws 2 0 ∷ get_or ws 3 0 ∷ []) planes ≡ planes
 all_four [] long = refl
 all_four (ws ∷ planes) long =
-    ap (λ vs. vs ∷ map (λ us. get_or us 0 0 ∷ get_or us 1 0 ∷ get_or us 2 0 ∷ get_or us 3 0 ∷ []) planes) (four_elements ws (long 0 (omega arith)))
-    ∙ ap (λ ps. ws ∷ ps) (all_four planes (λ k h. long (suc k) (omega arith)))
+    let first = four_elements ws (long 0 (omega arith)) in
+    let rest = all_four planes (λ k h. long (suc k) (omega arith)) in cc
 
 -- ---- coefficients of groups
 
@@ -225,7 +202,6 @@ below_planes number planes digits few room words groups =
     (λ r within.
     let v = get_or digits r 0 in
     let word : v < 2 ^ 64 = All-get_or (λ u. u < 2 ^ 64) digits r 0 within words in
-    let cut : v % 2 ^ n < 2 ^ 64 = omega (arith, mod-le v (2 ^ n)) in
-    let same : v ≡ v % 2 ^ n = same_from_bits_below 64 v (v % 2 ^ n) word cut
+    let same : v ≡ v % 2 ^ n = same_from_bits_below 64 v (v % 2 ^ n) word (omega (arith, mod-le v (2 ^ n)))
     (λ k small. search (rules, bit_at-mod_pow, word_of-past, bit_at-zero, bit_at-mod_above, cases_lt)) in
-    subst (λ x. x < 2 ^ n) (sym same) (mod-lt v (pow_pos n)))
+    omega (arith, mod-lt v (pow_pos n)))

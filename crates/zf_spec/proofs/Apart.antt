@@ -1,12 +1,13 @@
 -- The code of planes, and what a budget keeps of them, plane by plane.
 use Rattle.std.proofs.Common.{rules}
-use Rattle.std.proofs.Common.{◌≡◌, refl, sym, ap, ◌∙◌, ℕ, zero, suc, ◌-◌, ◌<◌, ◌≤◌, max, Bool, true, false, List, [], ◌∷◌, ◌++◌, map, length, get_or, take, ⊎_elim, arith}
-use Rattle.std.proofs.lemmas.Bool.{true≢false, cases_lt, cases_order}
+use Rattle.std.proofs.Common.{◌≡◌, refl, sym, ap, ◌∙◌, ℕ, zero, suc, ◌-◌, ◌≤◌, max, Bool, true, false, List, [], ◌∷◌, ◌++◌, map, length, get_or, take, ⊎_elim, arith}
+use Rattle.std.proofs.lemmas.Bool.{true≢false, cases_lt}
 use Rattle.std.proofs.lemmas.List.{length-append}
 use Rattle.std.specs.List.{flat_map}
 use Rattle.zf_spec.specs.Grid.{count_from, upto}
 use Rattle.zf_spec.specs.Planes.{reach, reach_of_all, plane_code, code_from, code, code_at}
 use Rattle.zf_spec.specs.Kept.{kept_plane, kept_planes_from, kept_planes, kept_at}
+use Rattle.zf_spec.proofs.Reach.{only_end}
 use Rattle.zf_spec.proofs.Reach.{none_past_reach, one_at_reach}
 
 -- ---- the reach of all planes
@@ -25,20 +26,10 @@ one_in_some (ds ∷ ps) k h = ⊎_elim
 
 pub reach_of_all_only : (ps : List (List Bool)) (n : ℕ) → ((j k : ℕ) → n ≤ k → get_or (get_or ps j []) k false ≡ false)
     → ((k : ℕ) → n ≡ suc k → (j : ℕ) × (get_or (get_or ps j []) k false ≡ true)) → n ≡ reach_of_all ps
-reach_of_all_only ps n none one = ⊎_elim
-    (λ e. e)
-    (⊎_elim
-    (λ less. absurd (below (reach_of_all ps) less refl))
-    (λ more. absurd (above n more refl)))
-    (cases_order n (reach_of_all ps))
-  where
-    below : (r : ℕ) → n < r → reach_of_all ps ≡ r → ⊥
-    below zero h e = omega arith
-    below (suc r) h e = let found = one_in_some ps r e in true≢false (sym found.1 ∙ none found.0 r (omega arith))
-
-    above : (m : ℕ) → reach_of_all ps < m → n ≡ m → ⊥
-    above zero h e = omega arith
-    above (suc m) h e = let found = one m e in true≢false (sym found.1 ∙ none_past_all ps found.0 m (omega arith))
+reach_of_all_only ps n none one =
+    only_end (λ k. (j : ℕ) × (get_or (get_or ps j []) k false ≡ true)) n (reach_of_all ps)
+    (λ k h e. true≢false (sym e.1 ∙ none e.0 k h)) one
+    (λ k h e. true≢false (sym e.1 ∙ none_past_all ps e.0 k h)) (one_in_some ps)
 
 -- ---- lists over the numbers from one more on
 
@@ -64,8 +55,7 @@ code_from-apart n [] = refl
 code_from-apart n (ds ∷ ps) =
     let first : max n 0 ≡ n = omega arith in
     let behind = flat_map-shift (code_after n (ds ∷ ps)) (code_after (max n (reach ds)) ps) (λ k. ap (λ m. plane_code m (get_or ps k [])) (max-max n (reach ds) (reach_of_all (take k ps)))) 0 (length ps) in
-    ap (λ m. plane_code m ds ++ code_from (max n (reach ds)) ps) (sym first)
-    ∙ ap (λ bs. plane_code (max n 0) ds ++ bs) (code_from-apart (max n (reach ds)) ps ∙ sym behind)
+    cc (code_from-apart (max n (reach ds)) ps)
 
 kept_after : ℕ → ℕ → List (List Bool) → ℕ → List Bool
 kept_after r n ps k = kept_plane (r - length (code_from n (take k ps))) (max n (reach_of_all (take k ps))) (get_or ps k [])
@@ -76,16 +66,13 @@ kept_planes_from-apart r n [] = refl
 kept_planes_from-apart r n (ds ∷ ps) =
     let first : max n 0 ≡ n = omega arith in
     let all : r - 0 ≡ r = omega arith in
-    let here : kept_plane (r - 0) (max n 0) ds ≡ kept_plane r n ds = ap (λ s. kept_plane s (max n 0) ds) all ∙ ap (λ m. kept_plane r m ds) first in
     let more = r - length (plane_code n ds) in
     let behind = map-shift (kept_after r n (ds ∷ ps)) (kept_after more (max n (reach ds)) ps)
     (λ k.
     let above = code_from (max n (reach ds)) (take k ps) in
     let left : r - length (plane_code n ds ++ above) ≡ more - length above = omega (arith, length-append (plane_code n ds) above) in
-    ap (λ s. kept_plane s (max n (max (reach ds) (reach_of_all (take k ps)))) (get_or ps k [])) left
-    ∙ ap (λ m. kept_plane (more - length above) m (get_or ps k [])) (max-max n (reach ds) (reach_of_all (take k ps)))) 0 (length ps) in
-    ap (λ ks. ks ∷ kept_planes_from more (max n (reach ds)) ps) (sym here)
-    ∙ ap (λ ks. kept_plane (r - 0) (max n 0) ds ∷ ks) (kept_planes_from-apart more (max n (reach ds)) ps ∙ sym behind)
+    cc (max-max n (reach ds) (reach_of_all (take k ps)))) 0 (length ps) in
+    cc (kept_planes_from-apart more (max n (reach ds)) ps)
 
 -- ---- from the greatest plane on
 
@@ -93,12 +80,10 @@ none_above : (n : ℕ) → max 0 n ≡ n
 none_above n = omega arith
 
 flat_map_same : (f g : ℕ → List Bool) (ks : List ℕ) → ((k : ℕ) → f k ≡ g k) → flat_map f ks ≡ flat_map g ks
-flat_map_same f g [] same = refl
-flat_map_same f g (k ∷ ks) same = ap (λ bs. bs ++ flat_map f ks) (same k) ∙ ap (λ bs. g k ++ bs) (flat_map_same f g ks same)
+flat_map_same f g ks same = search (rules, same)
 
 map_same : (f g : ℕ → List Bool) (ks : List ℕ) → ((k : ℕ) → f k ≡ g k) → map f ks ≡ map g ks
-map_same f g [] same = refl
-map_same f g (k ∷ ks) same = ap (λ b. b ∷ map f ks) (same k) ∙ ap (λ bs. g k ∷ bs) (map_same f g ks same)
+map_same f g ks same = search (rules, same)
 
 pub code-apart : (ps : List (List Bool)) → code ps ≡ flat_map (code_at ps) (upto (length ps))
 unfolding code_after

@@ -1,5 +1,6 @@
 -- Lists of bits that begin a list continued with zeros.
 use Rattle.std.proofs.Common.{◌≡◌, refl, sym, ap, subst, ◌∙◌, ℕ, zero, suc, ◌-◌, ◌≤◌, Bool, false, List, [], ◌∷◌, ◌++◌, length, take, drop, arith}
+use Rattle.std.proofs.Math.Seq.{drop-nil}
 use Rattle.zf_spec.specs.ReadPlanes.{Begins, first_bits}
 
 pub length-first_bits : (n : ℕ) (s : List Bool) → length (first_bits n s) ≡ n
@@ -24,11 +25,7 @@ begins_from_first bits s e = subst (λ cs. Begins cs s) (sym e) (first_begins (l
 -- what begins in two parts
 pub begins_append : (a b s : List Bool) → Begins a s → Begins b (drop (length a) s) → Begins (a ++ b) s
 begins_append [] b s f g = g
-begins_append (x ∷ a) b [] f g = (f.0, begins_append a b [] f.1 (subst (λ t. Begins b t) (sym (drop-nil (length a))) g))
-  where
-    drop-nil : (n : ℕ) → drop {A = Bool} n [] ≡ []
-    drop-nil zero = refl
-    drop-nil (suc n) = refl
+begins_append (x ∷ a) b [] f g = (f.0, begins_append a b [] f.1 (rw drop-nil g))
 begins_append (x ∷ a) b (c ∷ s) f g = (f.0, begins_append a b s f.1 g)
 
 pub begins_prefix : (a b s : List Bool) → Begins (a ++ b) s → Begins a s
@@ -38,11 +35,7 @@ begins_prefix (x ∷ a) b (c ∷ s) h = (h.0, begins_prefix a b s h.1)
 
 pub begins_rest : (a b s : List Bool) → Begins (a ++ b) s → Begins b (drop (length a) s)
 begins_rest [] b s h = h
-begins_rest (x ∷ a) b [] h = by (length a) (begins_rest a b [] h.1)
-  where
-    by : (n : ℕ) → Begins b (drop n []) → Begins b []
-    by zero h = h
-    by (suc n) h = h
+begins_rest (x ∷ a) b [] h = rw drop-nil at (begins_rest a b [] h.1)
 begins_rest (x ∷ a) b (c ∷ s) h = begins_rest a b s h.1
 
 -- a list begins each list that goes on with it

@@ -4,10 +4,11 @@ use Rattle.std.proofs.Common.{◌≡◌, refl, sym, ap, subst, ◌∙◌, ℕ, z
 use Rattle.std.proofs.Math.Nat.{div-one, div-div-eq-div-mul}
 use Rattle.std.proofs.lemmas.List.{length-append, length-take, length-drop, length-replicate}
 use Rattle.std.proofs.lemmas.List.Elements.{All-head, All-tail, All-nil, All-cons}
-use Rattle.std.specs.Int.{Width, w8, w16, w32, w64, w128, div_ceil, byte_len, byte_at, byte_worth, bytes_low_first, sum_through, to_le_bytes, from_le_bytes}
+use Rattle.std.specs.Int.{Width, div_ceil, byte_len, byte_at, byte_worth, bytes_low_first, sum_through, to_le_bytes, from_le_bytes}
 use mir.Val.{bits}
-use Rattle.zf_spec.specs.Numbers.{field, number}
+use Rattle.zf_spec.specs.Numbers.{field}
 use Rattle.zf_spec.specs.Stream.{fill, with_fill, bytes_from, to_bytes, to_bits, first_bytes}
+use Rattle.std.proofs.Math.Seq.{drop-nil}
 use Rattle.zf_spec.proofs.Fields.{length-field, number-field, field-number}
 
 -- ---- bytes of bits
@@ -16,11 +17,9 @@ to_bits-bytes_from : (n : ℕ) (bs : List Bool) → length bs ≡ 8 * n → to_b
 to_bits-bytes_from zero [] l = refl
 to_bits-bytes_from zero (b ∷ bs) l = absurd (omega arith)
 to_bits-bytes_from (suc n) bs l =
-    let prefix : length (take 8 bs) ≡ 8 = omega (arith, length-take 8 bs) in
-    let rest : length (drop 8 bs) ≡ 8 * n = omega (arith, length-drop 8 bs) in
-    ap (λ cs. cs ++ to_bits (bytes_from n (drop 8 bs))) (field-number 8 (take 8 bs) prefix)
-    ∙ ap (λ cs. take 8 bs ++ cs) (to_bits-bytes_from n (drop 8 bs) rest)
-    ∙ take-append-drop 8 bs
+    let first = field-number 8 (take 8 bs) (omega (arith, length-take 8 bs)) in
+    let rest = to_bits-bytes_from n (drop 8 bs) (omega (arith, length-drop 8 bs)) in
+    cc (take-append-drop 8 bs)
 
 -- whole bytes of bits come back from their bytes
 pub to_bits-to_bytes : (bs : List Bool) → length bs % 8 ≡ 0 → to_bits (to_bytes bs) ≡ bs
@@ -42,10 +41,9 @@ bytes_from-to_bits [] all = refl
 bytes_from-to_bits (b ∷ bytes) all =
     let prefix = take_at (field 8 b) (to_bits bytes) 8 (length-field 8 b) in
     let rest = drop_at (field 8 b) (to_bits bytes) 8 (length-field 8 b) in
-    let byte = ap number prefix ∙ number-field 8 b ∙ mod-eq_of_lt (All-head (λ b. b < 256) b bytes all) in
-    ap (λ c. c ∷ bytes_from (length bytes) (drop 8 (field 8 b ++ to_bits bytes))) byte
-    ∙ ap (λ bs. b ∷ bytes_from (length bytes) bs) rest
-    ∙ ap (λ cs. b ∷ cs) (bytes_from-to_bits bytes (All-tail (λ b. b < 256) b bytes all))
+    let byte = mod-eq_of_lt (All-head (λ b. b < 256) b bytes all) in
+    let others = bytes_from-to_bits bytes (All-tail (λ b. b < 256) b bytes all) in
+    cc (number-field 8 b)
 
 -- bytes come back from their bits
 pub to_bytes-to_bits : (bytes : List ℕ) → All (λ b. b < 256) bytes → to_bytes (to_bits bytes) ≡ bytes
@@ -96,18 +94,12 @@ pub first_bytes-all : (s : List ℕ) → first_bytes (length s) s ≡ s
 first_bytes-all [] = refl
 first_bytes-all (b ∷ s) = ap (λ zs. b ∷ zs) (first_bytes-all s)
 
-drop-nil : (n : ℕ) → drop {A = ℕ} n [] ≡ []
-drop-nil zero = refl
-drop-nil (suc n) = refl
-
 pub first_bytes-add : (m n : ℕ) (s : List ℕ) → first_bytes (m + n) s ≡ first_bytes m s ++ first_bytes n (drop m s)
 first_bytes-add zero n s = let e : zero + n ≡ n = omega arith in rw e refl
 first_bytes-add (suc m) n [] =
-    let e : suc m + n ≡ suc (m + n) = omega arith in
-    rw e (ap (λ zs. 0 ∷ zs) (first_bytes-add m n [] ∙ ap (λ t. first_bytes m [] ++ first_bytes n t) (drop-nil m)))
+    let e : suc m + n ≡ suc (m + n) = omega arith in rw (e, first_bytes-add m n [], drop-nil) refl
 first_bytes-add (suc m) n (b ∷ s) =
-    let e : suc m + n ≡ suc (m + n) = omega arith in
-    rw e (ap (λ zs. b ∷ zs) (first_bytes-add m n s))
+    let e : suc m + n ≡ suc (m + n) = omega arith in rw (e, first_bytes-add m n s) refl
 
 -- ---- the bytes of a number, the lowest first: std's words by recursion
 
@@ -143,9 +135,7 @@ low_bytes-low_number (b ∷ bs) all =
     let small : b < 256 = All-head (λ b. b < 256) b bs all in
     let first : (b + 256 * low_number bs) % 256 ≡ b = omega arith in
     let others : (b + 256 * low_number bs) / 256 ≡ low_number bs = omega arith in
-    ap (λ c. c ∷ low_bytes (length bs) ((b + 256 * low_number bs) / 256)) first
-    ∙ ap (λ m. b ∷ low_bytes (length bs) m) others
-    ∙ ap (λ cs. b ∷ cs) (low_bytes-low_number bs (All-tail (λ b. b < 256) b bs all))
+    let rest = low_bytes-low_number bs (All-tail (λ b. b < 256) b bs all) in cc
 
 low_number_below : (bs : List ℕ) → All (λ b. b < 256) bs → low_number bs < 256 ^ length bs
 unfolding low_number
@@ -164,18 +154,14 @@ unfolding low_bytes
 bytes_low_first-is i zero n = refl
 bytes_low_first-is i (suc k) n =
     let next : n / 256 ^ suc i ≡ n / 256 ^ i / 256 = ap (λ p. n / p) (pow-suc 256 i) ∙ sym (div-div-eq-div-mul n (256 ^ i) 256) in
-    ap (λ b. b ∷ bytes_low_first (suc i) k n) (byte_at-is i n)
-    ∙ ap (λ bs. n / 256 ^ i % 256 ∷ bs) (bytes_low_first-is (suc i) k n ∙ ap (low_bytes k) next)
+    cc (byte_at-is i n, bytes_low_first-is (suc i) k n)
 
 -- one more byte at the end
 low_number-push : (bs : List ℕ) (k : ℕ) → length bs ≡ suc k → low_number bs ≡ low_number (take k bs) + get_or bs k 0 * 256 ^ k
 unfolding low_number
 low_number-push [] k l = absurd (omega arith)
-low_number-push (b ∷ bs) zero l = ap (λ cs. b + 256 * low_number cs) (nothing bs (omega arith)) ∙ omega arith
-  where
-    nothing : (bs : List ℕ) → length bs ≡ 0 → bs ≡ []
-    nothing [] e = refl
-    nothing (c ∷ cs) e = absurd (omega arith)
+low_number-push (b ∷ []) zero l = omega arith
+low_number-push (b ∷ c ∷ bs) zero l = absurd (omega arith)
 low_number-push (b ∷ bs) (suc k) l =
     let rest = low_number-push bs k (omega arith) in
     let power = ap (λ p. get_or bs k 0 * p) (pow-suc 256 k) in
@@ -193,18 +179,10 @@ sum_through-is bs (suc k) l =
     let rest = sum_through-is bs k (omega arith) in search (rules, low_number)
 
 byte_len-some : (w : Width) → suc (byte_len w - 1) ≡ byte_len w
-byte_len-some w8 = refl
-byte_len-some w16 = refl
-byte_len-some w32 = refl
-byte_len-some w64 = refl
-byte_len-some w128 = refl
+byte_len-some w = grind arith
 
 byte_len-bits : (w : Width) → 256 ^ byte_len w ≡ 2 ^ bits w
-byte_len-bits w8 = refl
-byte_len-bits w16 = refl
-byte_len-bits w32 = refl
-byte_len-bits w64 = refl
-byte_len-bits w128 = refl
+byte_len-bits w = grind arith
 
 from_le_bytes-is : (w : Width) (bs : List ℕ) → length bs ≡ byte_len w → from_le_bytes w bs ≡ low_number bs
 from_le_bytes-is w bs l =
@@ -224,9 +202,8 @@ to_le_bytes_small w n = subst (All (λ b. b < 256)) (sym (to_le_bytes-is w n)) (
 
 pub from_le_bytes-to_le_bytes : (w : Width) (n : ℕ) → n < 2 ^ bits w → from_le_bytes w (to_le_bytes w n) ≡ n
 from_le_bytes-to_le_bytes w n h =
-    from_le_bytes-is w (to_le_bytes w n) (length-to_le_bytes w n)
-    ∙ ap low_number (to_le_bytes-is w n)
-    ∙ low_number-low_bytes (byte_len w) n (omega (arith, h, byte_len-bits w))
+    let low = low_number-low_bytes (byte_len w) n (omega (arith, h, byte_len-bits w)) in
+    cc (from_le_bytes-is w (to_le_bytes w n) (length-to_le_bytes w n), to_le_bytes-is w n)
 
 pub to_le_bytes-from_le_bytes : (w : Width) (bs : List ℕ) → length bs ≡ byte_len w → All (λ b. b < 256) bs → to_le_bytes w (from_le_bytes w bs) ≡ bs
 to_le_bytes-from_le_bytes w bs l all = search (rules, from_le_bytes-is, to_le_bytes-is, low_number, low_bytes, low_bytes-low_number)

@@ -1,6 +1,6 @@
 -- A plane that a budget cuts has a code that is too long for the bits that were left, as its whole plane has.
 use Rattle.std.proofs.Common.{rules}
-use Rattle.std.proofs.Common.{◌≡◌, refl, ap, ◌∙◌, ℕ, zero, suc, ◌-◌, ◌<◌, ◌≤◌, max, Bool, true, false, cond, List, [], ◌∷◌, length, take, All, ⊎_elim, arith}
+use Rattle.std.proofs.Common.{◌≡◌, refl, ap, ℕ, zero, suc, ◌-◌, ◌<◌, ◌≤◌, max, Bool, true, false, List, [], ◌∷◌, length, take, All, arith}
 use Rattle.std.proofs.lemmas.Bool.{cases_lt}
 use Rattle.std.proofs.lemmas.List.{length-append, length-take, length-drop, length-replicate, take_at, drop_at}
 use Rattle.std.proofs.lemmas.List.Elements.{All-head, All-tail}
@@ -46,27 +46,22 @@ RunIsCut ds = (behind : ℕ) → behind < length (code_from_run ds) → behind <
 cut_tail_of : (r : ℕ) (ds : List Bool) → RunIsCut ds → r < length (tail ds) → r < length (tail (kept_tail r ds))
 cut_tail_of r [] run more = absurd (omega arith)
 cut_tail_of zero (d ∷ ds) run more = let one = ap length (tail-zeros (length ds)) in omega arith
-cut_tail_of (suc r) (d ∷ ds) run more = by (has_one (d ∷ ds)) refl more
-  where
-    by : (t : Bool) → has_one (d ∷ ds) ≡ t → suc r < length (cond t (true ∷ code_from_run (d ∷ ds)) (false ∷ [])) → suc r < length (tail (kept_tail (suc r) (d ∷ ds)))
-    by true one more =
-        let left : suc r - 1 ≡ r = omega arith in
-        let kept : kept_tail (suc r) (d ∷ ds) ≡ kept_run r (d ∷ ds) = kept_tail-one (suc r) (d ∷ ds) (omega arith) one ∙ ap (λ n. kept_run n (d ∷ ds)) left in
-        let code = ap (λ ks. length (tail ks)) kept ∙ ap length (tail-some (kept_run r (d ∷ ds)) (kept_run-has_one r (d ∷ ds) one)) in
-        omega (arith, code, run r (omega (arith, more)))
-    by false none more = absurd (omega arith)
+cut_tail_of (suc r) (d ∷ ds) run more =
+    let left : suc r - 1 ≡ r = omega arith in
+    let kept = kept_tail-one (suc r) (d ∷ ds) (omega arith) in
+    let next = run r in
+    let some = kept_run-has_one r (d ∷ ds) in
+    let code = tail-some (kept_run r (d ∷ ds)) in grind arith
 
 cut_run : (ds : List Bool) → RunIsCut ds
 cut_run [] behind more = absurd (omega arith)
 cut_run (d ∷ []) behind more = absurd (omega arith)
 cut_run (d ∷ e ∷ ds) zero more = let code = ap length (code_from_run-true (zeros (e ∷ ds)) (omega (arith, length-zeros (e ∷ ds)))) in omega arith
 cut_run (true ∷ e ∷ ds) (suc left) more =
-    let whole = ap length (code_from_run-true (e ∷ ds) (omega arith)) in
-    let code = ap length (code_from_run-true (kept_tail left (e ∷ ds)) (omega (arith, length-kept_tail left (e ∷ ds)))) in
-    omega (arith, code, cut_tail_of left (e ∷ ds) (cut_run (e ∷ ds)) (omega (arith, whole, more)))
+    let next = cut_tail_of left (e ∷ ds) (cut_run (e ∷ ds)) in
+    grind (arith, code_from_run-true, length-kept_tail)
 cut_run (false ∷ e ∷ ds) (suc behind) more =
-    let code = ap length (code_from_run-false (kept_run behind (e ∷ ds)) (omega (arith, length-kept_run behind (e ∷ ds)))) in
-    omega (arith, code, cut_run (e ∷ ds) behind (omega (arith, more)))
+    let next = cut_run (e ∷ ds) behind in grind (arith, code_from_run-false, length-kept_run)
 
 cut_tail : (r : ℕ) (ds : List Bool) → r < length (tail ds) → r < length (tail (kept_tail r ds))
 cut_tail r ds more = cut_tail_of r ds (cut_run ds) more
@@ -83,18 +78,11 @@ planes_cut : (size r n : ℕ) (ps : List (List Bool)) (m : ℕ) → n ≤ size �
 planes_cut size r n ps zero within all more = absurd (omega arith)
 planes_cut size r n [] (suc m) within all more = absurd (omega arith)
 planes_cut size r n (ds ∷ ps) (suc m) within all more =
-    let c = plane_code n ds in
-    let above = max n (reach ds) in
-    let rest = take m (kept_planes_from (r - length c) above ps) in
     let long : length ds ≡ size = All-head (λ ds. length ds ≡ size) ds ps all in
-    ⊎_elim
-    (search (rules, kept_cut, length-append, cut_plane_code))
-    (λ fits.
-    let same = ap (λ k. length (code_from n (k ∷ rest))) (kept_whole r n ds fits) in
-    let next = planes_cut size (r - length c) above ps m (reach_within size n ds within long) (All-tail (λ ds. length ds ≡ size) ds ps all)
-    (omega (arith, more, length-append c (code_from above (take m ps)), fits)) in
-    omega (arith, same, length-append c (code_from above rest), next))
-    (cases_lt r (length c))
+    let sizes = All-tail (λ ds. length ds ≡ size) ds ps all in
+    let next = planes_cut size (r - length (plane_code n ds)) (max n (reach ds)) ps m
+    (reach_within size n ds within long) sizes in
+    search (rules, kept_cut, kept_whole, length-append, cut_plane_code, cases_lt)
 
 pub kept_planes-too_long : (size budget : ℕ) (ps : List (List Bool)) (m : ℕ) → All (λ ds. length ds ≡ size) ps → budget < length (code (take m ps))
     → budget < length (code (take m (kept_planes budget ps)))

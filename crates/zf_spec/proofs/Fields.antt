@@ -13,18 +13,15 @@ length-field (suc n) v = ap suc (length-field n (v / 2))
 pub number-field : (n v : ℕ) → number (field n v) ≡ v % 2 ^ n
 number-field zero v = sym (mod-one v)
 number-field (suc n) v =
-    let split : v % 2 ^ (n + 1) ≡ (v / 2 ^ 1 % 2 ^ n) * 2 ^ 1 + v % 2 ^ 1 = mod-pow-add v n 1 in
-    let e : suc n ≡ n + 1 = omega arith in
-    let here : number (field (suc n) v) ≡ v % 2 ^ (n + 1) = omega (arith, split, digit_value-is_odd v, number-field n (v / 2)) in
-    here ∙ ap (λ k. v % 2 ^ k) (sym e)
+    let e : 2 ^ suc n ≡ 2 ^ (n + 1) = ap (λ k. 2 ^ k) (omega arith) in
+    let here : number (field (suc n) v) ≡ v % 2 ^ (n + 1) =
+    omega (arith, mod-pow-add v n 1, digit_value-is_odd v, number-field n (v / 2)) in cc
 
 pub is_odd-digit_value : (b : Bool) (n : ℕ) → is_odd (digit_value b + 2 * n) ≡ b
-is_odd-digit_value true n = let e : (1 + 2 * n) % 2 ≡ 1 = omega arith in rw e refl
-is_odd-digit_value false n = let e : (0 + 2 * n) % 2 ≡ 0 = omega arith in rw e refl
+is_odd-digit_value b n = grind arith
 
 pub half-digit_value : (b : Bool) (n : ℕ) → (digit_value b + 2 * n) / 2 ≡ n
-half-digit_value true n = omega arith
-half-digit_value false n = omega arith
+half-digit_value b n = grind arith
 
 -- bits are the field of their number
 pub field-number : (n : ℕ) (bs : List Bool) → length bs ≡ n → field n (number bs) ≡ bs
@@ -32,9 +29,7 @@ field-number zero [] l = refl
 field-number zero (b ∷ bs) l = cc
 field-number (suc n) [] l = cc
 field-number (suc n) (b ∷ bs) l =
-    ap (λ c. c ∷ field n (number (b ∷ bs) / 2)) (is_odd-digit_value b (number bs))
-    ∙ ap (λ m. b ∷ field n m) (half-digit_value b (number bs))
-    ∙ ap (λ cs. b ∷ cs) (field-number n bs (omega arith))
+    cc (is_odd-digit_value b (number bs), half-digit_value b (number bs), field-number n bs (omega arith))
 
 pub number-lt : (bs : List Bool) → number bs < 2 ^ length bs
 number-lt [] = omega arith

@@ -1,6 +1,6 @@
 -- How long a file is whose codes all have one length.
 use Rattle.std.proofs.Common.{rules}
-use Rattle.std.proofs.Common.{◌≡◌, ◌∙◌, ℕ, ◌+◌, ◌*◌, Bool, List, [], ◌∷◌, map, length, arith, suc-mul}
+use Rattle.std.proofs.Common.{◌≡◌, ℕ, ◌+◌, ◌*◌, Bool, List, [], ◌∷◌, map, length, arith, suc-mul}
 use Rattle.std.specs.Int.{Width, div_ceil}
 use Rattle.std.specs.List.{flat_map}
 use Rattle.std.proofs.lemmas.List.{length-append}
@@ -11,7 +11,7 @@ use Rattle.zf_spec.proofs.Bytes.{length-to_bytes, length-filled_bytes}
 pub length-codes : {X : Type 0} (code : X → List Bool) (n : ℕ) (xs : List X) → ((x : X) → length (code x) ≡ n) → length (flat_map (λ c. c) (map code xs)) ≡ length xs * n
 length-codes code n [] each = omega arith
 length-codes code n (x ∷ xs) each =
-    length-append (code x) (flat_map (λ c. c) (map code xs)) ∙ omega (arith, each x, length-codes code n xs each, suc-mul (length xs) n)
+    let rest = length-codes code n xs each in search (rules, length-append, each, suc-mul)
 
 pub length-file : {X : Type 0} (w : Width) (ns : List ℕ) (mode : Mode) (code : X → List Bool) (n : ℕ) (xs : List X) → ((x : X) → length (code x) ≡ n)
     → length (file w ns mode (map code xs)) ≡ 8 * div_ceil (length (header w ns mode) + length xs * n) 64

@@ -1,6 +1,6 @@
 -- The only planes whose code begins a list of bits.
 use Rattle.std.proofs.Common.{rules}
-use Rattle.std.proofs.Common.{◌≡◌, refl, sym, ap, subst, ◌∙◌, ℕ, zero, suc, ◌-◌, ◌≤◌, max, Bool, true, false, cond, List, [], ◌∷◌, length, take, drop, replicate, All, take_at, drop_at, take-append-drop, arith}
+use Rattle.std.proofs.Common.{◌≡◌, refl, sym, ap, subst, ℕ, zero, suc, ◌-◌, ◌≤◌, max, Bool, true, false, List, [], ◌∷◌, length, take, drop, replicate, All, take_at, drop_at, take-append-drop, arith}
 use Rattle.std.proofs.lemmas.Bool.{true≢false, false≢true}
 use Rattle.std.proofs.lemmas.List.{length-append, length-take, length-drop, length-replicate}
 use Rattle.std.proofs.lemmas.List.Elements.{All-nil, All-cons, All-head, All-tail}
@@ -13,21 +13,16 @@ use Rattle.zf_spec.proofs.PlaneCode.{tail-zeros}
 -- ---- runs and tails
 
 pub code_from_run-true : (ds : List Bool) → 1 ≤ length ds → code_from_run (true ∷ ds) ≡ true ∷ tail ds
-code_from_run-true [] h = absurd (omega arith)
-code_from_run-true (d ∷ ds) h = refl
+code_from_run-true ds h = grind arith
 
 pub code_from_run-false : (ds : List Bool) → 1 ≤ length ds → code_from_run (false ∷ ds) ≡ false ∷ code_from_run ds
-code_from_run-false [] h = absurd (omega arith)
-code_from_run-false (d ∷ ds) h = refl
+code_from_run-false ds h = grind arith
 
 pub tail-some : (ds : List Bool) → has_one ds ≡ true → tail ds ≡ true ∷ code_from_run ds
-tail-some [] h = absurd (false≢true h)
-tail-some (d ∷ ds) h = ap (λ t. cond t (true ∷ code_from_run (d ∷ ds)) (false ∷ [])) h
+tail-some ds h = grind arith
 
 length-group_in : (m : ℕ) (s : List Bool) → ((t : List Bool) → length (run_in m t) ≡ m) → length (group_in m s (run_in m)) ≡ m
-length-group_in m [] run = length-replicate m false
-length-group_in m (false ∷ s) run = length-replicate m false
-length-group_in m (true ∷ s) run = run s
+length-group_in m s run = grind (arith, length-replicate)
 
 pub length-run_in : (m : ℕ) (s : List Bool) → length (run_in m s) ≡ m
 length-run_in zero s = refl
@@ -137,9 +132,9 @@ full_from_only size n (ds ∷ ps) s h all b =
     let l : length ds ≡ size = All-head (λ ds. length ds ≡ size) ds ps all in
     let c = plane_code n ds in
     let others = code_from (max n (reach ds)) ps in
-    let plane : ds ≡ plane_in size n s = full_plane_only n ds s (omega arith) (begins_prefix c others s b) ∙ ap (λ k. plane_in k n s) l in
+    let plane = full_plane_only n ds s (omega arith) (begins_prefix c others s b) in
     let rest = full_from_only size (max n (reach ds)) ps (drop (length c) s) (reach_within size n ds h l) (All-tail (λ ds. length ds ≡ size) ds ps all) (begins_rest c others s b) in
-    ap (λ qs. ds ∷ qs) rest ∙ ap (λ es. es ∷ planes_in_from (length ps) size (max n (reach es)) (drop (length (plane_code n es)) s)) plane
+    cc
 
 pub length-planes_in : (p size : ℕ) (s : List Bool) → length (planes_in p size s) ≡ p
 length-planes_in p size s = length-planes_in_from p size 0 s

@@ -1,6 +1,6 @@
 -- Halves that are rounded down, and the digit that a half leaves.
 use Rattle.std.proofs.Common.{rules}
-use Rattle.std.proofs.Common.{◌≡◌, refl, ℕ, ◌+◌, ◌%◌, Bool, true, false, not, eqb-true, ℤ, pos, negsuc, ◌+ℤ◌, ◌*ℤ◌, ◌≤ℤ◌, ◌<ℤ◌, arith}
+use Rattle.std.proofs.Common.{◌≡◌, ℕ, ◌+◌, ◌%◌, Bool, not, eqb-true, ℤ, pos, negsuc, ◌+ℤ◌, ◌*ℤ◌, ◌≤ℤ◌, ◌<ℤ◌, arith}
 use Rattle.std.proofs.lemmas.Bool.{eqb-false}
 use Rattle.std.proofs.lemmas.Int.{ints}
 use Rattle.zf_spec.specs.Numbers.{floor_half, is_odd, is_odd_int, digit_value}
@@ -10,8 +10,7 @@ pub digit_value-is_odd : (n : ℕ) → digit_value (is_odd n) ≡ n % 2
 digit_value-is_odd n = search (rules, eqb-true, eqb-false)
 
 digit_value-not : (b : Bool) → digit_value (not b) + digit_value b ≡ 1
-digit_value-not true = refl
-digit_value-not false = refl
+digit_value-not b = grind arith
 
 -- a number is its lowest digit and twice its half
 pub half_split : (v : ℤ) → v ≡ pos (digit_value (is_odd_int v)) +ℤ pos 2 *ℤ floor_half v

@@ -11,6 +11,7 @@ use Rattle.zf_spec.specs.Lorenzo.{signed_choose, plain_choose, weight, weighted_
 use Rattle.zf_spec.proofs.Ring.{*ℤ_assoc}
 use Rattle.zf_spec.proofs.Counting.{length-map-upto, get_or-map-upto, map-get_or-upto, from_places}
 use Rattle.zf_spec.proofs.Wrapping.{same_modulo_mul, wrap_is_same, wrap_fits, wrap_only, same_modulo_sym}
+use Rattle.std.proofs.Common.{[]}
 use Rattle.zf_spec.proofs.Sums.{total, total_same, total_same_modulo, total-scale, total-scale_right, total_swap, total_fours, same_number, same_number-fours, one_term, weighted_sum-map}
 
 -- ---- the weights along one axis
@@ -20,30 +21,23 @@ abbrev pub Undoes : (ℕ → ℕ → ℤ) → (ℕ → ℕ → ℤ) → Type 0
 Undoes f g = (m k : ℕ) → m < 4 → k < 4 → total (λ i. f m i *ℤ g i k) 0 4 ≡ same_number m k
 
 -- sixteen equations at the numbers below 4
-each_below_four : (P : ℕ → Type 0) → P 0 → P 1 → P 2 → P 3 → (k : ℕ) → k < 4 → P k
-each_below_four P a b c d zero h = a
-each_below_four P a b c d (suc zero) h = b
-each_below_four P a b c d (suc (suc zero)) h = c
-each_below_four P a b c d (suc (suc (suc zero))) h = d
-each_below_four P a b c d (suc (suc (suc (suc k)))) h = absurd (omega arith)
+abbrev by_four : (ℕ → ℕ → ℤ) → List (List ℤ)
+by_four h = map (λ m. map (h m) (upto 4)) (upto 4)
+
+undoes_from : (f g : ℕ → ℕ → ℤ) → by_four (λ m k. total (λ i. f m i *ℤ g i k) 0 4) ≡ by_four same_number
+    → Undoes f g
+undoes_from f g e m k p l =
+    let at : (h : ℕ → ℕ → ℤ) → get_or (get_or (by_four h) m []) k (pos 0) ≡ h m k =
+    λ h. ap (λ (r : List ℤ). get_or r k (pos 0)) (get_or-map-upto (λ m. map (h m) (upto 4)) 4 m [] p)
+    ∙ get_or-map-upto (h m) 4 k (pos 0) l in
+    sym (at (λ m k. total (λ i. f m i *ℤ g i k) 0 4))
+    ∙ ap (λ (t : List (List ℤ)). get_or (get_or t m []) k (pos 0)) e ∙ at same_number
 
 plain_undoes_signed : Undoes plain_choose signed_choose
-plain_undoes_signed m k h l =
-    each_below_four (λ m. total (λ i. plain_choose m i *ℤ signed_choose i k) 0 4 ≡ same_number m k)
-    (each_below_four (λ k. total (λ i. plain_choose 0 i *ℤ signed_choose i k) 0 4 ≡ same_number 0 k) refl refl refl refl k l)
-    (each_below_four (λ k. total (λ i. plain_choose 1 i *ℤ signed_choose i k) 0 4 ≡ same_number 1 k) refl refl refl refl k l)
-    (each_below_four (λ k. total (λ i. plain_choose 2 i *ℤ signed_choose i k) 0 4 ≡ same_number 2 k) refl refl refl refl k l)
-    (each_below_four (λ k. total (λ i. plain_choose 3 i *ℤ signed_choose i k) 0 4 ≡ same_number 3 k) refl refl refl refl k l)
-    m h
+plain_undoes_signed = undoes_from plain_choose signed_choose refl
 
 signed_undoes_plain : Undoes signed_choose plain_choose
-signed_undoes_plain m k h l =
-    each_below_four (λ m. total (λ i. signed_choose m i *ℤ plain_choose i k) 0 4 ≡ same_number m k)
-    (each_below_four (λ k. total (λ i. signed_choose 0 i *ℤ plain_choose i k) 0 4 ≡ same_number 0 k) refl refl refl refl k l)
-    (each_below_four (λ k. total (λ i. signed_choose 1 i *ℤ plain_choose i k) 0 4 ≡ same_number 1 k) refl refl refl refl k l)
-    (each_below_four (λ k. total (λ i. signed_choose 2 i *ℤ plain_choose i k) 0 4 ≡ same_number 2 k) refl refl refl refl k l)
-    (each_below_four (λ k. total (λ i. signed_choose 3 i *ℤ plain_choose i k) 0 4 ≡ same_number 3 k) refl refl refl refl k l)
-    m h
+signed_undoes_plain = undoes_from signed_choose plain_choose refl
 
 -- ---- the weights over all axes
 
@@ -58,15 +52,13 @@ weights_undo f g (suc d) m k undoes p q =
     let line : ℕ → ℤ = λ r. f (m % 4) r *ℤ g r (k % 4) in
     let others : ℕ → ℤ = λ a. weight f d (m / 4) a *ℤ weight g d a (k / 4) in
     let h : ℕ → ℕ → ℤ = λ r a. line r *ℤ others a in
+    let first = undoes (m % 4) (k % 4) (omega arith) (omega arith) in
+    let rest = weights_undo f g d (m / 4) (k / 4) undoes (omega arith) (omega arith) in
     total_same (λ i. weight f (suc d) m i *ℤ weight g (suc d) i k) (λ i. h (i % 4) (i / 4)) 0 (4 ^ suc d)
     (λ i _ _. regroup (f (m % 4) (i % 4)) (weight f d (m / 4) (i / 4)) (g (i % 4) (k % 4)) (weight g d (i / 4) (k / 4)))
-    ∙ ap (total (λ i. h (i % 4) (i / 4)) 0) count
-    ∙ total_fours h 0 (4 ^ d)
+    ∙ rw count (total_fours h 0 (4 ^ d))
     ∙ total_same (λ a. total (λ r. h r a) 0 4) (λ a. total line 0 4 *ℤ others a) 0 (4 ^ d) (λ a _ _. total-scale_right (others a) line 0 4)
-    ∙ total-scale (total line 0 4) others 0 (4 ^ d)
-    ∙ ap (λ x. x *ℤ total others 0 (4 ^ d)) (undoes (m % 4) (k % 4) (omega arith) (omega arith))
-    ∙ ap (λ x. same_number (m % 4) (k % 4) *ℤ x) (weights_undo f g d (m / 4) (k / 4) undoes (omega arith) (omega arith))
-    ∙ same_number-fours m k
+    ∙ cc (total-scale (total line 0 4) others 0 (4 ^ d), same_number-fours m k)
 
 -- ---- blocks
 
@@ -99,39 +91,28 @@ sum_of_sums f g d m b undoes h =
 -- what is wrapped on the way changes nothing modulo 2^w
 undone : (f g : ℕ → ℕ → ℤ) (w : Width) (d : ℕ) (block : List ℤ) → Undoes f g → length block ≡ 4 ^ d → All (λ v. FitsSigned w v) block
     → transformed f w d (transformed g w d block) ≡ block
-undone f g w d block undoes l fits = from_places (λ m. wrap w (weighted_sum (weight f d m) 0 inner)) (4 ^ d) (pos 0) block l value
-  where
-    n : ℕ
-    n = 4 ^ d
-
-    b : ℕ → ℤ
-    b i = get_or block i (pos 0)
-
-    inner : List ℤ
-    inner = transformed g w d block
-
-    length-inner : length inner ≡ 4 ^ d
-    length-inner = length-map-upto (λ m. wrap w (weighted_sum (weight g d m) 0 block)) (4 ^ d)
-
-    -- the sums without wrapping
-    exact : ℕ → ℤ
-    exact i = total (λ k. weight g d i k *ℤ get_or block k (pos 0)) 0 (4 ^ d)
-
-    inner_at : (i : ℕ) → i < 4 ^ d → get_or inner i (pos 0) ≡ wrap w (exact i)
-    inner_at i h = get_or-map-upto (λ m. wrap w (weighted_sum (weight g d m) 0 block)) (4 ^ d) i (pos 0) h ∙ ap (wrap w) (sum_by_place g d i block l)
-
-    same : (m : ℕ) → m < 4 ^ d → IsSameModulo (bits w) (total (λ i. weight f d m i *ℤ wrap w (exact i)) 0 (4 ^ d)) (get_or block m (pos 0))
-    same m h =
-        rw (sum_of_sums f g d m (λ i. get_or block i (pos 0)) undoes h) at
-        (total_same_modulo (bits w) (λ i. weight f d m i *ℤ wrap w (exact i)) (λ i. weight f d m i *ℤ exact i) 0 (4 ^ d)
-        (λ i. same_modulo_mul (bits w) (weight f d m i) (wrap w (exact i)) (exact i) (wrap_is_same w (exact i))))
-
-    value : (m : ℕ) → m < 4 ^ d → get_or block m (pos 0) ≡ wrap w (weighted_sum (weight f d m) 0 inner)
-    value m h =
-        let sums = total (λ i. weight f d m i *ℤ wrap w (exact i)) 0 (4 ^ d) in
-        wrap_only w sums (get_or block m (pos 0)) (All-get_or (λ v. FitsSigned w v) block m (pos 0) (omega (arith, h, l)) fits) (same_modulo_sym (bits w) sums (get_or block m (pos 0)) (same m h))
-        ∙ ap (wrap w) (sym (sum_by_place f d m inner length-inner
-        ∙ total_same (λ i. weight f d m i *ℤ get_or inner i (pos 0)) (λ i. weight f d m i *ℤ wrap w (exact i)) 0 (4 ^ d) (λ i _ q. ap (λ x. weight f d m i *ℤ x) (inner_at i (omega arith)))))
+undone f g w d block undoes l fits =
+    let n = 4 ^ d in
+    let inner = transformed g w d block in
+    let length-inner = length-map-upto (λ m. wrap w (weighted_sum (weight g d m) 0 block)) n in
+    let exact : ℕ → ℤ = λ i. total (λ k. weight g d i k *ℤ get_or block k (pos 0)) 0 n in
+    let inner_at : (i : ℕ) → i < n → get_or inner i (pos 0) ≡ wrap w (exact i) =
+    λ i h. get_or-map-upto (λ m. wrap w (weighted_sum (weight g d m) 0 block)) n i (pos 0) h
+    ∙ ap (wrap w) (sum_by_place g d i block l) in
+    from_places (λ m. wrap w (weighted_sum (weight f d m) 0 inner)) n (pos 0) block l
+    (λ m h.
+    let value = get_or block m (pos 0) in
+    let sums = total (λ i. weight f d m i *ℤ wrap w (exact i)) 0 n in
+    let same : IsSameModulo (bits w) sums value =
+    rw (sum_of_sums f g d m (λ i. get_or block i (pos 0)) undoes h) at
+    (total_same_modulo (bits w) (λ i. weight f d m i *ℤ wrap w (exact i)) (λ i. weight f d m i *ℤ exact i) 0 n
+    (λ i.
+    same_modulo_mul (bits w) (weight f d m i) (wrap w (exact i)) (exact i) (wrap_is_same w (exact i)))) in
+    wrap_only w sums value (All-get_or (λ v. FitsSigned w v) block m (pos 0) (omega (arith, h, l)) fits)
+    (same_modulo_sym (bits w) sums value same)
+    ∙ ap (wrap w) (sym (sum_by_place f d m inner length-inner
+    ∙ total_same (λ i. weight f d m i *ℤ get_or inner i (pos 0)) (λ i. weight f d m i *ℤ wrap w (exact i)) 0 n
+    (λ i _ q. ap (λ x. weight f d m i *ℤ x) (inner_at i (omega arith))))))
 
 pub unlorenzo-lorenzo : (w : Width) (d : ℕ) (block : List ℤ) → length block ≡ 4 ^ d → All (λ v. FitsSigned w v) block → unlorenzo w d (lorenzo w d block) ≡ block
 unfolding lorenzo unlorenzo

@@ -1,6 +1,6 @@
 -- The order of keys: it is strict, any two keys of one length are in it, and a place is known by its key.
 use Rattle.std.proofs.Common.{rules}
-use Rattle.std.proofs.Common.{◌≡◌, refl, sym, ap, ◌∙◌, ℕ, zero, suc, ◌-◌, ◌/◌, ◌%◌, ◌^◌, ◌<◌, true, false, ◌&&◌, eqb, ltb, eqb-true, ltb-true, lt-ltb, eq-eqb, List, [], ◌∷◌, map, length, ◌⊎◌, inl, inr, ⊎_elim, arith}
+use Rattle.std.proofs.Common.{◌≡◌, refl, ap, ◌∙◌, ℕ, zero, suc, ◌-◌, ◌/◌, ◌%◌, ◌^◌, ◌<◌, true, false, ◌&&◌, eqb, ltb, eqb-true, ltb-true, lt-ltb, eq-eqb, List, [], ◌∷◌, map, length, ◌⊎◌, inl, ⊎_elim, arith}
 use Rattle.std.proofs.lemmas.Bool.{or_cases, and_parts, or_left, or_right, and_from, cases_order, true≢false}
 use Rattle.std.proofs.lemmas.List.{length-map}
 use Rattle.zf_spec.specs.Grid.{indices}
@@ -25,26 +25,21 @@ pub comes_before_trans : (as' bs cs : List ℕ) → comes_before as' bs ≡ true
 comes_before_trans [] bs cs f g = cc
 comes_before_trans (a ∷ as') [] cs f g = cc
 comes_before_trans (a ∷ as') (b ∷ bs) [] f g = cc
-comes_before_trans (a ∷ as') (b ∷ bs) (c ∷ cs) f g = ⊎_elim
-    (λ l. ⊎_elim (λ m. comes_before_less a c as' cs (omega arith)) (λ q. let e = q.0 in comes_before_less a c as' cs (omega arith)) (comes_before_cases b c bs cs g))
-    (λ p. let e = p.0 in ⊎_elim
-    (λ m. comes_before_less a c as' cs (omega arith))
-    (λ q. comes_before_same a c as' cs (p.0 ∙ q.0) (comes_before_trans as' bs cs p.1 q.1))
-    (comes_before_cases b c bs cs g))
-    (comes_before_cases a b as' bs f)
+comes_before_trans (a ∷ as') (b ∷ bs) (c ∷ cs) f g =
+    let next = comes_before_trans as' bs cs in
+    let first = comes_before_cases a b as' bs f in
+    let second = comes_before_cases b c bs cs g in
+    search (rules, comes_before_less, comes_before_same)
 
 -- of two lists of one length one comes before the other, or they are equal
 pub comes_before_total : (as' bs : List ℕ) → length as' ≡ length bs → (as' ≡ bs) ⊎ ((comes_before as' bs ≡ true) ⊎ (comes_before bs as' ≡ true))
 comes_before_total [] [] l = inl refl
 comes_before_total [] (b ∷ bs) l = cc
 comes_before_total (a ∷ as') [] l = cc
-comes_before_total (a ∷ as') (b ∷ bs) l = ⊎_elim
-    (λ e. ⊎_elim
-    (λ same. inl (ap (λ c. c ∷ as') e ∙ ap (λ cs. b ∷ cs) same))
-    (λ either. inr (⊎_elim (λ h. inl (comes_before_same a b as' bs e h)) (λ h. inr (comes_before_same b a bs as' (sym e) h)) either))
-    (comes_before_total as' bs (omega arith)))
-    (λ either. inr (⊎_elim (λ h. inl (comes_before_less a b as' bs h)) (λ h. inr (comes_before_less b a bs as' h)) either))
-    (cases_order a b)
+comes_before_total (a ∷ as') (b ∷ bs) l =
+    let next = comes_before_total as' bs (omega arith) in
+    let order = cases_order a b in
+    search (rules, comes_before_less, comes_before_same)
 
 -- ---- the keys of places
 

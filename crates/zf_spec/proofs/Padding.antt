@@ -1,7 +1,7 @@
 -- The padded block and the values that exist.
 use Rattle.std.proofs.Common.{rules}
-use Rattle.std.proofs.Common.{◌≡◌, refl, sym, ap, subst, ◌∙◌, ℕ, zero, suc, ◌+◌, ◌*◌, ◌/◌, ◌%◌, ◌^◌, ◌<◌, ◌≤◌, true, cond, ltb, ltb-true, lt-ltb, ℤ, pos, FitsSigned, List, [], ◌∷◌, length, get_or, All, pow-suc, arith}
-use Rattle.std.proofs.lemmas.Bool.{and_from, and_parts, cases_lt}
+use Rattle.std.proofs.Common.{◌≡◌, refl, sym, ap, ◌∙◌, ℕ, ◌+◌, ◌*◌, ◌/◌, ◌%◌, ◌^◌, ◌<◌, ◌≤◌, true, cond, ltb, ltb-true, lt-ltb, ℤ, pos, FitsSigned, List, [], ◌∷◌, length, get_or, All, pow-suc, arith}
+use Rattle.std.proofs.lemmas.Bool.{and_parts, cases_lt}
 use Rattle.std.proofs.lemmas.List.{get_or_past}
 use Rattle.std.proofs.lemmas.List.Elements.{All-head, All-tail, All-from_get_or}
 use Rattle.std.specs.Int.{Width}
@@ -19,39 +19,11 @@ IsExtent e = (1 ≤ e) × (e ≤ 4)
 
 -- a value that exists stays where it is
 sources_inside : (e i : ℕ) → IsExtent e → i < e → get_or (sources e) i 0 ≡ i
-sources_inside zero i h l = absurd (omega arith)
-sources_inside (suc zero) zero h l = refl
-sources_inside (suc zero) (suc i) h l = absurd (omega arith)
-sources_inside (suc (suc zero)) zero h l = refl
-sources_inside (suc (suc zero)) (suc zero) h l = refl
-sources_inside (suc (suc zero)) (suc (suc i)) h l = absurd (omega arith)
-sources_inside (suc (suc (suc zero))) zero h l = refl
-sources_inside (suc (suc (suc zero))) (suc zero) h l = refl
-sources_inside (suc (suc (suc zero))) (suc (suc zero)) h l = refl
-sources_inside (suc (suc (suc zero))) (suc (suc (suc i))) h l = absurd (omega arith)
-sources_inside (suc (suc (suc (suc zero)))) zero h l = refl
-sources_inside (suc (suc (suc (suc zero)))) (suc zero) h l = refl
-sources_inside (suc (suc (suc (suc zero)))) (suc (suc zero)) h l = refl
-sources_inside (suc (suc (suc (suc zero)))) (suc (suc (suc zero))) h l = refl
-sources_inside (suc (suc (suc (suc zero)))) (suc (suc (suc (suc i)))) h l = absurd (omega arith)
-sources_inside (suc (suc (suc (suc (suc e))))) i h l = absurd (omega arith)
-
--- an element of a line of four is one of the four, and 0 stands past them
-one_of_four : (e a b c d i : ℕ) → a < e → b < e → c < e → d < e → get_or (a ∷ b ∷ c ∷ d ∷ []) i 0 < e
-one_of_four e a b c d zero f g h k = f
-one_of_four e a b c d (suc zero) f g h k = g
-one_of_four e a b c d (suc (suc zero)) f g h k = h
-one_of_four e a b c d (suc (suc (suc zero))) f g h k = k
-one_of_four e a b c d (suc (suc (suc (suc i)))) f g h k = omega arith
+sources_inside e i h l = grind arith
 
 -- each of the four is taken from a value that exists
 sources_below : (e i : ℕ) → IsExtent e → get_or (sources e) i 0 < e
-sources_below zero i h = absurd (omega arith)
-sources_below (suc zero) i h = one_of_four 1 0 0 0 0 i (omega arith) (omega arith) (omega arith) (omega arith)
-sources_below (suc (suc zero)) i h = one_of_four 2 0 1 1 0 i (omega arith) (omega arith) (omega arith) (omega arith)
-sources_below (suc (suc (suc zero))) i h = one_of_four 3 0 1 2 0 i (omega arith) (omega arith) (omega arith) (omega arith)
-sources_below (suc (suc (suc (suc zero)))) i h = one_of_four 4 0 1 2 3 i (omega arith) (omega arith) (omega arith) (omega arith)
-sources_below (suc (suc (suc (suc (suc e))))) i h = absurd (omega arith)
+sources_below e i h = grind arith
 
 -- ---- the places that a padded block is taken from
 
@@ -73,9 +45,7 @@ source_place_inside (e ∷ es) p h =
     let below : s < e = sources_below e (p % 4) fine in
     let first : (s + 4 * r) % 4 ≡ s = omega (arith, fine.1) in
     let others : (s + 4 * r) / 4 ≡ r = omega (arith, fine.1) in
-    let rest = source_place_inside es (p / 4) (All-tail IsExtent e es h) in
-    and_from (ltb ((s + 4 * r) % 4) e) (is_inside es (indices (length es) ((s + 4 * r) / 4)))
-    (ap (λ i. ltb i e) first ∙ lt-ltb s e below) (ap (λ q. is_inside es (indices (length es) q)) others ∙ rest)
+    cc (lt-ltb s e below, source_place_inside es (p / 4) (All-tail IsExtent e es h))
 
 -- a place that exists is taken from itself
 pub source_place_existing : (es : List ℕ) (p : ℕ) → All IsExtent es → p < 4 ^ length es → is_inside es (indices (length es) p) ≡ true → source_place es p ≡ p
@@ -133,11 +103,10 @@ pad_same es a b ok e = sym (pad-existing_values es a ok) ∙ ap (pad es) e ∙ p
 pub get_or_all : (P : ℤ → Type 0) (vs : List ℤ) (k : ℕ) → P (pos 0) → All P vs → P (get_or vs k (pos 0))
 get_or_all P vs k z all = search (rules, get_or_past, cases_lt)
 
-pub All-pad : (P : ℤ → Type 0) (es : List ℕ) (block : List ℤ) → P (pos 0) → All P block → All P (pad es block)
-All-pad P es block z all =
-    All-from_get_or P (pad es block) (pos 0)
-    (λ p s. let h : p < 4 ^ length es = omega (arith, s, length-pad es block) in subst P (sym (get_or-pad es block p h)) (get_or_all P block (source_place es p) z all))
-
 -- the padded block of values of the type has values of the type, and so have the existing values
 pub pad_fits : (w : Width) (es : List ℕ) (block : List ℤ) → All (λ v. FitsSigned w v) block → All (λ v. FitsSigned w v) (pad es block)
-pad_fits w es block all = All-pad (λ v. FitsSigned w v) es block (zero_fits w) all
+pad_fits w es block all =
+    All-from_get_or (λ v. FitsSigned w v) (pad es block) (pos 0)
+    (λ p s.
+    rw (get_or-pad es block p (omega (arith, s, length-pad es block)))
+    (get_or_all (λ v. FitsSigned w v) block (source_place es p) (zero_fits w) all))

@@ -34,14 +34,11 @@ get_or-map-reverse-upto f n k d h = get_or-map f (reverse (upto n)) k 0 d (omega
 -- ---- planes of zeros
 
 pub get_or-blank : (size r : ℕ) → get_or (replicate size false) r false ≡ false
-get_or-blank zero r = refl
-get_or-blank (suc size) zero = refl
-get_or-blank (suc size) (suc r) = get_or-blank size r
+get_or-blank size r = search (rules, get_or-replicate, get_or_past, length-replicate, cases_lt)
 
 pub get_or-blanks : (p size k r : ℕ) → get_or (get_or (replicate p (replicate size false)) k []) r false ≡ false
-get_or-blanks zero size k r = refl
-get_or-blanks (suc p) size zero r = get_or-blank size r
-get_or-blanks (suc p) size (suc k) r = get_or-blanks p size k r
+get_or-blanks p size k r =
+    search (rules, get_or-blank, get_or-replicate, get_or_past, length-replicate, cases_lt)
 
 -- ---- planes of lists of digits
 
@@ -79,10 +76,9 @@ digits_at-planes_of w coefficients r l =
     (λ i s.
     let h : i < w = omega (arith, s, e) in
     let back : w - 1 - (w - 1 - i) ≡ i = omega arith in
-    get_or-digits_at w (planes_of w coefficients) r i h
-    ∙ ap (λ ds. get_or ds r false) (get_or-planes_of w coefficients (w - 1 - i) (omega arith))
-    ∙ get_or-plane (w - 1 - (w - 1 - i)) coefficients r
-    ∙ ap (λ j. get_or (get_or coefficients r []) j false) back)
+    let at = get_or-planes_of w coefficients (w - 1 - i) (omega arith) in
+    let there = get_or-plane (w - 1 - (w - 1 - i)) coefficients r in
+    cc (get_or-digits_at w (planes_of w coefficients) r i h))
 
 -- planes that have no one may be missing at the end
 pub digits_at-take : (w n : ℕ) (planes : List (List Bool)) (r : ℕ) → needed_planes planes ≤ n → digits_at w (take n planes) r ≡ digits_at w planes r
@@ -139,52 +135,40 @@ coefficients_of-needed_planes w d c l fits = coefficients_of-take w d (max 1 (ne
 pub planes-coefficients_of : (w : Width) (d : ℕ) (ps : List (List Bool)) → length ps ≤ bits w → All (λ ds. length ds ≡ 4 ^ d) ps
     → planes w d (coefficients_of w d ps) ≡ ps ++ replicate (bits w - length ps) (replicate (4 ^ d) false)
 planes-coefficients_of w d ps few all =
+    let vs = values_by_rank w d ps in
+    let cs = map (digits (bits w)) vs in
+    let missing = replicate (bits w - length ps) (replicate (4 ^ d) false) in
+    let count = length-replicate (bits w - length ps) (replicate (4 ^ d) false) in
+    let whole : length (ps ++ missing) ≡ bits w = omega (arith, length-append ps missing) in
+    let length-cs : length cs ≡ 4 ^ d = length-map vs (digits (bits w)) ∙ length-values_by_rank w d ps in
+    let digit_at : (k r : ℕ) → k < bits w → r < 4 ^ d
+    → get_or (plane (bits w - 1 - k) cs) r false ≡ get_or (get_or ps k []) r false =
+    λ k r h g.
+    let back : bits w - 1 - (bits w - 1 - k) ≡ k = omega arith in
+    let of_rank = get_or-map (digits (bits w)) vs r (pos 0) []
+    (omega (arith, g, length-values_by_rank w d ps)) in
+    let value = digits-value_of w (digits_at (bits w) ps r) (length-digits_at (bits w) ps r) in
+    let digit = get_or-digits_at (bits w) ps r (bits w - 1 - k) (omega arith) in
+    cc (get_or-plane (bits w - 1 - k) cs r, get_or-values_by_rank w d ps r g) in
+    let there : (k r : ℕ) → k < bits w → r < 4 ^ d
+    → get_or (get_or (ps ++ missing) k []) r false ≡ get_or (get_or ps k []) r false =
+    λ k r h g. ⊎_elim
+    (λ l. ap (λ ds. get_or ds r false) (get_or_append_left ps missing [] k l))
+    (search (rules, get_or-append_right, get_or-replicate, get_or_past))
+    (cases_lt k (length ps)) in
+    let plane_length : (k : ℕ) → k < bits w → length (get_or (ps ++ missing) k []) ≡ 4 ^ d =
+    λ k h. All-get_or (λ ds. length ds ≡ 4 ^ d) (ps ++ missing) k [] (omega (arith, h, whole))
+    (All-append (λ ds. length ds ≡ 4 ^ d) ps missing all
+    (All-replicate (λ ds. length ds ≡ 4 ^ d) (bits w - length ps) (replicate (4 ^ d) false)
+    (length-replicate (4 ^ d) false))) in
     ap (λ vs. planes w d vs) (coefficients_of-is w d ps)
     ∙ ap (λ vs. planes_of (bits w) (map (digits (bits w)) vs)) (by_rank-by_place d vs (length-values_by_rank w d ps))
     ∙ ext_get_or [] (planes_of (bits w) cs) (ps ++ missing) (length-planes_of (bits w) cs ∙ sym whole)
-    (λ k s. plane_at k (omega (arith, s, length-planes_of (bits w) cs)))
-  where
-    vs : List ℤ
-    vs = values_by_rank w d ps
-
-    cs : List (List Bool)
-    cs = map (digits (bits w)) vs
-
-    missing : List (List Bool)
-    missing = replicate (bits w - length ps) (replicate (4 ^ d) false)
-
-    whole : length (ps ++ missing) ≡ bits w
-    whole = omega (arith, length-append ps missing, length-replicate (bits w - length ps) (replicate (4 ^ d) false))
-
-    length-cs : length cs ≡ 4 ^ d
-    length-cs = length-map vs (digits (bits w)) ∙ length-values_by_rank w d ps
-
-    -- the digit of each rank
-    digit_at : (k r : ℕ) → k < bits w → r < 4 ^ d → get_or (plane (bits w - 1 - k) cs) r false ≡ get_or (get_or ps k []) r false
-    digit_at k r h g =
-        let back : bits w - 1 - (bits w - 1 - k) ≡ k = omega arith in
-        get_or-plane (bits w - 1 - k) cs r
-        ∙ ap (λ ds. get_or ds (bits w - 1 - k) false)
-        (get_or-map (digits (bits w)) vs r (pos 0) [] (omega (arith, g, length-values_by_rank w d ps))
-        ∙ ap (digits (bits w)) (get_or-values_by_rank w d ps r g)
-        ∙ digits-value_of w (digits_at (bits w) ps r) (length-digits_at (bits w) ps r))
-        ∙ get_or-digits_at (bits w) ps r (bits w - 1 - k) (omega arith)
-        ∙ ap (λ j. get_or (get_or ps j []) r false) back
-
-    -- the same of the planes with those that are missing
-    there : (k r : ℕ) → k < bits w → r < 4 ^ d → get_or (get_or (ps ++ missing) k []) r false ≡ get_or (get_or ps k []) r false
-    there k r h g = ⊎_elim
-        (λ l. ap (λ ds. get_or ds r false) (get_or_append_left ps missing [] k l))
-        (search (rules, get_or-append_right, get_or-replicate, get_or_past))
-        (cases_lt k (length ps))
-
-    plane_length : (k : ℕ) → k < bits w → length (get_or (ps ++ missing) k []) ≡ 4 ^ d
-    plane_length k h = All-get_or (λ ds. length ds ≡ 4 ^ d) (ps ++ missing) k [] (omega (arith, h, whole))
-        (All-append (λ ds. length ds ≡ 4 ^ d) ps missing all (All-replicate (λ ds. length ds ≡ 4 ^ d) (bits w - length ps) (replicate (4 ^ d) false) (length-replicate (4 ^ d) false)))
-
-    plane_at : (k : ℕ) → k < bits w → get_or (planes_of (bits w) cs) k [] ≡ get_or (ps ++ missing) k []
-    plane_at k h =
-        let wide : length (plane (bits w - 1 - k) cs) ≡ 4 ^ d = length-map cs (λ ds. get_or ds (bits w - 1 - k) false) ∙ length-cs in
-        get_or-planes_of (bits w) cs k h
-        ∙ ext_get_or false (plane (bits w - 1 - k) cs) (get_or (ps ++ missing) k []) (wide ∙ sym (plane_length k h))
-        (λ r s. let g : r < 4 ^ d = omega (arith, s, wide) in digit_at k r h g ∙ sym (there k r h g))
+    (λ k s.
+    let h : k < bits w = omega (arith, s, length-planes_of (bits w) cs) in
+    let wide : length (plane (bits w - 1 - k) cs) ≡ 4 ^ d =
+    length-map cs (λ ds. get_or ds (bits w - 1 - k) false) ∙ length-cs in
+    get_or-planes_of (bits w) cs k h
+    ∙ ext_get_or false (plane (bits w - 1 - k) cs) (get_or (ps ++ missing) k [])
+    (wide ∙ sym (plane_length k h))
+    (λ r s. let g : r < 4 ^ d = omega (arith, s, wide) in digit_at k r h g ∙ sym (there k r h g)))

@@ -1,6 +1,6 @@
 -- The place of each rank and the rank of each place, and a block by rank and by place.
 use Rattle.std.proofs.Common.{rules}
-use Rattle.std.proofs.Common.{◌≡◌, refl, sym, ap, ◌∙◌, ℕ, zero, suc, ◌+◌, ◌^◌, ◌<◌, ◌≤◌, Bool, true, false, cond, not, eqb, eqb-true, ℤ, pos, List, [], ◌∷◌, length, get_or, ◌⊎◌, ⊎_elim, Contains, ext_get_or, arith}
+use Rattle.std.proofs.Common.{◌≡◌, refl, sym, ap, ◌∙◌, ℕ, zero, suc, ◌^◌, ◌<◌, ◌≤◌, eqb, eqb-true, ℤ, pos, List, [], ◌∷◌, length, get_or, Contains, ext_get_or, arith}
 use Rattle.std.proofs.lemmas.Bool.{eqb-false}
 use Rattle.std.proofs.lemmas.List.{length-map, get_or-map}
 use Rattle.std.proofs.lemmas.List.Elements.{Contains-get_or}
@@ -14,28 +14,13 @@ use Rattle.zf_spec.proofs.Rising.{contains_cases, contains_none, same_place, ord
 -- the first place at which p stands, among a list that has it
 pub position_of : (p : ℕ) (ps : List ℕ) → Contains ps p → (position_or_len (λ q. eqb q p) ps < length ps) × (get_or ps (position_or_len (λ q. eqb q p) ps) 0 ≡ p)
 position_of p [] h = absurd (contains_none p h)
-position_of p (q ∷ ps) h = by (eqb q p) refl (contains_cases q p ps h) (position_of p ps)
-  where
-    rest : ℕ
-    rest = position_or_len (λ q. eqb q p) ps
-
-    by : (t : Bool) → eqb q p ≡ t → (q ≡ p) ⊎ Contains ps p → (Contains ps p → (rest < length ps) × (get_or ps rest 0 ≡ p))
-        → (cond (not t) (1 + rest) 0 < length (q ∷ ps)) × (get_or (q ∷ ps) (cond (not t) (1 + rest) 0) 0 ≡ p)
-    by true e c next = (omega arith, eqb-true q p e)
-    by false e c next = ⊎_elim
-        (λ same. absurd (eqb-false q p e same))
-        (λ k. let n = next k in let s : 1 + rest ≡ suc rest = omega arith in (omega (arith, n.0), ap (λ i. get_or (q ∷ ps) i 0) s ∙ n.1))
-        c
+position_of p (q ∷ ps) h = let next = position_of p ps in search (rules, eqb-true, eqb-false, contains_cases)
 
 -- nothing before the first place is p
 pub position_first : (p : ℕ) (ps : List ℕ) (k : ℕ) → k < length ps → get_or ps k 0 ≡ p → position_or_len (λ q. eqb q p) ps ≤ k
 position_first p [] k h e = absurd (omega arith)
 position_first p (q ∷ ps) zero h e = search (rules, eqb-false)
-position_first p (q ∷ ps) (suc k) h e = by (eqb q p) (position_first p ps k (omega arith) e)
-  where
-    by : (t : Bool) → position_or_len (λ q. eqb q p) ps ≤ k → cond (not t) (1 + position_or_len (λ q. eqb q p) ps) 0 ≤ suc k
-    by true f = omega arith
-    by false f = omega arith
+position_first p (q ∷ ps) (suc k) h e = let next = position_first p ps k (omega arith) e in search rules
 
 -- ---- the order
 

@@ -57,8 +57,7 @@ coordinates-raster (n ∷ ns) (p ∷ ps) l h =
     let some : 0 < n = omega arith in
     let first : (p + n * raster ns ps) % n ≡ p = add-mul-mod_self_left p n (raster ns ps) ∙ mod-eq_of_lt small in
     let others : (p + n * raster ns ps) / n ≡ raster ns ps = add-mul-div_left p (raster ns ps) some ∙ ap (λ q. q + raster ns ps) (div-eq_of_lt small) ∙ omega arith in
-    let rest = ap (coordinates ns) others ∙ coordinates-raster ns ps (omega arith) parts.1 in
-    ap (λ q. q ∷ coordinates ns ((p + n * raster ns ps) / n)) first ∙ ap (λ qs. p ∷ qs) rest
+    cc (coordinates-raster ns ps (omega arith) parts.1)
 
 -- the raster number of a position in the box is below the number of positions
 pub raster_below : (ns ps : List ℕ) → length ps ≡ length ns → is_inside ns ps ≡ true → raster ns ps < product ns

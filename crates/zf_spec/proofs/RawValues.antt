@@ -1,6 +1,6 @@
 -- Values and their raw bytes, and the length of the header.
 use Rattle.std.proofs.Common.{rules}
-use Rattle.std.proofs.Common.{◌≡◌, refl, sym, ap, ◌∙◌, ℕ, zero, suc, ◌+◌, ◌-◌, ◌*◌, ◌/◌, ◌^◌, ◌<◌, ◌≤◌, cond, le-leb, ℤ, pos, negsuc, FitsSigned, List, [], ◌∷◌, ◌++◌, length, drop, flat_map, All, drop_at, suc-mul, arith}
+use Rattle.std.proofs.Common.{◌≡◌, refl, ap, ◌∙◌, ℕ, zero, suc, ◌+◌, ◌-◌, ◌*◌, ◌/◌, ◌^◌, ◌<◌, ◌≤◌, cond, le-leb, ℤ, pos, negsuc, FitsSigned, List, [], ◌∷◌, ◌++◌, length, drop, flat_map, All, drop_at, suc-mul, arith}
 use Rattle.std.proofs.lemmas.Int.{of_z-to_z, to_z-of_z}
 use Rattle.std.proofs.lemmas.Bool.{lt-leb}
 use Rattle.std.proofs.lemmas.List.{length-append}
@@ -9,7 +9,7 @@ use Rattle.std.specs.Int.{Width, byte_len, to_le_bytes, from_le_bytes, cast_unsi
 use borrow.Author.Differences.{fits_in, read_fits}
 use mir.Val.{bits}
 use Rattle.zf_spec.specs.Numbers.{field}
-use Rattle.zf_spec.specs.Stream.{Mode, reversible, fixed_rate, fixed_precision, raw, first_bytes, values_from, magic, codec, type_number, mode_number, long_form, header}
+use Rattle.zf_spec.specs.Stream.{Mode, fixed_rate, raw, first_bytes, values_from, long_form, header}
 use Rattle.zf_spec.proofs.Wrapping.{bits_is_half}
 use Rattle.zf_spec.proofs.Fields.{length-field}
 use Rattle.zf_spec.proofs.Bytes.{length-first_bytes, All-first_bytes, first_bytes-append, first_bytes-add, length-to_le_bytes, to_le_bytes_small, from_le_bytes-to_le_bytes, to_le_bytes-from_le_bytes, from_le_bytes_below}
@@ -43,8 +43,7 @@ values_from_fit w (suc n) s = All-cons (λ v. FitsSigned w v) (cast_signed w (fr
 pub length-raw : (w : Width) (values : List ℤ) → length (raw w values) ≡ length values * byte_len w
 length-raw w [] = omega arith
 length-raw w (v ∷ values) =
-    let here = to_le_bytes w (cast_unsigned w v) in
-    length-append here (raw w values) ∙ omega (arith, length-to_le_bytes w (cast_unsigned w v), length-raw w values, suc-mul (length values) (byte_len w))
+    let rest = length-raw w values in search (rules, length-append, length-to_le_bytes, suc-mul)
 
 pub raw_small : (w : Width) (values : List ℤ) → All (λ b. b < 256) (raw w values)
 raw_small w [] = All-nil (λ b. b < 256)
@@ -56,12 +55,11 @@ values_from-raw w [] all = refl
 values_from-raw w (v ∷ values) all =
     let bs = to_le_bytes w (cast_unsigned w v) in
     let l = length-to_le_bytes w (cast_unsigned w v) in
-    let prefix : first_bytes (byte_len w) (bs ++ raw w values) ≡ bs = ap (λ k. first_bytes k (bs ++ raw w values)) (sym l) ∙ first_bytes-append bs (raw w values) in
+    let prefix : first_bytes (byte_len w) (bs ++ raw w values) ≡ bs =
+    cc (l, first_bytes-append bs (raw w values)) in
     let rest : drop (byte_len w) (bs ++ raw w values) ≡ raw w values = drop_at bs (raw w values) (byte_len w) l in
-    let value = ap (λ cs. cast_signed w (from_le_bytes w cs)) prefix ∙ value_from_bytes w v (All-head (λ v. FitsSigned w v) v values all) in
-    ap (λ u. u ∷ values_from w (length values) (drop (byte_len w) (bs ++ raw w values))) value
-    ∙ ap (λ s. v ∷ values_from w (length values) s) rest
-    ∙ ap (λ us. v ∷ us) (values_from-raw w values (All-tail (λ v. FitsSigned w v) v values all))
+    let value = value_from_bytes w v (All-head (λ v. FitsSigned w v) v values all) in
+    cc (values_from-raw w values (All-tail (λ v. FitsSigned w v) v values all))
 
 -- bytes come back from the values whose raw bytes they are, continued with zeros or cut
 pub raw-values_from : (w : Width) (n : ℕ) (s : List ℕ) → All (λ b. b < 256) s → raw w (values_from w n s) ≡ first_bytes (n * byte_len w) s
@@ -75,59 +73,21 @@ raw-values_from w (suc n) s all =
 
 length-sizes : (k : ℕ) (ns : List ℕ) → length (flat_map (λ n. field k (n - 1)) ns) ≡ length ns * k
 length-sizes k [] = omega arith
-length-sizes k (n ∷ ns) = length-append (field k (n - 1)) (flat_map (λ n. field k (n - 1)) ns) ∙ omega (arith, length-field k (n - 1), length-sizes k ns, suc-mul (length ns) k)
+length-sizes k (n ∷ ns) = let rest = length-sizes k ns in search (rules, length-append, length-field, suc-mul)
 
 -- the fields of the sizes have 48 bits in all
 pub share : (d : ℕ) → 1 ≤ d → d ≤ 4 → d * (48 / d) ≡ 48
-share zero f g = absurd (omega arith)
-share (suc zero) f g = refl
-share (suc (suc zero)) f g = refl
-share (suc (suc (suc zero))) f g = refl
-share (suc (suc (suc (suc zero)))) f g = refl
-share (suc (suc (suc (suc (suc d))))) f g = absurd (omega arith)
+share d f g = grind arith
 
 pub length-header : (w : Width) (ns : List ℕ) (mode : Mode) → 1 ≤ length ns → length ns ≤ 4 → length (header w ns mode) ≡ 96 + length (long_form mode)
 unfolding header
 length-header w ns mode f g =
-    let d = length ns in
-    let k = 48 / d in
-    let sizes = flat_map (λ n. field k (n - 1)) ns in
-    let a = field 24 magic in
-    let b = field 8 (codec d) in
-    let c = field 2 (type_number w - 1) in
-    let e = field 2 (d - 1) in
-    let m = field 12 (mode_number mode) in
-    omega (
-      arith,
-      share d f g,
-      length-sizes k ns,
-      length-field 24 magic,
-      length-field 8 (codec d),
-      length-field 2 (type_number w - 1),
-      length-field 2 (d - 1),
-      length-field 12 (mode_number mode),
-      length-append (a ++ b ++ c ++ e ++ sizes ++ m) (long_form mode),
-      length-append (a ++ b ++ c ++ e ++ sizes) m,
-      length-append (a ++ b ++ c ++ e) sizes,
-      length-append (a ++ b ++ c) e,
-      length-append (a ++ b) c,
-      length-append a b,
-    )
+    let sizes = length-sizes (48 / length ns) ns in
+    let all = share (length ns) f g in
+    simp (length-append, length-field) (omega arith)
 
 pub length-long_form : (b : ℕ) → 2048 < b → length (long_form (fixed_rate b)) ≡ 52
 length-long_form b h = ap (λ t. length (cond t [] (field 15 (b - 1) ++ field 15 (b - 1) ++ field 7 63 ++ field 15 15421))) (lt-leb b 2048 h)
 
 pub length-short_form : (b : ℕ) → b ≤ 2048 → length (long_form (fixed_rate b)) ≡ 0
 length-short_form b h = ap (λ t. length (cond t [] (field 15 (b - 1) ++ field 15 (b - 1) ++ field 7 63 ++ field 15 15421))) (le-leb b 2048 h)
-
-pub length-header_reversible : (w : Width) (ns : List ℕ) → 1 ≤ length ns → length ns ≤ 4 → length (header w ns reversible) ≡ 96
-length-header_reversible w ns f g = length-header w ns reversible f g
-
-pub length-header_rate : (w : Width) (ns : List ℕ) (b : ℕ) → 1 ≤ length ns → length ns ≤ 4 → b ≤ 2048 → length (header w ns (fixed_rate b)) ≡ 96
-length-header_rate w ns b f g h = omega (arith, length-header w ns (fixed_rate b) f g, length-short_form b h)
-
-pub length-header_precision : (w : Width) (ns : List ℕ) (p : ℕ) → 1 ≤ length ns → length ns ≤ 4 → length (header w ns (fixed_precision p)) ≡ 96
-length-header_precision w ns p f g = length-header w ns (fixed_precision p) f g
-
-pub length-header_long : (w : Width) (ns : List ℕ) (b : ℕ) → 1 ≤ length ns → length ns ≤ 4 → 2048 < b → length (header w ns (fixed_rate b)) ≡ 148
-length-header_long w ns b f g h = omega (arith, length-header w ns (fixed_rate b) f g, length-long_form b h)

@@ -1,7 +1,10 @@
 -- How far the ones of a plane reach, and how many planes there are down to the last that has a one.
-use Rattle.std.proofs.Common.{◌≡◌, refl, sym, ap, ◌∙◌, ℕ, zero, suc, ◌<◌, ◌≤◌, max, Bool, true, false, cond, ◌||◌, List, [], ◌∷◌, ◌++◌, map, length, get_or, replicate, ⊎_elim, arith}
+use Rattle.std.proofs.Common.{◌≡◌, refl, sym, ap, ◌∙◌, ℕ, zero, suc, ◌≤◌, max, Bool, true, false, cond, ◌||◌, List, [], ◌∷◌, ◌++◌, map, length, get_or, replicate, ⊎_elim, arith}
 use Rattle.std.proofs.lemmas.Bool.{true≢false, cases_order}
 use Rattle.std.proofs.lemmas.List.{length-map}
+use Rattle.std.proofs.Common.{◌-◌, rules}
+use Rattle.std.proofs.lemmas.Bool.{cases_lt}
+use Rattle.std.proofs.lemmas.List.{get_or-map, get_or_past}
 use Rattle.zf_spec.specs.Planes.{has_one, reach, any_one, needed_planes}
 
 -- ---- some digit is one
@@ -42,11 +45,7 @@ one_at (false ∷ ds) (suc k) h = one_at ds k h
 
 pub reach-le : (ds : List Bool) → reach ds ≤ length ds
 reach-le [] = omega arith
-reach-le (d ∷ ds) = by (has_one (d ∷ ds)) (reach-le ds)
-  where
-    by : (t : Bool) → reach ds ≤ length ds → cond t (suc (reach ds)) 0 ≤ length (d ∷ ds)
-    by true h = omega arith
-    by false h = omega arith
+reach-le (d ∷ ds) = let rest = reach-le ds in search rules
 
 -- ranks with a one above are ranks of the plane
 pub reach_within : (size n : ℕ) (ds : List Bool) → n ≤ size → length ds ≡ size → max n (reach ds) ≤ size
@@ -65,42 +64,31 @@ none_past_reach [] k h = refl
 none_past_reach (true ∷ ds) zero h = absurd (omega arith)
 none_past_reach (true ∷ ds) (suc k) h = none_past_reach ds k (omega arith)
 none_past_reach (false ∷ ds) zero h = refl
-none_past_reach (false ∷ ds) (suc k) h = by (has_one ds) refl h (λ l. none_past_reach ds k l)
-  where
-    by : (t : Bool) → has_one ds ≡ t → cond t (suc (reach ds)) 0 ≤ suc k → (reach ds ≤ k → get_or ds k false ≡ false) → get_or ds k false ≡ false
-    by true e l next = next (omega arith)
-    by false e l next = none_at ds k e
+none_past_reach (false ∷ ds) (suc k) h = let next = none_past_reach ds k in search (rules, none_at)
 
 -- a one stands just before it
 pub one_at_reach : (ds : List Bool) (k : ℕ) → reach ds ≡ suc k → get_or ds k false ≡ true
 one_at_reach [] k h = absurd (omega arith)
-one_at_reach (d ∷ ds) k h = by (has_one (d ∷ ds)) refl h (one_at_reach ds)
-  where
-    rest : (d : Bool) (j : ℕ) → reach ds ≡ j → has_one (d ∷ ds) ≡ true → ((i : ℕ) → reach ds ≡ suc i → get_or ds i false ≡ true) → get_or (d ∷ ds) j false ≡ true
-    rest true zero e o next = refl
-    rest false zero e o next = absurd (true≢false (sym o ∙ none_from_each ds (λ i. none_past_reach ds i (omega arith))))
-    rest d (suc j) e o next = next j e
+one_at_reach (true ∷ ds) zero h = refl
+one_at_reach (false ∷ ds) zero h = search (rules, none_from_each, none_past_reach)
+one_at_reach (d ∷ ds) (suc k) h = let next = one_at_reach ds k in search rules
 
-    by : (t : Bool) → has_one (d ∷ ds) ≡ t → cond t (suc (reach ds)) 0 ≡ suc k → ((i : ℕ) → reach ds ≡ suc i → get_or ds i false ≡ true) → get_or (d ∷ ds) k false ≡ true
-    by true e l next = rest d k (omega arith) e next
-    by false e l next = absurd (omega arith)
+-- a number is known by what stands just before it and nowhere from it on
+pub only_end : (A : ℕ → Type 0) (n r : ℕ) → ((k : ℕ) → n ≤ k → A k → ⊥) → ((k : ℕ) → n ≡ suc k → A k)
+    → ((k : ℕ) → r ≤ k → A k → ⊥) → ((k : ℕ) → r ≡ suc k → A k) → n ≡ r
+only_end A n r none one none' one' = ⊎_elim
+    (λ e. e)
+    (⊎_elim
+    (λ less. absurd (none (r - 1) (omega arith) (one' (r - 1) (omega arith))))
+    (λ more. absurd (none' (n - 1) (omega arith) (one (n - 1) (omega arith)))))
+    (cases_order n r)
 
 -- the reach is the only number with a one just before it and none from it on
 pub reach_only : (ds : List Bool) (n : ℕ) → ((k : ℕ) → n ≤ k → get_or ds k false ≡ false) → ((k : ℕ) → n ≡ suc k → get_or ds k false ≡ true) → n ≡ reach ds
-reach_only ds n none one = ⊎_elim
-    (λ e. e)
-    (⊎_elim
-    (λ less. absurd (below (reach ds) less refl))
-    (λ more. absurd (above n more refl)))
-    (cases_order n (reach ds))
-  where
-    below : (r : ℕ) → n < r → reach ds ≡ r → ⊥
-    below zero h e = omega arith
-    below (suc r) h e = true≢false (sym (one_at_reach ds r e) ∙ none r (omega arith))
-
-    above : (m : ℕ) → reach ds < m → n ≡ m → ⊥
-    above zero h e = omega arith
-    above (suc m) h e = true≢false (sym (one m e) ∙ none_past_reach ds m (omega arith))
+reach_only ds n none one =
+    only_end (λ k. get_or ds k false ≡ true) n (reach ds)
+    (λ k h e. true≢false (sym e ∙ none k h)) one (λ k h e. true≢false (sym e ∙ none_past_reach ds k h))
+    (one_at_reach ds)
 
 -- ---- the planes that are used: the same over the planes, by whether each has a one
 
@@ -116,9 +104,7 @@ pub needed_planes-le : (ps : List (List Bool)) → needed_planes ps ≤ length p
 needed_planes-le ps = omega (arith, needed_planes-is ps, reach-le (map has_one ps), length-map ps has_one)
 
 has_one_at : (ps : List (List Bool)) (k : ℕ) → get_or (map has_one ps) k false ≡ has_one (get_or ps k [])
-has_one_at [] k = refl
-has_one_at (ds ∷ ps) zero = refl
-has_one_at (ds ∷ ps) (suc k) = has_one_at ps k
+has_one_at ps k = search (rules, get_or-map, get_or_past, length-map, cases_lt)
 
 -- no plane from there on has a one
 pub none_past_used : (ps : List (List Bool)) (k : ℕ) → needed_planes ps ≤ k → has_one (get_or ps k []) ≡ false

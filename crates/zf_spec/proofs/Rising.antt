@@ -1,10 +1,12 @@
 -- Places whose keys rise: the order of the places rises, and no other arrangement of them does.
-use Rattle.std.proofs.Common.{◌≡◌, refl, sym, ap, subst, ◌∙◌, ℕ, zero, suc, ◌+◌, ◌^◌, ◌<◌, ◌≤◌, Bool, true, false, cond, List, [], ◌∷◌, length, get_or, ◌⊎◌, inl, inr, ⊎_elim, Contains, IsPermutation, arith}
+use Rattle.std.proofs.Common.{◌≡◌, refl, sym, subst, ◌∙◌, ℕ, zero, suc, ◌+◌, ◌^◌, ◌<◌, ◌≤◌, Bool, true, false, cond, List, [], ◌∷◌, length, get_or, ◌⊎◌, ⊎_elim, Contains, IsPermutation, arith}
 use Rattle.std.proofs.lemmas.List.Elements.{Contains-get_or}
 use Rattle.std.proofs.lemmas.List.Sorted.{IsPermutation-refl, IsPermutation-sym, IsPermutation-cons, IsPermutation-trans, IsPermutation-append_left, IsPermutation-append_comm, Contains-permutation}
 use Rattle.zf_spec.specs.Grid.{count_from, places}
 use Rattle.zf_spec.specs.Ranks.{key, comes_before, put_in_order, in_order, order, Rises}
 use Rattle.zf_spec.proofs.Counting.{count_from_bounds}
+use Rattle.std.proofs.Common.{rules}
+use Rattle.std.proofs.lemmas.Bool.{cases_lt}
 use Rattle.zf_spec.proofs.Order.{comes_before_irrefl, comes_before_trans, places_total}
 
 -- the key of p comes before that of q
@@ -23,8 +25,7 @@ pub contains_none : (q : ℕ) → Contains [] q → ⊥
 contains_none q h = omega (arith, h.1)
 
 pub contains_cases : (p q : ℕ) (qs : List ℕ) → Contains (p ∷ qs) q → (p ≡ q) ⊎ Contains qs q
-contains_cases p q qs (zero, h, e) = inl e
-contains_cases p q qs (suc k, h, e) = inr (k, omega arith, e)
+contains_cases p q qs h = grind arith
 
 pub contains_head : (p : ℕ) (qs : List ℕ) → Contains (p ∷ qs) p
 contains_head p qs = (0, omega arith, refl)
@@ -35,16 +36,13 @@ contains_tail p q qs (k, h, e) = (suc k, omega arith, e)
 -- ---- lists that rise
 
 pub rises_rest : (d p : ℕ) (qs : List ℕ) → Rises d (p ∷ qs) → Rises d qs
-rises_rest d p [] r = tt
-rises_rest d p (q ∷ qs) r = r.1
+rises_rest d p qs r = grind arith
 
 -- the first of a rising list comes before all others
 pub first_is_before : (d p : ℕ) (qs : List ℕ) (q : ℕ) → Rises d (p ∷ qs) → Contains qs q → IsBefore d p q
 first_is_before d p [] q r h = absurd (contains_none q h)
-first_is_before d p (s ∷ qs) q r h = ⊎_elim
-    (λ e. subst (λ x. IsBefore d p x) e r.0)
-    (λ c. before_trans d p s q r.0 (first_is_before d s qs q r.1 c))
-    (contains_cases s q qs h)
+first_is_before d p (s ∷ qs) q r h =
+    let next = first_is_before d s qs q r.1 in search (rules, before_trans, contains_cases)
 
 -- in a rising list what stands earlier comes before what stands later
 pub earlier_is_before : (d : ℕ) (ps : List ℕ) (i j : ℕ) → Rises d ps → i < j → j < length ps → IsBefore d (get_or ps i 0) (get_or ps j 0)
@@ -57,14 +55,8 @@ earlier_is_before d (p ∷ ps) (suc i) (suc j) r f g = earlier_is_before d ps i 
 pub same_place : (d : ℕ) (ps : List ℕ) (i j : ℕ) → Rises d ps → i ≤ j → j < length ps → get_or ps i 0 ≡ get_or ps j 0 → i ≡ j
 same_place d ps i j r h l e = ⊎_elim
     (λ less. absurd (not_before_itself d (get_or ps j 0) (subst (λ p. IsBefore d p (get_or ps j 0)) e (earlier_is_before d ps i j r less l))))
-    (λ same. same)
-    (split i j h)
-  where
-    split : (i j : ℕ) → i ≤ j → (i < j) ⊎ (i ≡ j)
-    split zero zero h = inr refl
-    split zero (suc j) h = inl (omega arith)
-    split (suc i) zero h = absurd (omega arith)
-    split (suc i) (suc j) h = ⊎_elim (λ l. inl (omega arith)) (λ e. inr (ap suc e)) (split i j (omega arith))
+    (λ other. omega arith)
+    (cases_lt i j)
 
 -- what is among one rest is among the other, where the heads are equal: no head is among its rest
 among_rest : (d p q : ℕ) (ps qs : List ℕ) → Rises d (p ∷ ps) → p ≡ q → ((z : ℕ) → Contains (p ∷ ps) z → Contains (q ∷ qs) z) → (z : ℕ) → Contains ps z → Contains qs z
@@ -90,21 +82,18 @@ same_rising d [] (q ∷ qs) r s f g = absurd (contains_none q (g q (contains_hea
 same_rising d (p ∷ ps) [] r s f g = absurd (contains_none p (f p (contains_head p ps)))
 same_rising d (p ∷ ps) (q ∷ qs) r s f g =
     let e = same_first d p q ps qs r s (f p (contains_head p ps)) (g q (contains_head q qs)) in
-    let rest = same_rising d ps qs (rises_rest d p ps r) (rises_rest d q qs s) (among_rest d p q ps qs r e f) (among_rest d q p qs ps s (sym e) g) in
-    ap (λ x. x ∷ ps) e ∙ ap (λ xs. q ∷ xs) rest
+    let rest = same_rising d ps qs (rises_rest d p ps r) (rises_rest d q qs s) (among_rest d p q ps qs r e f)
+    (among_rest d q p qs ps s (sym e) g) in cc
 
 -- ---- the order of the places
 
 put_in_order_moves : (d p : ℕ) (qs : List ℕ) → IsPermutation (p ∷ qs) (put_in_order d p qs)
 put_in_order_moves d p [] = IsPermutation-refl (p ∷ [])
-put_in_order_moves d p (q ∷ qs) = by (comes_before (key d p) (key d q)) (put_in_order_moves d p qs)
-  where
-    swapped : IsPermutation (p ∷ q ∷ qs) (q ∷ p ∷ qs)
-    swapped = IsPermutation-append_left qs (p ∷ q ∷ []) (q ∷ p ∷ []) (IsPermutation-append_comm (p ∷ []) (q ∷ []))
-
-    by : (t : Bool) → IsPermutation (p ∷ qs) (put_in_order d p qs) → IsPermutation (p ∷ q ∷ qs) (cond t (p ∷ q ∷ qs) (q ∷ put_in_order d p qs))
-    by true m = IsPermutation-refl (p ∷ q ∷ qs)
-    by false m = IsPermutation-trans (p ∷ q ∷ qs) (q ∷ p ∷ qs) (q ∷ put_in_order d p qs) swapped (IsPermutation-cons q (p ∷ qs) (put_in_order d p qs) m)
+put_in_order_moves d p (q ∷ qs) =
+    let swapped = IsPermutation-append_left qs (p ∷ q ∷ []) (q ∷ p ∷ [])
+    (IsPermutation-append_comm (p ∷ []) (q ∷ [])) in
+    let rest = IsPermutation-cons q (p ∷ qs) (put_in_order d p qs) (put_in_order_moves d p qs) in
+    search (rules, IsPermutation-refl, IsPermutation-trans)
 
 pub in_order_moves : (d : ℕ) (ps : List ℕ) → IsPermutation ps (in_order d ps)
 in_order_moves d [] = IsPermutation-refl []

@@ -1,6 +1,6 @@
 -- Sums of whole numbers over the numbers from one number on.
 use Rattle.std.proofs.Common.{rules}
-use Rattle.std.proofs.Common.{◌≡◌, refl, sym, ap, ◌∙◌, ℕ, zero, suc, ◌+◌, ◌*◌, ◌/◌, ◌%◌, ◌<◌, ◌≤◌, cond, eqb, eq-eqb, ne_eqb, ℤ, pos, ◌+ℤ◌, ◌*ℤ◌, map, ◌⊎◌, inl, inr, arith}
+use Rattle.std.proofs.Common.{◌≡◌, refl, sym, ap, ◌∙◌, ℕ, zero, suc, ◌+◌, ◌*◌, ◌/◌, ◌%◌, ◌<◌, ◌≤◌, cond, eqb, eq-eqb, ne_eqb, ℤ, pos, ◌+ℤ◌, ◌*ℤ◌, map, arith}
 use Rattle.std.proofs.Math.IntN.{zero-*ℤ, *ℤ-zero, +ℤ_idl}
 use Rattle.std.proofs.lemmas.Bool.{cases_eq}
 use Rattle.std.proofs.lemmas.Int.{ints}
@@ -8,6 +8,7 @@ use Rattle.zf_spec.specs.Numbers.{IsSameModulo}
 use Rattle.zf_spec.specs.Grid.{count_from}
 use Rattle.zf_spec.specs.Lorenzo.{weighted_sum}
 use Rattle.zf_spec.proofs.Ring.{add-*ℤ, *ℤ-add}
+use Rattle.std.proofs.Common.{⊎_elim}
 use Rattle.zf_spec.proofs.Wrapping.{same_modulo_refl, same_modulo_add}
 
 -- the sum of f at the numbers from k on, n of them
@@ -58,8 +59,8 @@ total_fours h k (suc n) =
     let b = at 1 (suc (4 * k)) (omega arith) (omega arith) in
     let c = at 2 (suc (suc (4 * k))) (omega arith) (omega arith) in
     let d = at 3 (suc (suc (suc (4 * k)))) (omega arith) (omega arith) in
-    let rest : total f (suc (suc (suc (suc (4 * k))))) (4 * n) ≡ total (λ q. total (λ r. h r q) 0 4) (suc k) n = ap (λ j. total f j (4 * n)) from ∙ total_fours h (suc k) n in
-    ap (total f (4 * k)) count ∙ omega (arith, ints, a, b, c, d, rest)
+    let rest = total_fours h (suc k) n in
+    rw (count, from) (omega (arith, ints))
 
 -- ---- the number that is one where two numbers are equal, and else zero
 
@@ -80,28 +81,18 @@ same_number-fours m k = search (rules, same_number-yes, same_number-no, *ℤ-zer
 one_term_none : (m : ℕ) (b : ℕ → ℤ) (k n : ℕ) → m < k → total (λ i. same_number m i *ℤ b i) k n ≡ pos 0
 one_term_none m b k zero h = refl
 one_term_none m b k (suc n) h =
-    ap (λ x. x *ℤ b k +ℤ total (λ i. same_number m i *ℤ b i) (suc k) n) (same_number-no m k (λ e. omega arith))
-    ∙ ap (λ x. x +ℤ total (λ i. same_number m i *ℤ b i) (suc k) n) (zero-*ℤ (b k))
-    ∙ +ℤ_idl (total (λ i. same_number m i *ℤ b i) (suc k) n)
-    ∙ one_term_none m b (suc k) n (omega arith)
+    let rest = one_term_none m b (suc k) n (omega arith) in
+    rw (same_number-no m k (λ e. omega arith)) (omega (arith, ints, zero-*ℤ (b k)))
 
 pub one_term : (m : ℕ) (b : ℕ → ℤ) (k n : ℕ) → k ≤ m → m < k + n → total (λ i. same_number m i *ℤ b i) k n ≡ b m
 one_term m b k zero l h = absurd (omega arith)
-one_term m b k (suc n) l h = by (cases_eq m k) (λ more. one_term m b (suc k) n more (omega arith))
-  where
-    rest : ℤ
-    rest = total (λ i. same_number m i *ℤ b i) (suc k) n
-
-    by : (m ≡ k) ⊎ (m ≡ k → ⊥) → (suc k ≤ m → rest ≡ b m) → same_number m k *ℤ b k +ℤ rest ≡ b m
-    by (inl e) next =
-        let here : same_number m k *ℤ b k ≡ b k = ap (λ x. x *ℤ b k) (same_number-yes m k e) ∙ omega (arith, ints) in
-        let none : rest ≡ pos 0 = one_term_none m b (suc k) n (omega arith) in
-        let at : b k ≡ b m = ap b (sym e) in
-        omega (arith, ints, here, none, at)
-    by (inr e) next =
-        let here : same_number m k *ℤ b k ≡ pos 0 = ap (λ x. x *ℤ b k) (same_number-no m k e) ∙ zero-*ℤ (b k) in
-        let there : rest ≡ b m = next (omega arith) in
-        omega (arith, ints, here, there)
+one_term m b k (suc n) l h = ⊎_elim
+    (λ (e : m ≡ k).
+    let none = one_term_none m b (suc k) n (omega arith) in
+    let at : b k ≡ b m = ap b (sym e) in rw (same_number-yes m k e) (omega (arith, ints)))
+    (λ other.
+    let next = one_term m b (suc k) n (omega arith) (omega arith) in rw (same_number-no m k other) (omega (arith, ints, zero-*ℤ (b k))))
+    (cases_eq m k)
 
 -- ---- the sum of values with weights is such a sum
 

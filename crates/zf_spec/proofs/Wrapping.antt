@@ -1,10 +1,12 @@
 -- Numbers that agree modulo a power of two, and the wrapped number.
-use Rattle.std.proofs.Common.{◌≡◌, refl, sym, ap, ◌∙◌, ℕ, zero, suc, ◌+◌, ◌-◌, ◌/◌, ◌%◌, ◌^◌, ◌<◌, Bool, true, false, ltb, ℤ, pos, negsuc, ◌+ℤ◌, ◌*ℤ◌, neg_ℤ, FitsSigned, mod-lt, div-add-mod', pow_pos, pow-add, mul-le-mul_left, zero-lt-suc, arith}
+use Rattle.std.proofs.Common.{◌≡◌, sym, ap, ◌∙◌, ℕ, zero, suc, ◌+◌, ◌-◌, ◌/◌, ◌%◌, ◌^◌, ◌<◌, ℤ, pos, negsuc, ◌+ℤ◌, ◌*ℤ◌, neg_ℤ, FitsSigned, mod-lt, div-add-mod', pow_pos, pow-add, mul-le-mul_left, zero-lt-suc, arith}
 use Rattle.std.proofs.lemmas.Int.{ints, SFits-int_wrap}
-use Rattle.std.specs.Int.{Width, w8, w16, w32, w64, w128, int_wrap, cast_signed}
+use Rattle.std.specs.Int.{Width, int_wrap, cast_signed}
 use Rattle.std.proofs.Math.IntN.{zero-*ℤ}
-use mir.Val.{bits, hbits, sel}
+use mir.Val.{bits, hbits}
 use Rattle.zf_spec.specs.Numbers.{wrap, IsSameModulo}
+use Rattle.std.proofs.lemmas.Bool.{cases_lt}
+use Rattle.std.proofs.Common.{⊎_elim, lt-ltb, le-ltb}
 use Rattle.zf_spec.proofs.Ring.{add-*ℤ, *ℤ-add, *ℤ_assoc, neg-*ℤ}
 
 -- ---- numbers that agree modulo 2^k
@@ -36,19 +38,14 @@ same_modulo_low j k a b f =
 -- ---- the wrapped number
 
 pub bits_is_half : (w : Width) → 2 ^ bits w ≡ 2 ^ hbits w + 2 ^ hbits w
-bits_is_half w8 = refl
-bits_is_half w16 = refl
-bits_is_half w32 = refl
-bits_is_half w64 = refl
-bits_is_half w128 = refl
+bits_is_half w = grind arith
 
 -- bits read as signed differ from the bits by a multiple of 2^w
 signed_is_same : (w : Width) (n : ℕ) → n < 2 ^ bits w → IsSameModulo (bits w) (cast_signed w n) (pos n)
-signed_is_same w n h = by (ltb n (2 ^ hbits w)) refl
-  where
-    by : (t : Bool) → ltb n (2 ^ hbits w) ≡ t → IsSameModulo (bits w) (sel t (pos n) (negsuc (2 ^ bits w - suc n))) (pos n)
-    by true e = same_modulo_refl (bits w) (pos n)
-    by false e = (negsuc 0, omega (arith, ints))
+signed_is_same w n h = ⊎_elim
+    (λ (low : n < 2 ^ hbits w). rw (lt-ltb n (2 ^ hbits w) low) (same_modulo_refl (bits w) (pos n)))
+    (λ high. rw (le-ltb n (2 ^ hbits w) high) (negsuc 0, omega (arith, ints)))
+    (cases_lt n (2 ^ hbits w))
 
 pub wrap_is_same : (w : Width) (n : ℤ) → IsSameModulo (bits w) (wrap w n) n
 unfolding int_wrap

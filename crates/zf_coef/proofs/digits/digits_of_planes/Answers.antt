@@ -1,5 +1,4 @@
 use Rattle.std.proofs.Common.{rules}
-use Rattle.std.proofs.Common.{◌≡◌, ◌≤◌, ◌*◌, map, length, arith}
 use Rattle.std.proofs.lemmas.List.{length-map}
 use Rattle.zf_coef.proofs.Prefixes.{each_long}
 use Rattle.zf_coef.proofs.Transposed.{group_written, digits_of_groups, below_planes}
@@ -10,14 +9,9 @@ loop-number-preserved g c = search (rules, group_written)
 
 pub returns-clause-digits : goal.returns-clause-digits
 returns-clause-digits g c =
-    let words = g.P.Plane.words in
-    let digits = c.loop-number.digits in
-    let planes = map words c.args.planes.now in
-    let number = c.loop-number.number in
-    let same : length planes ≡ length c.args.planes.now = length-map c.args.planes.now words in
-    let room : length digits ≤ 64 * number = omega (arith, c.div_ceil-number-end.ensures) in
-    let each = each_long words g.P.Plane.word_count g.met.P.Plane.long c.args.planes.now in
-    search (rules, digits_of_groups)
+    let each = each_long g.P.Plane.words g.P.Plane.word_count g.met.P.Plane.long c.args.planes.now in
+    let room = c.div_ceil-number-end.ensures in
+    search (rules, digits_of_groups, length-map)
 
 pub returns-clause-below : goal.returns-clause-below
 returns-clause-below g c = search (rules, length-map, below_planes)

@@ -2,7 +2,7 @@ use Rattle.std.proofs.Common.{◌+◌, ◌%◌, ◌^◌, ℕ, ap, ◌∙◌}
 use Rattle.std.specs.Int.Bits.{bit_xor}
 use Rattle.std.specs.Int.{cast_unsigned}
 use mir.Val.{bits}
-use Rattle.zf_spec.specs.Numbers.{field, value_of}
+use Rattle.zf_spec.specs.Numbers.{field}
 use Rattle.zf_spec.proofs.Negabinary.{value_of-digits}
 use Rattle.zf_coef.proofs.Mask.{field-masked, field-word}
 use Rattle.zf_coef.proofs.negabinary.to_digits.Goals as goal
@@ -19,6 +19,6 @@ returns-clause-digits g c =
 
 pub returns-clause-undone : goal.returns-clause-undone
 returns-clause-undone g c =
-    let w = g.T.Lane.width in
-    let fits = (g.met.T.Lane.in_range_fits _).0 c.to_word.ensures.operand in
-    ap (value_of w) (returns-clause-digits g c) ∙ value_of-digits w (g.T.Lane.value c.args.v) fits
+    rw (returns-clause-digits g c)
+    (value_of-digits g.T.Lane.width (g.T.Lane.value c.args.v)
+    ((g.met.T.Lane.in_range_fits _).0 c.to_word.ensures.operand))

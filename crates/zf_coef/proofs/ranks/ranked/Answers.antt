@@ -1,33 +1,28 @@
-use Rattle.std.proofs.Common.{◌≡◌, ◌^◌, map, length, sym, ap, ◌∙◌, arith}
+use Rattle.std.proofs.Common.{◌≡◌, ◌^◌, length, sym, ◌∙◌}
 use mir.Val.{bits}
 use Rattle.zf_spec.specs.Numbers.{field}
 use Rattle.zf_coef.specs.HeldDigits.{ranked_digits}
 use Rattle.zf_coef.proofs.Filling.{fill_all}
 use Rattle.zf_coef.proofs.ByRank.{length-ranked_digits}
+use Rattle.zf_coef.specs.HeldDigits.{digits_in}
+use Rattle.std.specs.Int.{Width}
+use Rattle.std.proofs.Common.{rules, refl, ℕ, ℤ, List, take}
 use Rattle.zf_coef.proofs.ranks.ranked.Goals as goal
+
+whole : (w : Width) (d n : ℕ) (values : List ℤ) (new : List ℕ) → n ≡ 4 ^ d → length new ≡ n
+    → take n (digits_in (bits w) new) ≡ take n (ranked_digits w d values)
+    → digits_in (bits w) new ≡ ranked_digits w d values
+whole w d n values new size long filled =
+    fill_all (field (bits w)) new (ranked_digits w d values) n long
+    (length-ranked_digits w d values ∙ sym size) filled
 
 pub returns-then-d-eq3-clause-digits : goal.returns-then-d-eq3-clause-digits
 returns-then-d-eq3-clause-digits g c =
-    let w = g.T.Lane.width in
-    let values = map g.T.Lane.value c.args.block.now in
-    let new = c.rank-then-d-eq3-3.new.digits in
-    let all : 4 ^ c.args.d ≡ 64 = ap (λ d. 4 ^ d) c.if-d-eq3.true in
-    fill_all (field (bits w)) new (ranked_digits w c.args.d values) 64 (omega arith)
-    (length-ranked_digits w c.args.d values ∙ all) c.rank-then-d-eq3-3.ensures.filled
+    let size : 64 ≡ 4 ^ c.args.d = rw c.if-d-eq3.true refl in search (rules, whole)
 
 pub returns-else-d-eq4-clause-digits : goal.returns-else-d-eq4-clause-digits
-returns-else-d-eq4-clause-digits g c =
-    let w = g.T.Lane.width in
-    let values = map g.T.Lane.value c.args.block.now in
-    let new = c.rank-else-d-eq4.new.digits in
-    fill_all (field (bits w)) new (ranked_digits w c.args.d values) (length c.args.block.now) (omega arith)
-    (length-ranked_digits w c.args.d values ∙ sym c.requires.block.1) c.rank-else-d-eq4.ensures.filled
+returns-else-d-eq4-clause-digits g c = search (rules, whole)
 
 pub returns-then-d-eq4-clause-digits : goal.returns-then-d-eq4-clause-digits
 returns-then-d-eq4-clause-digits g c =
-    let w = g.T.Lane.width in
-    let values = map g.T.Lane.value c.args.block.now in
-    let new = c.rank_sixteens.new.digits in
-    let all : 4 ^ c.args.d ≡ 256 = ap (λ d. 4 ^ d) c.if-d-eq4.true in
-    fill_all (field (bits w)) new (ranked_digits w c.args.d values) 256 (omega arith)
-    (length-ranked_digits w c.args.d values ∙ all) c.rank_sixteens.ensures.filled
+    let size : 256 ≡ 4 ^ c.args.d = rw c.if-d-eq4.true refl in search (rules, whole)

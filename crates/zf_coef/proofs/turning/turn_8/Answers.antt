@@ -1,5 +1,6 @@
 use Rattle.std.proofs.Common.{refl, inl, inr, arith}
-use Rattle.zf_coef.proofs.Turns.{mask_from, none_turned, more_turned, all_turned, digit_8_4, digit_8_2, digit_8_1}
+use Rattle.zf_coef.proofs.Turns.{mask_from, none_turned, more_turned, all_turned}
+use Rattle.std.proofs.Common.{rules}
 use Rattle.zf_coef.proofs.turning.turn_8.Goals as goal
 
 pub step-requires : goal.step-requires
@@ -14,7 +15,7 @@ step_next-requires c = (omega arith, (refl, mask_from 1 0x5555_5555_5555_5555 re
 pub returns : goal.returns
 returns c =
     let old = c.args.words.now in
-    let to_4 = more_turned 8 4 old old c.step.new.words digit_8_4 (omega arith) (none_turned 8 old) c.step.ensures in
-    let to_2 = more_turned 8 2 old c.step.new.words c.step-2.new.words digit_8_2 (omega arith) to_4 c.step-2.ensures in
-    let to_1 = more_turned 8 1 old c.step-2.new.words c.step_next.new.words digit_8_1 (omega arith) to_2 c.step_next.ensures in
+    let to_4 = more_turned 8 4 old old c.step.new.words (search rules) (omega arith) (none_turned 8 old) c.step.ensures in
+    let to_2 = more_turned 8 2 old c.step.new.words c.step-2.new.words (search rules) (omega arith) to_4 c.step-2.ensures in
+    let to_1 = more_turned 8 1 old c.step-2.new.words c.step_next.new.words (search rules) (omega arith) to_2 c.step_next.ensures in
     all_turned 8 old c.step_next.new.words to_1
