@@ -1,14 +1,14 @@
 -- Arrays with no block in any line, and their codes.
-use Rattle.std.proofs.Common.{◌≡◌, refl, sym, ap, subst, ◌∙◌, ℕ, ◌<◌, ℤ, Bool, true, false, Some, None, List, length}
+use Rattle.std.proofs.Common.{◌≡◌, sym, ap, subst, ◌∙◌, ℕ, ◌<◌, ℤ, Bool, Some, None, List, length, rules}
 use Rattle.std.proofs.lemmas.Bool.{ne_eqb}
 use Rattle.std.specs.Borrow.{GName, MutBor}
 use Rattle.std.specs.Int.{Width}
 use Rattle.zf_base.specs.Formats.{Format, existing_of, meant, with_at, encoded}
-use Rattle.zf_cached.specs.State.{State, empty_line, none_dirty, is_block}
+use Rattle.zf_cached.specs.State.{State}
 use Rattle.zf_cached.proofs.States.{same_state}
 use Rattle.zf_header.specs.declared.header.Header.{Header}
-use Rattle.zf_cache.specs.Kept.{Kept, tag_at, block_in, line_of, dirty_tag}
-use Rattle.zf_cache.specs.Standing.{state_of, values_of, line_values, Fits, HasRoom, state_at}
+use Rattle.zf_cache.specs.Kept.{Kept, tag_at, block_in}
+use Rattle.zf_cache.specs.Standing.{state_of, Fits, HasRoom, state_at}
 use Rattle.zf_cache.proofs.Tags.{names-clean, names-dirty}
 use Rattle.zf_store.specs.Stored as store
 use Rattle.zf_store.specs.Stored.{Stored, code_at, format_of}
@@ -24,19 +24,11 @@ module _ {X Code : Type 0} (value : X → ℤ) (f : Format Code) (c : Kept X) (k
   no_block l b is = let both : None ≡ Some b = sym (none l) ∙ is in cc
 
   pub none_fits : HasRoom c f.blocks → Fits value c f k
-  none_fits room = record {
-    own = λ l b is. absurd (no_block l b is);
-    clean = λ l b is. absurd (no_block l b (ap block_in is ∙ names-clean b));
-    room = room;
-  }
+  none_fits room = search (rules, no_block, names-clean)
 
   pub none_coded : (s : State Code) → length c.tags ≡ s.lines → c.counts ≡ s.counts → state_of value c f k ≡ coded f s k
   unfolding state_at coded
-  none_coded s lines counts =
-      same_state (state_of value c f k) (coded f s k) lines none
-      (λ b. ne_eqb (tag_at c.tags (line_of c b)) (dirty_tag b) (λ is. no_block (line_of c b) b (ap block_in is ∙ names-dirty b)))
-      (λ b. ap (λ o. elim (is_block o b) [ true ↦ line_values value c f (line_of c b) b | false ↦ meant f b (k b) ]) (none (line_of c b)))
-      (λ b. refl) counts
+  none_coded s lines counts = search (rules, same_state, ne_eqb, no_block, names-dirty)
 
 -- ---- an array with no block in any line
 
@@ -115,16 +107,7 @@ same_format a n header = ap (λ (h : Header). format_of (record { header = h; co
 -- an array that stands for other codes alone
 pub coded_still : (a n : Held) (k : ℕ → List Bool) → n.header ≡ a.header → state n ≡ coded (format a) (state a) k → IsCoded n
 unfolding coded
-coded_still a n k header is =
-    let codes : (state n).codes ≡ k = ap (λ (u : State (List Bool)). u.codes) is in
-    is ∙ (λ i. record {
-      lines = sym (ap (λ (u : State (List Bool)). u.lines) is) i;
-      held = empty_line;
-      dirty = none_dirty;
-      values = λ b. meant (sym (same_format a n header) i) b (sym codes i b);
-      codes = sym codes i;
-      counts = sym (ap (λ (u : State (List Bool)). u.counts) is) i;
-    })
+coded_still a n k header is = search (rules, same_format)
 
 pub codes_stored : (a n : Held) (k : ℕ → List Bool) → state n ≡ coded (format a) (state a) k → (state n).codes ≡ k
 unfolding coded
@@ -137,32 +120,14 @@ frame name a = record { name = name; header = a.header; lines = (state a).lines;
 pub frame_stored : (a n : Held) (k : ℕ → List Bool) (name : GName) → n.header ≡ a.header → state n ≡ coded (format a) (state a) k
     → frame name n ≡ frame name a
 unfolding coded
-frame_stored a n k name header is = λ i. record {
-  name = name;
-  header = header i;
-  lines = ap (λ (u : State (List Bool)). u.lines) is i;
-  counts = ap (λ (u : State (List Bool)). u.counts) is i;
-}
+frame_stored a n k name header is = search rules
 
 -- an array that stands for its codes alone, with the sizes, lines and counts that another had
 pub coded_after : (a n : Held) → IsCoded n → n.header ≡ a.header → (state n).lines ≡ (state a).lines → (state n).counts ≡ (state a).counts
     → state n ≡ coded (format a) (state a) (state n).codes
 unfolding coded
-coded_after a n is header lines counts =
-    is ∙ (λ i. record {
-      lines = lines i;
-      held = empty_line;
-      dirty = none_dirty;
-      values = λ b. meant (same_format a n header i) b ((state n).codes b);
-      codes = (state n).codes;
-      counts = counts i;
-    })
+coded_after a n is header lines counts = search (rules, same_format)
 
 -- the same, as a caller has it whose array was lent to s, and is n when the loan has ended: r is what the calls over the codes have left
 pub lent_codes : (a n : Held) (r s : MutBor Held) → IsCoded r.now → frame_of r ≡ frame_of s → s.now ≡ a → n ≡ r.now → state n ≡ coded (format a) (state a) (state n).codes
-lent_codes a n r s is frame begins ends =
-    let P : Held → Type 0 = λ m. state m ≡ coded (format a) (state a) (state m).codes in
-    subst P (sym ends) (coded_after a r.now is
-    (ap (λ (f : Frame). f.header) frame ∙ ap (λ (m : Held). m.header) begins)
-    (ap (λ (f : Frame). f.lines) frame ∙ ap (λ m. (state m).lines) begins)
-    (ap (λ (f : Frame). f.counts) frame ∙ ap (λ m. (state m).counts) begins))
+lent_codes a n r s is frame begins ends = search (rules, coded_after)

@@ -1,5 +1,5 @@
 -- What is written through a loan of a part of a block.
-use Rattle.std.proofs.Common.{◌≡◌, ◌⊎◌, inl, inr, refl, sym, ap, subst, ◌∙◌, ℕ, suc, ◌+◌, ◌-◌, ◌^◌, ◌<◌, ◌≤◌, ℤ, pos, cond, Bool, true, false, Some, None, List, [], ◌∷◌, ◌++◌, map, length, get_or, set, take, drop, replicate, append_assoc, length-append, length-drop, drop-cons, take_at, drop_at, arith}
+use Rattle.std.proofs.Common.{◌≡◌, ◌⊎◌, inl, inr, refl, sym, ap, subst, ◌∙◌, ℕ, suc, ◌+◌, ◌-◌, ◌^◌, ◌<◌, ◌≤◌, ℤ, pos, cond, Bool, true, false, Some, None, List, [], ◌∷◌, ◌++◌, map, length, get_or, set, take, drop, replicate, append_assoc, length-append, length-drop, drop-cons, take_at, drop_at, arith, rules}
 use Rattle.std.specs.Int.{Width}
 use Rattle.std.proofs.lemmas.Bool.{cases_lt, cases_Bool, eqb-true, false≢true}
 use Rattle.std.proofs.lemmas.List.{length-map, map-append, take-map, drop-map, length-take-le, take-append-drop, drop-drop, get_or-take, get_or-drop, get_or_append_left, get_or-append_right, get_or_past, drop_all, append-nil, set_split}
@@ -41,33 +41,18 @@ module _ (xs : List ℤ) (a n : ℕ) (ys : List ℤ) (long : length ys ≡ n) (w
   both_long = omega (arith, length-append (take a xs) ys, prefix_long)
 
   before : (p : ℕ) → p < a → get_or (spliced xs a n ys) p (pos 0) ≡ get_or xs p (pos 0)
-  before p h =
-      get_or_append_left (take a xs ++ ys) (drop (a + n) xs) (pos 0) p (omega (arith, both_long))
-      ∙ get_or_append_left (take a xs) ys (pos 0) p (omega (arith, prefix_long)) ∙ get_or-take a xs p (pos 0) h
+  before p h = search (rules, get_or_append_left, both_long, prefix_long, get_or-take)
 
   between : (p : ℕ) → a ≤ p → p < a + n → get_or (spliced xs a n ys) p (pos 0) ≡ get_or ys (p - a) (pos 0)
-  between p h k =
-      get_or_append_left (take a xs ++ ys) (drop (a + n) xs) (pos 0) p (omega (arith, both_long))
-      ∙ get_or-append_right (take a xs) ys a p (pos 0) prefix_long h
+  between p h k = search (rules, get_or_append_left, both_long, get_or-append_right, prefix_long)
 
   behind : (p : ℕ) → a + n ≤ p → get_or (spliced xs a n ys) p (pos 0) ≡ get_or xs p (pos 0)
-  behind p h =
-      let sum : a + n + (p - (a + n)) ≡ p = omega arith in
-      get_or-append_right (take a xs ++ ys) (drop (a + n) xs) (a + n) p (pos 0) both_long h
-      ∙ get_or-drop (a + n) xs (p - (a + n)) (pos 0) ∙ ap (λ k. get_or xs k (pos 0)) sum
+  behind p h = search (rules, get_or-append_right, both_long, get_or-drop)
 
 -- it is the same at a place where the values are
 spliced_same : (xs vs ys : List ℤ) (a n p : ℕ) → length ys ≡ n → a + n ≤ length xs → length vs ≡ length xs → get_or xs p (pos 0) ≡ get_or vs p (pos 0)
     → get_or (spliced xs a n ys) p (pos 0) ≡ get_or (spliced vs a n ys) p (pos 0)
-spliced_same xs vs ys a n p long within size same = by (cases_lt p a) (cases_lt p (a + n))
-  where
-    also : a + n ≤ length vs
-    also = omega arith
-
-    by : (p < a) ⊎ (a ≤ p) → (p < a + n) ⊎ (a + n ≤ p) → get_or (spliced xs a n ys) p (pos 0) ≡ get_or (spliced vs a n ys) p (pos 0)
-    by (inl h) k = before xs a n ys long within p h ∙ same ∙ sym (before vs a n ys long also p h)
-    by (inr h) (inl k) = between xs a n ys long within p h k ∙ sym (between vs a n ys long also p h k)
-    by (inr h) (inr k) = behind xs a n ys long within p k ∙ same ∙ sym (behind vs a n ys long also p k)
+spliced_same xs vs ys a n p long within size same = search (rules, cases_lt, before, long, same, between, behind)
 
 -- the part that is there
 spliced_part : (xs : List ℤ) (a n : ℕ) → spliced xs a n (take n (drop a xs)) ≡ xs
@@ -99,9 +84,7 @@ module _ (f : Format (List Bool)) (b : ℕ) (vs : List ℤ) (a n : ℕ) (ys : Li
   none_there : (p : ℕ) → p < f.block_len → f.exists b p ≡ false → (p < a) ⊎ (a ≤ p) → (p < a + n) ⊎ (a + n ≤ p) → get_or new p (pos 0) ≡ pos 0
   none_there p lt none (inl h) k = before vs a n ys long inside p h ∙ none_outside p lt none
   none_there p lt none (inr h) (inl k) =
-      let on : a + (p - a) ≡ p = omega arith in
-      let there : f.exists b p ≡ true = subst (λ m. f.exists b m ≡ true) on (exist (p - a) (omega arith)) in
-      absurd (false≢true (sym none ∙ there))
+      let on : a + (p - a) ≡ p = omega arith in search (rules, false≢true)
   none_there p lt none (inr h) (inr k) = behind vs a n ys long inside p k ∙ none_outside p lt none
 
   same_there : (p : ℕ) → p < f.block_len → (f.exists b p ≡ true) ⊎ (f.exists b p ≡ false) → cond (f.exists b p) (get_or new p (pos 0)) (pos 0) ≡ get_or new p (pos 0)
@@ -119,9 +102,7 @@ module _ {X : Type 0} (value : X → ℤ) (f : Format (List Bool)) (b : ℕ) (ro
   row_long = length-map row value ∙ whole
 
   pub spliced_exist : (ys : List ℤ) → length ys ≡ n → existing_of f b (spliced (map value row) a n ys) ≡ existing_of f b (spliced (existing_of f b (map value row)) a n ys)
-  spliced_exist ys long = existing_of_same f b (spliced (map value row) a n ys) (spliced (existing_of f b (map value row)) a n ys)
-      (λ p lt exists. spliced_same (map value row) (existing_of f b (map value row)) ys a n p long (omega (arith, row_long)) (length-existing_of f b (map value row) ∙ sym row_long)
-      (sym (get_or-existing_of_exists f b (map value row) p lt exists)))
+  spliced_exist ys long = search (rules, existing_of_same, spliced_same, long, row_long, length-existing_of, get_or-existing_of_exists)
 
   part_long : length (part row a n) ≡ n
   part_long = length-take-le n (drop a row) (omega (arith, length-drop a row))
@@ -162,29 +143,15 @@ pub record IsBounded (h : Header) (s : State (List Bool)) : Type 0 where
   pub codes : (b : ℕ) → blocks h.shape ≤ b → replicate (block_bits h.mode) false ≡ s.codes b
 
 from_list : {Y : Type 0} (g : ℕ → Y) (n k : ℕ) (y : Y) → (n ≤ k → y ≡ g k) → get_or (map g (upto n)) k y ≡ g k
-from_list g n k y behind = by (cases_lt k n)
-  where
-    by : (k < n) ⊎ (n ≤ k) → get_or (map g (upto n)) k y ≡ g k
-    by (inl h) = get_or-map-upto g n k y h
-    by (inr h) = get_or_past (map g (upto n)) k y (omega (arith, length-map-upto g n)) ∙ behind h
+from_list g n k y behind = search (rules, cases_lt, get_or-map-upto, get_or_past, length-map-upto, behind)
 
 pub state_array : (h : Header) (s : State (List Bool)) → IsBounded h s → state (array_of h s) ≡ s
 unfolding state array_of
-state_array h s bounded =
-    let n = blocks h.shape in
-    same_state (state (array_of h s)) s (length-map-upto s.held s.lines)
-    (λ l. from_list s.held s.lines l None (bounded.held l)) (λ b. from_list s.dirty n b false (bounded.dirty b))
-    (λ b. from_list s.values n b (zeros (format (array_of h s))) (bounded.values b))
-    (λ b. from_list s.codes n b (replicate (block_bits h.mode) false) (bounded.codes b)) refl
+state_array h s bounded = search (rules, same_state, length-map-upto, from_list)
 
 pub bounded_values : (h : Header) (s : State (List Bool)) (b : ℕ) (values : List ℤ) → b < blocks h.shape → IsBounded h s → IsBounded h (with_values s b values)
 unfolding with_values array_of
-bounded_values h s b values below bounded = record {
-  held = bounded.held;
-  dirty = bounded.dirty;
-  values = λ m past. bounded.values m past ∙ sym (with_at-other s.values b values m (λ e. omega (arith, e)));
-  codes = bounded.codes;
-}
+bounded_values h s b values below bounded = search (rules, with_at-other)
 
 module _ {X : Type 0} (value : X → ℤ) (w : Width) (d : ℕ) (s : Stored) (c : Kept X) (room : ℕ) (joined : IsJoined value w d s c room) (now : Held) (is : held_by value s c ≡ now) where
   bounded_of : IsBounded s.header (state_of value c (format_of s) (code_at s))
@@ -264,9 +231,7 @@ header_block now b vs = refl
 
 -- all values are replaced
 pub spliced_all : (xs ys : List ℤ) (n : ℕ) → length xs ≤ n → spliced xs 0 n ys ≡ ys
-spliced_all xs ys n all =
-    let none : drop (0 + n) xs ≡ [] = drop_all (0 + n) xs (omega arith) in
-    ap (λ (zs : List ℤ). ys ++ zs) none ∙ append-nil ys
+spliced_all xs ys n all = search (rules, drop_all, append-nil)
 
 pub header_spliced : (now : Held) (b a n : ℕ) (vs : List ℤ) → (with_part now b a n vs).header ≡ now.header
 unfolding array_of
@@ -296,10 +261,7 @@ module _ (now a : Held) (b p n : ℕ) (ys : List ℤ) (head : a.header ≡ now.h
   inside_there = omega (arith, ap length shows_there, length-existing_of (format now) b (spliced (u.values b) p n ys), within)
 
   exists_there : (vs : List ℤ) → length vs ≡ n → existing_of (format now) b (spliced (u.values b) p n vs) ≡ spliced (u.values b) p n vs
-  exists_there vs size =
-      let whole : existing_of (format now) b (u.values b) ≡ u.values b =
-      ap (existing_of (format now) b) (sym shows_there) ∙ existing_of-existing_of (format now) b (spliced (u.values b) p n ys) ∙ shows_there in
-      spliced_exists (format now) b (u.values b) p n vs whole size within exist
+  exists_there vs size = search (rules, shows_there, existing_of-existing_of, spliced_exists, size)
 
   -- they are the values that are there
   pub found_there : ys ≡ take n (drop p (u.values b))

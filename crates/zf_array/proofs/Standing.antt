@@ -1,21 +1,19 @@
 -- An array stands for the state that its cache and its store stand for.
-use Rattle.std.proofs.Common.{◌≡◌, ◌≢◌, ◌⊎◌, inl, inr, refl, sym, ap, subst, ◌∙◌, ℕ, ◌^◌, ◌<◌, ◌≤◌, ℤ, Bool, true, false, Some, None, List, map, length, get_or, replicate, arith}
+use Rattle.std.proofs.Common.{◌≡◌, ◌⊎◌, inl, inr, refl, sym, ap, subst, ◌∙◌, ℕ, ◌<◌, ◌≤◌, ℤ, true, false, Some, None, List, map, length, get_or, replicate, arith, rules}
 use Rattle.std.specs.Int.{Width}
 use Rattle.std.proofs.lemmas.Bool.{cases_lt, cases_Bool, eqb-true}
 use Rattle.std.proofs.lemmas.List.{get_or_past}
-use Rattle.zf_spec.specs.Grid.{IsShape, upto, blocks}
+use Rattle.zf_spec.specs.Grid.{upto, blocks}
 use Rattle.zf_spec.proofs.Counting.{length-map-upto, get_or-map-upto, map-get_or-upto}
 use Rattle.zf_base.specs.Widths.{width_of}
 use Rattle.zf_base.specs.Formats.{meant}
 use Rattle.zf_base.proofs.Sizes.{blocks_le}
-use Rattle.zf_header.specs.declared.header.Header.{Header}
-use Rattle.zf_header.specs.HeaderBits.{IsRate, rate_bytes_of}
 use Rattle.zf_cached.specs.Changes.{zeros}
 use Rattle.zf_cached.specs.Arrays.{rate_coding}
 use Rattle.zf_cached.proofs.Arrays.{meant-zeros}
 use Rattle.zf_cached.proofs.States.{same_state}
 use Rattle.zf_cache.specs.Kept.{Kept, HasBlocks, tag_at, block_in, line_of, is_dirty, dirty_tag}
-use Rattle.zf_cache.specs.Standing.{state_of, values_of, line_values, Fits, state_at}
+use Rattle.zf_cache.specs.Standing.{state_of, values_of, Fits, state_at}
 use Rattle.zf_cache.proofs.Tags.{names-dirty, is_block-other}
 use Rattle.zf_store.specs.Stored.{Stored, Frame, code_at, format_of, frame_of, rate_of}
 use Rattle.zf_store.proofs.Kept.{blocks_is, block_len_is}
@@ -55,11 +53,7 @@ module _ {X : Type 0} (value : X → ℤ) (s : Stored) (c : Kept X) (count : len
       by (inr e) = sym e
 
   pub zeros_past : (b : ℕ) → blocks s.header.shape ≤ b → zeros (format_of s) ≡ values_of value c (format_of s) (code_at s) b
-  zeros_past b h =
-      let out : block_in (tag_at c.tags (line_of c b)) ≢ Some b = λ e. let below : b < blocks s.header.shape = in_array (line_of c b) b e in omega (arith, h, below) in
-      let none = is_block-other (block_in (tag_at c.tags (line_of c b))) b out in
-      sym (ap (λ (t : Bool). elim t [ true ↦ line_values value c (format_of s) (line_of c b) b | false ↦ meant (format_of s) b (code_at s b) ]) none
-      ∙ ap (meant (format_of s) b) (get_or_past s.codes b (replicate (rate_of s) false) (omega arith)) ∙ zero_meant s b)
+  zeros_past b h = search (rules, in_array, is_block-other, get_or_past, zero_meant)
 
   pub state_held : state (held_by value s c) ≡ state_of value c (format_of s) (code_at s)
   unfolding state array_of state_at
@@ -95,10 +89,7 @@ module _ {X : Type 0} (value : X → ℤ) (s : Stored) (c : Kept X) (count : len
 
 module _ {X : Type 0} (value : X → ℤ) (w : Width) (d : ℕ) (s : Stored) (c : Kept X) (room : ℕ) (joined : IsJoined value w d s c room) where
   pub has_blocks : HasBlocks (format_of s) d
-  has_blocks = (
-    block_len_is s ∙ ap (λ k. 4 ^ k) joined.dims,
-    omega (arith, blocks_is s, blocks_le s.header.shape joined.shape.not_zero, joined.shape.not_too_large),
-  )
+  has_blocks = search (rules, block_len_is, blocks_is, blocks_le)
 
   module _ (now : Held) (is : held_by value s c ≡ now) where
     pub stored_now : stored now ≡ s
@@ -120,18 +111,7 @@ module _ {X : Type 0} (value : X → ℤ) (w : Width) (d : ℕ) (s : Stored) (c 
     header_kept = ap (λ (f : Frame). f.header) frame
 
     pub joined_after : Fits value e (format_of t) (code_at t) → IsJoined value w d t e room
-    joined_after fits =
-        let P : Header → Type 0 = λ h. (w ≡ width_of h.ty) × (length h.shape ≡ d) × IsShape h.shape × IsRate h.mode × (length s.codes ≡ blocks h.shape) × (room ≡ rate_bytes_of h) in
-        let kept : P t.header = subst P (sym header_kept) (joined.same_type, joined.dims, joined.shape, joined.rate, joined.count, joined.room_is) in
-        record {
-          same_type = kept.0;
-          dims = kept.1;
-          shape = kept.2;
-          rate = kept.3;
-          count = ap (λ (f : Frame). f.count) frame ∙ kept.4;
-          fits = fits;
-          room_is = kept.5;
-        }
+    joined_after fits = search (rules, header_kept)
 
     pub state_after : Fits value e (format_of t) (code_at t) → state (held_by value t e) ≡ state_of value e (format_of t) (code_at t)
     state_after fits = let after = joined_after fits in state_held value t e after.count fits

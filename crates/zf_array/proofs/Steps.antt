@@ -1,5 +1,5 @@
 -- What the calls of an array do to its state.
-use Rattle.std.proofs.Common.{◌≡◌, refl, sym, ap, subst, ◌∙◌, ◌⊎◌, inl, inr, ℕ, ◌%◌, ◌^◌, ◌<◌, ◌≤◌, ℤ, Bool, true, false, List, length, get_or, replicate, ◌==◌, arith}
+use Rattle.std.proofs.Common.{◌≡◌, refl, sym, ap, subst, ◌∙◌, ◌⊎◌, inl, inr, ℕ, ◌%◌, ◌^◌, ◌<◌, ◌≤◌, ℤ, Bool, true, false, List, length, get_or, replicate, ◌==◌, arith, rules}
 use Rattle.std.specs.Int.{Width}
 use Rattle.std.proofs.lemmas.Bool.{cases_lt, ne_eqb}
 use Rattle.std.proofs.lemmas.List.{get_or_past, length-replicate, get_or-replicate}
@@ -13,7 +13,7 @@ use Rattle.zf_base.specs.Places.{block_number, place_of, IsAt}
 use Rattle.zf_base.specs.Formats.{Format, meant}
 use Rattle.zf_header.specs.declared.header.Header.{Header}
 use Rattle.zf_header.specs.declared.header.Mode.{Mode}
-use Rattle.zf_header.specs.declared.header.Mode.TheVariants.{Reversible, Rate, Precision}
+use Rattle.zf_header.specs.declared.header.Mode.TheVariants.{Rate}
 use Rattle.zf_spec.specs.Stream.{file, fixed_rate}
 use Rattle.zf_spec.proofs.Counting.{map-get_or-upto}
 use Rattle.zf_header.specs.HeaderBits.{IsRate, coding, block_bits}
@@ -21,7 +21,7 @@ use Rattle.zf_cached.specs.State.{State, no_counts}
 use Rattle.zf_cached.specs.Changes.{opened, raised, resized, zeros}
 use Rattle.zf_cached.specs.Arrays.{rate_coding, array_format, zero_codes, open_array, new_array, codes_of, saved_file}
 use Rattle.zf_cached.proofs.States.{same_state}
-use Rattle.zf_cache.specs.Kept.{Kept, IsEmpty, tag_at, block_in, dirty_tag}
+use Rattle.zf_cache.specs.Kept.{Kept, IsEmpty, tag_at, dirty_tag}
 use Rattle.zf_cache.specs.Standing.{state_of, Fits, HasRoom, state_at}
 use Rattle.zf_cache.proofs.Stands.{standing}
 use Rattle.zf_cache.proofs.Steps.{empty_fits}
@@ -99,17 +99,7 @@ module _ {X : Type 0} (value : X → ℤ) where
   opens s c n count empty counts room =
       let f = format_of s in
       let k = code_at s in
-      let fits = empty_fits value f k c n empty room in
-      let none : ℕ = 0 in
-      let long : length c.tags ≡ n = ap length empty ∙ length-replicate n none in
-      let made : standing value f n c.lines (replicate n 0) no_counts k ≡ opened f k n =
-      same_state (standing value f n c.lines (replicate n 0) no_counts k) (opened f k n) refl (λ l. ap block_in (no_tag n l)) (λ b. clean n b) (λ b. all_meant value f n c.lines no_counts k b) (λ b. refl) refl in
-      state_held value s c count fits ∙ state_is value f c k n long
-      ∙ (λ i. standing value f n c.lines (empty i) (counts i) k) ∙ made
-      ∙ sym (ap (λ (u : Stored). opened (format_of u) (code_at u) n) (stored_held value s c count fits))
-    where
-      clean : (n b : ℕ) → (tag_at (replicate n 0) (b % n) == dirty_tag b) ≡ false
-      clean n b = ap (λ t. t == dirty_tag b) (no_tag n (b % n)) ∙ ne_eqb 0 (dirty_tag b) (λ e. omega (arith, e))
+      let fits = empty_fits value f k c n empty room in search (rules, length-replicate, standing, same_state, no_tag, all_meant, state_held, state_is, stored_held)
 
   -- an empty cache over zeros stands for an array as it is resized
   pub resizes : (old : Stored) (c : Kept X) (t : Stored) (e : Kept X) (ty : Ty) (ns : List ℕ) (budget : ℕ) → t ≡ store.zeros ty ns budget
@@ -128,9 +118,7 @@ module _ {X : Type 0} (value : X → ℤ) where
       let rate : rate_of t ≡ budget = ap rate_of is in
       let zero : (b : ℕ) → meant f b (k b) ≡ zeros f = λ b. ap (meant f b) (code b ∙ ap (λ m. replicate m false) (sym rate)) ∙ zero_meant t b in
       let s = state_of value c (format_of old) (code_at old) in
-      let made : standing value f n e.lines (replicate n 0) c.counts k ≡ resized f (replicate budget false) s =
-      same_state (standing value f n e.lines (replicate n 0) c.counts k) (resized f (replicate budget false) s) refl (λ l. ap block_in (no_tag n l)) (λ b. clean n b)
-      (λ b. all_meant value f n e.lines c.counts k b ∙ zero b) code refl in
+      let made : standing value f n e.lines (replicate n 0) c.counts k ≡ resized f (replicate budget false) s = search (rules, same_state, standing, no_tag, all_meant) in
       state_held value t e count fits ∙ state_is value f e k n long
       ∙ (λ i. standing value f n e.lines (empty i) (counts i) k) ∙ made
       ∙ sym (ap (λ (u : Stored). resized (format_of u) (replicate budget false) s) (stored_held value t e count fits))

@@ -1,5 +1,5 @@
 -- Each command that is not refused, and the refusals of each.
-use Rattle.std.proofs.Common.{◌≡◌, refl, sym, ap, subst, ◌∙◌, ℕ, zero, suc, ◌<◌, ◌≤◌, ℤ, ◌+ℤ◌, Bool, true, false, not, ◌&&◌, ltb, lt-ltb, ltb-true, ◌⊎◌, inl, inr, List, length, Option, Some, None, if◌then◌else◌, arith}
+use Rattle.std.proofs.Common.{◌≡◌, refl, sym, ap, subst, ◌∙◌, ℕ, ◌<◌, ◌≤◌, ℤ, ◌+ℤ◌, Bool, true, false, not, ltb, lt-ltb, ltb-true, ◌⊎◌, inl, inr, List, length, Option, Some, None, arith, rules}
 use Rattle.std.proofs.lemmas.Bool.{and_from, and_parts}
 use Rattle.std.specs.Int.{Width}
 use Rattle.zf_spec.specs.Numbers.{wrap}
@@ -13,7 +13,7 @@ use Rattle.zf_cached.specs.Replies.{Refusal, Reply}
 use Rattle.zf_cached.specs.Arrays.{array_format}
 use Rattle.zf_cached.specs.Runs.{read_step}
 use Rattle.zf_cached.specs.State.{Counts}
-use Rattle.zf_cached.specs.Windows.{Window, LiesIn, mapped, sliced, has_place, positions, is_window, none_zero, lies_in}
+use Rattle.zf_cached.specs.Windows.{Window, LiesIn, mapped, sliced, has_place, positions, is_window}
 use Rattle.zf_cached.specs.Steps.{Setting, Session, touched, changed, changed_at, filled_below, total, value_there, is_of_type, is_line_count, needs_split, tests, step, done}
 use Rattle.zf_cached.proofs.Windows.{length-mapped, LiesIn-sliced}
 use Rattle.zf_window.specs.declared.window.ViewFault.{ViewFault}
@@ -37,20 +37,10 @@ pub outside : (ns : List ℕ) (p : Pos) → p ≡ with_unused 0 (used_axes (leng
 outside ns p unused away = is_not (is_inside ns (used_axes (length ns) p)) (λ e. away (record { inside = e; unused = unused }))
 
 pub no_window : (ns : List ℕ) (w : Window) (e : ViewFault) → view_fault ns w ≡ Some e → not (is_window ns w) ≡ true
-no_window ns w e is = by (none_zero w.size) (none_zero w.step) (lies_in ns w) _ _ _ is
-  where
-    by : (a b d : Bool) (x y z : ViewFault) → (if a then (if b then (if d then None else Some x) else Some y) else Some z) ≡ Some e → not (a && (b && d)) ≡ true
-    by true true true x y z h = absurd (cc)
-    by true true false x y z h = refl
-    by true false d x y z h = refl
-    by false b d x y z h = refl
+no_window ns w e is = search rules
 
 pub line_count : (n : ℕ) → (n ≡ 0 → ⊥) → n ≤ 65536 → is_line_count n ≡ true
-line_count n some most = and_from (ltb 0 n) (ltb n 65537) (lt-ltb 0 n (positive n some)) (lt-ltb n 65537 (omega arith))
-  where
-    positive : (n : ℕ) → (n ≡ 0 → ⊥) → 0 < n
-    positive zero some = absurd (some refl)
-    positive (suc n) some = omega arith
+line_count n some most = search (rules, and_from, lt-ltb)
 
 pub no_line_count : (n : ℕ) → (n ≡ 0) ⊎ ((n ≡ 0 → ⊥) × (65536 < n)) → not (is_line_count n) ≡ true
 no_line_count n (inl none) = is_not (is_line_count n) (λ e. let parts = and_parts (ltb 0 n) (ltb n 65537) e in omega (arith, none, ltb-true 0 n parts.0))
@@ -58,9 +48,7 @@ no_line_count n (inr many) = is_not (is_line_count n) (λ e. let parts = and_par
 
 -- a position outside of the window
 pub outside_window : (ns : List ℕ) (w : Window) (p : Pos) → LiesIn ns w → p ≡ with_unused 0 (used_axes (length ns) p) → (IsPosition w.size p → ⊥) → not (is_inside w.size (used_axes (length ns) p)) ≡ true
-outside_window ns w p lies unused away =
-    let long = lies.sizes in
-    subst (λ k. not (is_inside w.size (used_axes k p)) ≡ true) long (outside w.size p (unused ∙ ap (λ k. with_unused 0 (used_axes k p)) (sym long)) away)
+outside_window ns w p lies unused away = search (rules, outside)
 
 -- one inside
 pub within : (ns : List ℕ) (w : Window) → LiesIn ns w → (p : Pos) → IsPosition w.size p → is_inside w.size (used_axes (length ns) p) ≡ true
@@ -79,15 +67,11 @@ numbers_there ns v sizes lies p =
 module _ {Code : Type 0} (setting : Setting Code) (cmd m : Cmd) (is : cmd ≡ m) (s : Session Code) where
   pub taken : (t : Session Code) (reply : Option Reply) → setting.allows (asked s m) ≡ true → Does setting (asked s m) s t reply → Takes setting s (asked s cmd) t reply
   unfolding read_step
-  taken t reply allowed does =
-      subst (λ x. Takes setting s (asked s x) t reply) (sym is)
-      (ap (λ x. elim x [ true ↦ step setting s (asked s m) (starves reply) | false ↦ (s, Some (Reply.refused Refusal.word)) ]) allowed ∙ does.step_is)
+  taken t reply allowed does = search rules
 
   pub not_taken : setting.allows (asked s m) ≡ false → Takes setting s (asked s cmd) s (Some (Reply.refused Refusal.word))
   unfolding read_step
-  not_taken refused =
-      subst (λ x. Takes setting s (asked s x) s (Some (Reply.refused Refusal.word))) (sym is)
-      (ap (λ x. elim x [ true ↦ step setting s (asked s m) false | false ↦ (s, Some (Reply.refused Refusal.word)) ]) refused)
+  not_taken refused = search (rules, refused)
 
 -- ---- what commands do, whatever a script works on
 

@@ -1,5 +1,5 @@
 -- Lines one after the other, with the replies that are written.
-use Rattle.std.proofs.Common.{◌≡◌, ◌≢◌, refl, sym, ap, subst, ◌∙◌, ℕ, suc, ◌+◌, ◌≤◌, ◌<◌, Bool, true, false, ◌||◌, cond, eqb, List, [], ◌∷◌, ◌++◌, length, take, count_by, Option, Some, None, append_assoc, length-append, ne_eqb, eq-eqb, zero-add, arith, Result, Ok, Err, OnErr}
+use Rattle.std.proofs.Common.{◌≡◌, ◌≢◌, refl, sym, ap, subst, ◌∙◌, ℕ, suc, ◌+◌, ◌≤◌, ◌<◌, Bool, true, false, ◌||◌, cond, eqb, List, [], ◌∷◌, ◌++◌, length, take, count_by, Option, Some, None, append_assoc, length-append, ne_eqb, eq-eqb, zero-add, arith, Result, Ok, Err, OnErr, rules}
 use mir.Val.{bool_byte}
 use Rattle.std.specs.List.{list_any}
 use Rattle.std.specs.Option.{option_to_list}
@@ -144,11 +144,7 @@ module _ {Code : Type 0} (setting : Setting Code) (all : List (List ℕ)) (line 
   -- and with this line
   after : run_lines setting starved 0 (run.lines ++ line ∷ []) start ≡ (next, prefix ++ option_to_list reply)
   unfolding prefix k
-  after =
-      let then_one : Session Code × List Reply → Session Code × List Reply = λ r. let q = run_lines setting starved (length run.lines) (line ∷ []) r.0 in (q.0, r.1 ++ q.1) in
-      let here : Session Code → Session Code × List Reply = λ s. let q = run_lines setting starved (length run.lines) (line ∷ []) s in (q.0, prefix ++ q.1) in
-      let from : ℕ → Session Code × List Reply = λ n. let r = run_lines setting starved 0 run.lines start in let q = run_lines setting starved n (line ∷ []) r.0 in (q.0, r.1 ++ q.1) in
-      run_lines-append setting starved 0 run.lines (line ∷ []) start ∙ ap from (zero-add (length run.lines)) ∙ ap then_one before ∙ ap here (sym run.session) ∙ ap (λ (q : Session Code × List Reply). (q.0, prefix ++ q.1)) one
+  after = search (rules, starved, prefix, run_lines-append, zero-add, before, one)
 
   one_starved : starved_lines setting starved k (line ∷ []) now ≡ number_if (starves reply) k
   unfolding starved_lines starved k
@@ -160,15 +156,7 @@ module _ {Code : Type 0} (setting : Setting Code) (all : List (List ℕ)) (line 
   -- the lines that are out of memory are those that say so
   all_starved : AreStarved setting starved (run.lines ++ line ∷ []) start
   unfolding starved k
-  all_starved =
-      let one_behind : ℕ → Session Code → List ℕ = λ n s. starved_lines setting starved n (line ∷ []) s in
-      let same = starved_lines-same setting starved run.starved 0 run.lines start (λ n lt. with_line-other (starves reply) (length run.lines) n run.starved (λ e. omega (arith, e, lt))) in
-      sym (starved_lines-append setting starved 0 run.lines (line ∷ []) start
-      ∙ ap (λ (ns : List ℕ). ns ++ one_behind (0 + length run.lines) (run_lines setting starved 0 run.lines start).0) (same ∙ sym run.starved_are)
-      ∙ ap (λ (n : ℕ). run.starved ++ one_behind n (run_lines setting starved 0 run.lines start).0) (zero-add (length run.lines))
-      ∙ ap (λ (r : Session Code × List Reply). run.starved ++ one_behind (length run.lines) r.0) before
-      ∙ ap (λ (s : Session Code). run.starved ++ one_behind (length run.lines) s) (sym run.session)
-      ∙ ap (λ (ns : List ℕ). run.starved ++ ns) one_starved)
+  all_starved = search (rules, starved, starved_lines-same, with_line-other, starved_lines-append, zero-add, before, one_starved)
 
   -- its reply is written
   pub one_more : (new : Option (List ℕ)) → Appends mid new (replies_text (option_to_list reply)) → (more : ℕ) → more ≡ refused + cond (refuses reply) 1 0 → HasRun setting all left start next old new more
@@ -180,8 +168,7 @@ module _ {Code : Type 0} (setting : Setting Code) (all : List (List ℕ)) (line 
     none_behind = λ n h. with_line-other (starves reply) (length run.lines) n run.starved (λ e. omega (arith, length-append run.lines (line ∷ []), e, h)) ∙ run.none_behind n (omega (arith, length-append run.lines (line ∷ [])));
     session = sym (ap (λ (r : Session Code × List Reply). r.0) after);
     starved_are = all_starved;
-    refused_is = is ∙ subst (λ (r : Session Code × List Reply). refused + cond (refuses reply) 1 0 ≡ count_by is_refusal r.1) (sym after)
-        (omega (arith, count_by-append is_refusal prefix (option_to_list reply), count-refusal reply, run.refused_is));
+    refused_is = search (rules, after, count_by-append, prefix, count-refusal);
     written = subst (λ (r : Session Code × List Reply). Appends old new (replies_text r.1)) (sym after)
         (subst (Appends old new) (sym (flat_map-append reply_text prefix (option_to_list reply))) (Appends-append old mid new (replies_text prefix) (replies_text (option_to_list reply)) run.written written));
   }
@@ -227,17 +214,7 @@ module _ {Code : Type 0} (setting : Setting Code) (all : List (List ℕ)) (line 
 -- at last all
 pub all_run : {Code : Type 0} (setting : Setting Code) (script : List ℕ) (all : List (List ℕ)) (start now : Session Code) (old new : Option (List ℕ)) (refused : ℕ)
     → lines_of script ≡ all → HasRun setting all [] start now old new refused → AllRun setting script start now old new refused
-all_run {Code} setting script all start now old new refused lines run =
-    let same : run.lines ≡ lines_of script = sym (append-nil run.lines) ∙ sym run.parts ∙ sym lines in
-    let Ran = λ (ls : List (List ℕ)). run_lines setting run.starved 0 ls start in (
-      run.starved,
-      record {
-        session = run.session ∙ ap (λ (ls : List (List ℕ)). (Ran ls).0) same;
-        starved_are = subst (λ (ls : List (List ℕ)). AreStarved setting run.starved ls start) same run.starved_are;
-        refused_is = run.refused_is ∙ ap (λ (ls : List (List ℕ)). count_by is_refusal (Ran ls).1) same;
-        written = subst (λ (ls : List (List ℕ)). Appends old new (replies_text (Ran ls).1)) same run.written;
-      },
-    )
+all_run {Code} setting script all start now old new refused lines run = search (rules, append-nil)
 
 -- ---- the turns of the loop
 
@@ -278,11 +255,7 @@ of_error (Err e) p = p
 
 count-starved : (reply : Option Reply) (k : ℕ) → count_by is_starved (option_to_list reply) ≡ length (number_if (starves reply) k)
 count-starved None k = refl
-count-starved (Some reply) k = by (is_starved reply)
-  where
-    by : (b : Bool) → 0 + cond b 1 0 ≡ length (number_if b k)
-    by true = refl
-    by false = refl
+count-starved (Some reply) k = search (rules, k)
 
 pub starved-counted : {Code : Type 0} (setting : Setting Code) (starved : List ℕ) (k : ℕ) (lines : List (List ℕ)) (s : Session Code)
     → length (starved_lines setting starved k lines s) ≡ count_by is_starved (run_lines setting starved k lines s).1

@@ -1,5 +1,5 @@
 -- A line as it is read.
-use Rattle.std.proofs.Common.{◌≡◌, refl, sym, ap, subst, ◌∙◌, ℕ, zero, suc, ◌<◌, ◌==◌, Bool, false, List, [], ◌∷◌, length, Option, Some, None, arith}
+use Rattle.std.proofs.Common.{◌≡◌, refl, sym, ap, ◌∙◌, ℕ, zero, suc, ◌<◌, ◌==◌, Bool, false, List, [], ◌∷◌, length, Option, Some, None, arith, rules}
 use Rattle.zf_cached.specs.Commands.{Command}
 use Rattle.zf_cached.specs.Grammar.{read_line}
 use Rattle.zf_cached.specs.Replies as script
@@ -30,10 +30,7 @@ module _ {Code : Type 0} (setting : Setting Code) (s : Session Code) where
   pub line_not_read : (line : List ℕ) (d : ℕ) (why : Refusal) → 0 < length line → d ≡ length s.shape → read_line d line ≡ None → why ≡ Word
       → LeadsTo setting s line s (Some (script.Reply.refused (refusal_of why)))
   unfolding read_step
-  line_not_read line d why some dims is word =
-      let P : Refusal → Type 0 = λ r. LeadsTo setting s line s (Some (script.Reply.refused (refusal_of r))) in
-      let at_word : P Word = read_as line d None false some dims is in
-      subst P (sym word) at_word
+  line_not_read line d why some dims is word = search (rules, read_as)
 
 pub some_bytes : (n : ℕ) → (n == 0) ≡ false → 0 < n
 some_bytes zero e = absurd (cc)

@@ -1,11 +1,11 @@
 -- Passes over all blocks, and sums of the values of one.
-use Rattle.std.proofs.Common.{◌≡◌, refl, sym, ap, subst, ◌∙◌, ℕ, zero, suc, ◌+◌, ◌-◌, ◌*◌, ◌<◌, ◌≤◌, ◌^◌, ℤ, pos, ◌+ℤ◌, List, [], ◌∷◌, ◌++◌, map, length, take, drop, replicate, get_or, FitsSigned, to_z, of_z, if◌then◌else◌, arith}
+use Rattle.std.proofs.Common.{◌≡◌, refl, sym, ap, ◌∙◌, ℕ, zero, suc, ◌+◌, ◌-◌, ◌*◌, ◌<◌, ◌≤◌, ◌^◌, ℤ, pos, ◌+ℤ◌, List, [], ◌∷◌, ◌++◌, map, length, take, drop, replicate, get_or, FitsSigned, to_z, of_z, arith, rules}
 use Rattle.std.specs.Int.{w128}
 use Rattle.std.specs.List.{refill}
 use Rattle.std.proofs.lemmas.Int.{ints, to_z-of_z}
 use Rattle.std.proofs.lemmas.List.{map-append}
 use Rattle.std.proofs.Math.Seq.{take-append_seam}
-use Rattle.zf_spec.specs.Grid.{IsShape, upto, count_from, is_inside, indices, extent_of}
+use Rattle.zf_spec.specs.Grid.{IsShape, upto, count_from, extent_of}
 use Rattle.zf_spec.proofs.Counting.{count_from-add, map-upto_same, count_from-below}
 use Rattle.zf_base.specs.Formats.{existing_of}
 use Rattle.zf_cached.specs.State.{State}
@@ -14,12 +14,12 @@ use Rattle.zf_cached.specs.Steps.{Setting, Session, touched, changed, filled_bel
 use Rattle.zf_commands.specs.Sittings.{OnState}
 use Rattle.zf_commands.specs.Steps.{Touches, Fills}
 use Rattle.zf_base.specs.declared.position.Extent.{Extent}
-use Rattle.zf_base.specs.Positions.{axes, used_axes, IsExtent}
+use Rattle.zf_base.specs.Positions.{used_axes, IsExtent}
 use Rattle.zf_pad.specs.Layouts.{place_indices}
 use Rattle.zf_pad.proofs.Existing.{has_place}
 use Rattle.zf_window.specs.Bounds.{IsUpTo}
 use Rattle.zf_window.proofs.Bounds.{up_to_fits}
-use Rattle.zf_commands.specs.Sums.{value_within, within}
+use Rattle.zf_commands.specs.Sums.{within}
 
 -- a list of one value alone
 pub all_alike : {X : Type 0} (xs : List X) (v : X) → ((k : ℕ) → k < length xs → get_or xs k v ≡ v) → xs ≡ replicate (length xs) v
@@ -49,19 +49,11 @@ total-append (x ∷ xs) y = let rest = total-append xs y in omega (arith, ints, 
 
 -- with one number more
 pub total_more : (f : ℕ → ℤ) (n : ℕ) → total (map f (upto (n + 1))) ≡ total (map f (upto n)) +ℤ f n
-total_more f n =
-    let last : count_from (0 + n) 1 ≡ n ∷ [] = ap (λ k. k ∷ []) (omega arith) in
-    ap (λ ks. total (map f ks)) (count_from-add 0 n 1 ∙ ap (λ ks. upto n ++ ks) last) ∙ ap total (map-append f (upto n) (n ∷ [])) ∙ total-append (map f (upto n)) (f n)
+total_more f n = search (rules, count_from-add, map-append, total-append)
 
 -- small numbers have small sums
 pub up_to_more : (step n : ℕ) (s x : ℤ) → IsUpTo (step * n) s → IsUpTo step x → IsUpTo (step * (n + 1)) (s +ℤ x)
-up_to_more step n s x sum one =
-    let more : step * (n + 1) ≡ step * n + step = omega arith in
-    let P : ℕ → Type 0 = λ m. IsUpTo m (s +ℤ x) in
-    subst P (sym more) (sum_up_to (step * n) step s x sum one)
-  where
-    sum_up_to : (m n : ℕ) (s x : ℤ) → IsUpTo m s → IsUpTo n x → IsUpTo (m + n) (s +ℤ x)
-    sum_up_to m n s x a b = (omega (arith, ints, a.0, a.1, b.0, b.1), omega (arith, ints, a.0, a.1, b.0, b.1))
+up_to_more step n s x sum one = search (rules, ints)
 
 pub up_to_less : (m n : ℕ) (s : ℤ) → m ≤ n → IsUpTo m s → IsUpTo n s
 up_to_less m n s le h = (omega (arith, ints, h.0, le), omega (arith, ints, h.1, le))
@@ -69,15 +61,11 @@ up_to_less m n s le h = (omega (arith, ints, h.0, le), omega (arith, ints, h.1, 
 -- the sum of two numbers of 128 bits
 module _ (bits : ℕ) (x : ℤ) where
   pub summed_fits : (n step : ℕ) → step * (n + 1) ≤ 2 ^ 100 → step ≤ 2 ^ 100 → IsUpTo (step * n) (to_z w128 bits) → IsUpTo step x → FitsSigned w128 (to_z w128 bits +ℤ to_z w128 (of_z w128 x))
-  summed_fits n step room less sum_small small =
-      let one = to_z-of_z w128 x (up_to_fits x (up_to_less step (2 ^ 100) x less small)) in
-      subst (λ y. FitsSigned w128 (to_z w128 bits +ℤ y)) (sym one) (up_to_fits (to_z w128 bits +ℤ x) (up_to_less (step * (n + 1)) (2 ^ 100) (to_z w128 bits +ℤ x) room (up_to_more step n (to_z w128 bits) x sum_small small)))
+  summed_fits n step room less sum_small small = search (rules, to_z-of_z, up_to_fits, up_to_less, up_to_more)
 
   pub summed_is : (n step : ℕ) → step * (n + 1) ≤ 2 ^ 100 → step ≤ 2 ^ 100 → IsUpTo (step * n) (to_z w128 bits) → IsUpTo step x
       → to_z w128 (of_z w128 (to_z w128 bits +ℤ to_z w128 (of_z w128 x))) ≡ to_z w128 bits +ℤ x
-  summed_is n step room less sum_small small =
-      to_z-of_z w128 (to_z w128 bits +ℤ to_z w128 (of_z w128 x)) (summed_fits n step room less sum_small small)
-      ∙ ap (λ y. to_z w128 bits +ℤ y) (to_z-of_z w128 x (up_to_fits x (up_to_less step (2 ^ 100) x less small)))
+  summed_is n step room less sum_small small = search (rules, to_z-of_z, summed_fits, up_to_fits, up_to_less)
 
 -- ---- passes
 
@@ -123,11 +111,7 @@ module _ {Code X : Type 0} (setting : Setting Code) (block : X → ℕ) (found :
   pub sum_on : (x : X) (xs : List X) (s t : Session Code) → touched setting s (block x) ≡ t → (sum one more : ℤ) → one ≡ found x (t.state.values (block x)) → more ≡ sum +ℤ one
       → sum_from setting block found (x ∷ xs) s sum ≡ sum_from setting block found xs t more
   unfolding summed
-  sum_on x xs s t touches sum one more finds is =
-      let After : Session Code → Session Code × ℤ = λ q. let rest = summed setting block found xs q in (rest.0, sum +ℤ (found x (q.state.values (block x)) +ℤ rest.1)) in
-      let rest = summed setting block found xs t in
-      let assoc : sum +ℤ (one +ℤ rest.1) ≡ more +ℤ rest.1 = omega (arith, ints, is) in
-      ap After touches ∙ ap (λ y. (rest.0, sum +ℤ (y +ℤ rest.1))) (sym finds) ∙ ap (λ y. (rest.0, y)) assoc
+  sum_on x xs s t touches sum one more finds is = search (rules, ints)
 
   pub sum_starts : (xs : List X) (s : Session Code) → summed setting block found xs s ≡ sum_from setting block found xs s (pos 0)
   sum_starts xs s = let rest = summed setting block found xs s in let none : rest.1 ≡ pos 0 +ℤ rest.1 = omega (arith, ints) in ap (λ y. (rest.0, y)) none
@@ -142,14 +126,7 @@ module _ {Code X : Type 0} (setting : Setting Code) (block : X → ℕ) (found :
 pub within_is : {Code : Type 0} (coding : Coding Code) (ns : List ℕ) (dim b : ℕ) (e : Extent) (vs : List ℤ) → IsShape ns → length ns ≡ dim → IsExtent (length ns) e
     → used_axes (length ns) e.size ≡ extent_of ns b → length vs ≡ 4 ^ dim → within e.size vs ≡ existing_of (array_format coding ns) b vs
 unfolding existing_of array_format place_indices
-within_is coding ns dim b e vs sizes dims extent used long =
-    let d = length ns in
-    let many : length vs ≡ 4 ^ d = long ∙ ap (λ k. 4 ^ k) (sym dims) in
-    let exists : (p : ℕ) → p < 4 ^ d → is_inside (axes e.size) (indices 4 p) ≡ is_inside (extent_of ns b) (indices d p) =
-    λ p lt. has_place d e sizes.four_at_most extent p lt ∙ ap (λ es. is_inside es (indices d p)) used in
-    ap (λ n. map (value_within e.size vs) (upto n)) many
-    ∙ map-upto_same (value_within e.size vs) (λ p. if is_inside (extent_of ns b) (indices d p) then get_or vs p (pos 0) else pos 0) (4 ^ d)
-    (λ p lt. ap (λ t. if t then get_or vs p (pos 0) else pos 0) (exists p lt))
+within_is coding ns dim b e vs sizes dims extent used long = search (rules, has_place, map-upto_same)
 
 -- a block has 256 places at most
 pub block_room : (ns : List ℕ) (dim : ℕ) → IsShape ns → length ns ≡ dim → (n : ℕ) → n ≡ 4 ^ dim → n ≤ 256

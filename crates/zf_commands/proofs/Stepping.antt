@@ -1,5 +1,5 @@
 -- The steps of commands that are refused, and of those that are not.
-use Rattle.std.proofs.Common.{◌≡◌, refl, sym, ap, ◌∙◌, Bool, true, false, not, ◌&&◌, Option, Some, None, is_some}
+use Rattle.std.proofs.Common.{◌≡◌, sym, ap, ◌∙◌, true, false, not, ◌&&◌, Option, Some, None, is_some, rules}
 use Rattle.zf_cached.specs.Commands.{Command}
 use Rattle.zf_cached.specs.Replies.{Refusal, Reply}
 use Rattle.zf_cached.specs.Steps.{Setting, Session, needs_split, refuses_split, tests, first_refusal, refusal, done}
@@ -21,10 +21,7 @@ refused_split setting c s lies split = record {
 
 module _ {Code : Type 0} (setting : Setting Code) (c : Command) (s : Session Code) (lies : HasWindow s) (there : refuses_split s c ≡ false) where
   refused : (why : Refusal) → refusal setting s c (starves (Some (Reply.refused why))) ≡ Some why → Does setting c s s (Some (Reply.refused why))
-  refused why e = record {
-    step_is = step-refused setting s c (starves (Some (Reply.refused why))) why e;
-    inside = lies;
-  }
+  refused why e = search (rules, step-refused)
 
   pub refused_size : (tests setting s c).size ≡ true → Does setting c s s (Some (Reply.refused Refusal.size))
   unfolding refusal
@@ -49,11 +46,7 @@ module _ {Code : Type 0} (setting : Setting Code) (c : Command) (s : Session Cod
       (t : Session Code) (reply : Option Reply) (none : starves reply ≡ false) (done_is : done setting s c ≡ (t, reply)) where
     passes : refusal setting s c (starves reply) ≡ None
     unfolding refusal
-    passes = (λ i. first_refusal (there i) (size i) (range i) (value i) ((tests setting s c).memory && none i)) ∙ not_starved (tests setting s c).memory
-      where
-        not_starved : (t : Bool) → first_refusal false false false false (t && false) ≡ None
-        not_starved true = refl
-        not_starved false = refl
+    passes = search rules
 
     pub accepted : HasWindow t → Does setting c s t reply
     accepted inside = record {

@@ -1,4 +1,5 @@
 -- Changes of an array as steps of a script.
+use Rattle.std.proofs.Common.{rules}
 use Rattle.std.proofs.Common.{◌≡◌, refl, sym, ap, subst, ◌∙◌, ℕ, ◌^◌, ℤ, Bool, true, not, List, length, replicate, set, Option, None}
 use Rattle.std.specs.Int.{Width}
 use Rattle.zf_base.specs.Formats.{existing_of}
@@ -11,7 +12,7 @@ use Rattle.zf_cached.specs.Runs.{array_setting}
 use Rattle.zf_cached.specs.State.{State}
 use Rattle.zf_cached.specs.Touch.{touch_for_writing, with_values}
 use Rattle.zf_cached.specs.Windows.{Window, LiesIn, mapped}
-use Rattle.zf_cached.specs.Steps.{Session, changed, changed_at, is_of_type, done}
+use Rattle.zf_cached.specs.Steps.{changed, changed_at, is_of_type, done}
 use Rattle.zf_header.specs.declared.header.Header.{Header}
 use Rattle.zf_array.specs.Standing.{Held, shape, state, format, array_of, block_at, place_at}
 use Rattle.zf_commands.specs.Steps.{Does}
@@ -41,9 +42,7 @@ module _ (w : Width) (a : Held) (dim : ℕ) (is : IsArray w dim a) where
           let ps = used_axes (length (shape a)) p in
           let is_r : used_axes (length (shape a)) r ≡ mapped v ps = ap (used_axes (length (shape a))) same ∙ numbers_there (shape a) v is.sizes lies p in
           accepted (setting_of w a) (Command.vset ps n) (session_of a v) lies refl refl (ap not (within (shape a) v lies p at)) (ap not of_type) (session_of b v) None refl
-          (ap (λ (t : Session (List Bool)). (t, None))
-          ((λ i. changed_at (setting_of w a) (session_of a v) (sym is_r i) (λ old. sym value i))
-          ∙ changed_is w a is.same_type v b (block_at a r) (λ values. set values (place_at a r) m) changes head))
+          (search (rules, changed_is))
           in_window
 
 -- ---- blocks
@@ -59,8 +58,4 @@ module _ (w : Width) (a : Held) (dim : ℕ) (is : IsArray w dim a) (u : Window) 
       → state b ≡ with_values (touch_for_writing (format a) (state a) k) k (existing_of (format a) k vs)
       → session_of b u ≡ changed (setting_of w a) (session_of a u) k (λ values. existing_of (format a) k (replicate (format a).block_len x))
   unfolding array_format
-  filled_block b k vs n x alike many head now =
-      let room : n ≡ 4 ^ length (shape a) = many ∙ ap (λ d. 4 ^ d) (sym is.dims) in
-      let t = touch_for_writing (format a) (state a) k in
-      sym (changed_is w a is.same_type u b k (λ values. existing_of (format a) k (replicate (format a).block_len x))
-      (now ∙ ap (λ ys. with_values t k (existing_of (format a) k ys)) (alike ∙ ap (λ m. replicate m x) room)) head)
+  filled_block b k vs n x alike many head now = search (rules, changed_is)

@@ -1,4 +1,5 @@
 -- A store and a two-way cache after a call, as a session.
+use Rattle.std.proofs.Common.{rules}
 use Rattle.std.proofs.Common.{◌≡◌, sym, ap, subst, ◌∙◌, ℕ, ◌^◌, ◌<◌, ℤ, pos, ◌+ℤ◌, Bool, true, false, List, map, length, get_or, set, replicate, None, [], Result, Ok, Err, ext_get_or, arith}
 use Rattle.std.specs.Int.{Width}
 use Rattle.std.specs.Result.{OnOk, OnErr}
@@ -47,10 +48,7 @@ exists_two s ps b k at = at.exists
 module _ (w : Width) (d : ℕ) (s : Stored) (st : IsStore w d s) where
   -- its blocks are such as a cache takes
   pub two_blocks : HasBlocks (format_of s) d
-  two_blocks = (
-    block_len_is s ∙ ap (λ k. 4 ^ k) st.dims,
-    omega (arith, blocks_is s, blocks_le s.header.shape st.shape.not_zero, st.shape.not_too_large),
-  )
+  two_blocks = search (rules, block_len_is, blocks_is, blocks_le)
 
   pub two_below : (b : ℕ) → b < blocks s.header.shape → b < (format_of s).blocks
   two_below b lt = subst (λ n. b < n) (sym (blocks_is s)) lt
@@ -101,27 +99,19 @@ module _ (w : Width) (s : Stored) (same : w ≡ width_of s.header.ty) {X : Type 
     pub changed_two : (k : ℕ) (change : List ℤ → List ℤ) → pair_state value t e ≡ (let u = touch_for_writing (format_of s) (pair_state value s c) k in with_values u k (change (u.values k)))
         → changed S now k change ≡ next
     unfolding touched changed twoway_setting touch_for_writing_at
-    changed_two k change is =
-        let End = λ (f : Format (List Bool)). let u = touch_for_writing f (pair_state value s c) k in with_values u k (change (u.values k)) in
-        next_is (End (format_in S now)) (is ∙ ap End (sym format_two))
+    changed_two k change is = search (rules, next_is, format_two)
 
     pub lined_two : (n : ℕ) → pair_state value t e ≡ relined (format_of s) (pair_state value s c) (raised n) → done S now (Command.lines n) ≡ (next, None)
     unfolding done
-    lined_two n is =
-        ap (λ (x : Session (List Bool)). (x, None))
-        (next_is (relined (format_in S now) (pair_state value s c) (raised n)) (is ∙ ap (λ (f : Format (List Bool)). relined f (pair_state value s c) (raised n)) (sym format_two)))
+    lined_two n is = search (rules, next_is, format_two)
 
     pub flushed_two : pair_state value t e ≡ flush (format_of s) (pair_state value s c) → done S now Command.flush ≡ (next, None)
     unfolding done
-    flushed_two is =
-        ap (λ (x : Session (List Bool)). (x, None))
-        (next_is (flush (format_in S now) (pair_state value s c)) (is ∙ ap (λ (f : Format (List Bool)). flush f (pair_state value s c)) (sym format_two)))
+    flushed_two is = search (rules, next_is, format_two)
 
     pub discarded_two : pair_state value t e ≡ discard (format_of s) (pair_state value s c) → done S now Command.discard ≡ (next, None)
     unfolding done
-    discarded_two is =
-        ap (λ (x : Session (List Bool)). (x, None))
-        (next_is (discard (format_in S now) (pair_state value s c)) (is ∙ ap (λ (f : Format (List Bool)). discard f (pair_state value s c)) (sym format_two)))
+    discarded_two is = search (rules, next_is, format_two)
 
 -- ---- values
 

@@ -1,5 +1,6 @@
 -- Shapes that an array may be resized to, and the array of another shape.
-use Rattle.std.proofs.Common.{◌≡◌, refl, sym, ap, subst, ◌∙◌, ℕ, ◌+◌, ◌*◌, ◌<◌, ◌≤◌, Bool, true, false, not, ◌&&◌, eqb, eq-eqb, ne_eqb, List, length, replicate, None, is_none, arith}
+use Rattle.std.proofs.Common.{rules}
+use Rattle.std.proofs.Common.{◌≡◌, refl, sym, ap, subst, ◌∙◌, ℕ, ◌+◌, ◌*◌, ◌<◌, ◌≤◌, Bool, true, false, not, ◌&&◌, eq-eqb, ne_eqb, List, length, replicate, None, is_none, arith}
 use Rattle.std.proofs.Math.Bool.{and-false}
 use Rattle.std.proofs.lemmas.Bool.{and_from, le-leb, lt-leb}
 use Rattle.std.specs.Int.{Width, div_ceil}
@@ -27,12 +28,10 @@ module _ {Code : Type 0} (setting : Setting Code) (s : Session Code) (ns : List 
   not_as_many other = ap (λ t. t && (is_none (shape_fault ns) && setting.has_room ns)) (ne_eqb (length ns) (length s.shape) other)
 
   pub no_room : setting.has_room ns ≡ false → is_new_shape setting s ns ≡ false
-  no_room none = ap (λ t. eqb (length ns) (length s.shape) && (is_none (shape_fault ns) && t)) none
-      ∙ ap (λ t. eqb (length ns) (length s.shape) && t) (and-false (is_none (shape_fault ns))) ∙ and-false (eqb (length ns) (length s.shape))
+  no_room none = search (rules, and-false)
 
   pub is_new : length ns ≡ length s.shape → shape_fault ns ≡ None → setting.has_room ns ≡ true → is_new_shape setting s ns ≡ true
-  is_new many good room = and_from (eqb (length ns) (length s.shape)) (is_none (shape_fault ns) && setting.has_room ns) (eq-eqb (length ns) (length s.shape) many)
-      (and_from (is_none (shape_fault ns)) (setting.has_room ns) (ap is_none good) room)
+  is_new many good room = search (rules, and_from, eq-eqb)
 
 -- the file of an array is as long as its header says
 pub file_is : (w : Width) (ty : Ty) (ns : List ℕ) (b : ℕ) → w ≡ width_of ty → rate_bytes_of (record { ty = ty; shape = ns; mode = Rate b }) ≡ file_bytes w b ns
@@ -55,8 +54,7 @@ module _ (w : Width) (a : Held) (ty : Ty) (ms ns : List ℕ) (b : ℕ) (same : m
 module _ (w : Width) (a : Held) (dim : ℕ) (is : IsArray w dim a) (v : Window) (lies : LiesIn (shape a) v) (b : Held) (ns ms : List ℕ) (same : ms ≡ ns) (new : is_new_shape (setting_of w a) (start_of a) ns ≡ true)
     (rate : a.header.mode ≡ Rate (block_bits a.header.mode)) (head : b.header ≡ record { ty = a.header.ty; shape = ms; mode = Rate (block_bits a.header.mode) }) where
   coded : array_format (rate_coding w (block_bits a.header.mode)) ns ≡ format b
-  coded = ap (array_format (rate_coding w (block_bits a.header.mode))) (sym same) ∙ ap (λ u. array_format (rate_coding u (block_bits a.header.mode)) ms) is.same_type
-      ∙ sym (ap (λ (h : Header). array_format (rate_coding (width_of h.ty) (block_bits h.mode)) h.shape) head)
+  coded = search rules
 
   pub resizes : state b ≡ resized (format b) (replicate (block_bits a.header.mode) false) (state a) → (u : Window) → u ≡ whole ms → LiesIn ms u → Does (setting_of w a) (Command.resize ns) (session_of a v) (session_of b u) None
   unfolding done array_setting rate_coding

@@ -1,5 +1,6 @@
 -- An array after a call as a session.
-use Rattle.std.proofs.Common.{◌≡◌, sym, ap, subst, ◌∙◌, ℕ, ◌^◌, ℤ, Bool, List, None, length, to_z, of_z, arith}
+use Rattle.std.proofs.Common.{rules}
+use Rattle.std.proofs.Common.{◌≡◌, sym, ap, ◌∙◌, ℕ, ◌^◌, ℤ, Bool, List, None, length, to_z, of_z}
 use Rattle.std.specs.Int.{Width, w128}
 use Rattle.std.proofs.lemmas.Int.{to_z-of_z}
 use Rattle.zf_spec.specs.Grid.{IsShape, extent_of}
@@ -14,7 +15,7 @@ use Rattle.zf_cached.specs.Arrays.{Coding, rate_coding, array_format}
 use Rattle.zf_cached.specs.Windows.{Window}
 use Rattle.zf_cached.specs.Changes.{flush, discard, raised, relined}
 use Rattle.zf_cached.specs.Commands.{Command}
-use Rattle.zf_cached.specs.Steps.{Session, format_of, touched, changed, done, total}
+use Rattle.zf_cached.specs.Steps.{format_of, touched, changed, done, total}
 use Rattle.zf_cached.specs.Runs.{array_setting}
 use Rattle.zf_window.specs.Bounds.{IsUpTo}
 use Rattle.zf_window.proofs.Bounds.{up_to_fits}
@@ -49,35 +50,24 @@ module _ (w : Width) (a : Held) (same : w ≡ width_of a.header.ty) (v : Window)
   pub changed_is : (b : Held) (k : ℕ) (change : List ℤ → List ℤ) → state b ≡ (let t = touch_for_writing (format a) (state a) k in with_values t k (change (t.values k)))
       → b.header ≡ a.header → changed (setting_of w a) (session_of a v) k change ≡ session_of b v
   unfolding touched changed array_setting touch_for_writing_at
-  changed_is b k change is head =
-      let End = λ (f : Format (List Bool)). let t = touch_for_writing f (state a) k in with_values t k (change (t.values k)) in
-      session_is b (End (format_of (setting_of w a) (session_of a v))) (ap End format_is ∙ sym is) head
+  changed_is b k change is head = search (rules, session_is, format_is)
 
   -- another number of lines
   pub lined_is : (b : Held) (n : ℕ) → state b ≡ relined (format a) (state a) (raised n) → b.header ≡ a.header → done (setting_of w a) (session_of a v) (Command.lines n) ≡ (session_of b v, None)
   unfolding done
-  lined_is b n is head =
-      ap (λ (t : Session (List Bool)). (t, None))
-      (session_is b (relined (format_of (setting_of w a) (session_of a v)) (state a) (raised n)) (ap (λ (f : Format (List Bool)). relined f (state a) (raised n)) format_is ∙ sym is) head)
+  lined_is b n is head = search (rules, session_is, format_is)
 
   -- a flush, and a discard
   pub flushed_is : (b : Held) → state b ≡ flush (format a) (state a) → b.header ≡ a.header → done (setting_of w a) (session_of a v) Command.flush ≡ (session_of b v, None)
   unfolding done
-  flushed_is b is head =
-      ap (λ (t : Session (List Bool)). (t, None))
-      (session_is b (flush (format_of (setting_of w a) (session_of a v)) (state a)) (ap (λ (f : Format (List Bool)). flush f (state a)) format_is ∙ sym is) head)
+  flushed_is b is head = search (rules, session_is, format_is)
 
   pub discarded_is : (b : Held) → state b ≡ discard (format a) (state a) → b.header ≡ a.header → done (setting_of w a) (session_of a v) Command.discard ≡ (session_of b v, None)
   unfolding done
-  discarded_is b is head =
-      ap (λ (t : Session (List Bool)). (t, None))
-      (session_is b (discard (format_of (setting_of w a) (session_of a v)) (state a)) (ap (λ (f : Format (List Bool)). discard f (state a)) format_is ∙ sym is) head)
+  discarded_is b is head = search (rules, session_is, format_is)
 
 -- the sum of the values of a block within its extents, as one of 128 bits
 pub sum_is : {Code : Type 0} (coding : Coding Code) (ms ns : List ℕ) (dim b : ℕ) (e : Extent) (vs : List ℤ) (sum : ℤ) → ms ≡ ns → IsShape ns → length ns ≡ dim → IsExtent (length ms) e
     → used_axes (length ms) e.size ≡ extent_of ms b → length vs ≡ 4 ^ dim → IsUpTo (2 ^ 71) sum → sum ≡ total (within e.size vs)
     → to_z w128 (of_z w128 sum) ≡ total (existing_of (array_format coding ns) b vs)
-sum_is coding ms ns dim b e vs sum same sizes dims extent used long bound is =
-    let P : List ℕ → Type 0 = λ ks. IsExtent (length ks) e in
-    let Q : List ℕ → Type 0 = λ ks. used_axes (length ks) e.size ≡ extent_of ks b in
-    to_z-of_z w128 sum (up_to_fits sum (up_to_less (2 ^ 71) (2 ^ 100) sum (omega arith) bound)) ∙ is ∙ ap total (within_is coding ns dim b e vs sizes dims (subst P same extent) (subst Q same used) long)
+sum_is coding ms ns dim b e vs sum same sizes dims extent used long bound is = search (rules, to_z-of_z, up_to_fits, up_to_less, within_is)

@@ -1,5 +1,6 @@
 -- An array that is split into views, and the end of a split.
-use Rattle.std.proofs.Common.{◌≡◌, refl, sym, ap, subst, ◌∙◌, ◌⊎◌, inl, inr, ℕ, zero, suc, ◌+◌, ◌^◌, ◌<◌, ◌≤◌, ◌%◌, ◌==◌, ℤ, Bool, true, false, not, List, [], ◌∷◌, ◌++◌, map, length, length-append, get_or, replicate, Some, None, if◌then◌else◌, arith}
+use Rattle.std.proofs.Common.{rules}
+use Rattle.std.proofs.Common.{◌≡◌, refl, sym, ap, subst, ◌∙◌, ◌⊎◌, inl, inr, ℕ, zero, suc, ◌+◌, ◌^◌, ◌<◌, ◌≤◌, ℤ, Bool, true, not, List, [], ◌∷◌, ◌++◌, map, length, length-append, get_or, Some, None, arith}
 use Rattle.std.specs.Int.{Width}
 use Rattle.std.proofs.Math.Path.{fun_ext}
 use Rattle.std.proofs.lemmas.Bool.{and_from, ne_eqb, cases_lt}
@@ -24,7 +25,7 @@ use Rattle.zf_cached.specs.Splits.{is_view_count, is_owner, opened_view, opened_
 use Rattle.zf_cached.specs.Steps.{Setting, Session, format_of, by_view, split_into, flushed_views, joined, is_line_count, done}
 use Rattle.zf_cached.specs.Runs.{array_setting, ended}
 use Rattle.zf_cached.proofs.States.{same_state}
-use Rattle.zf_cache.specs.Kept.{Kept, IsEmpty, tag_at, block_in, dirty_tag}
+use Rattle.zf_cache.specs.Kept.{Kept, IsEmpty}
 use Rattle.zf_cache.specs.Standing.{state_of, HasRoom}
 use Rattle.zf_cache.proofs.Stands.{standing}
 use Rattle.zf_cache.proofs.Steps.{empty_fits}
@@ -34,7 +35,7 @@ use Rattle.zf_array.specs.Standing.{Held, shape, state, format}
 use Rattle.zf_array.specs.Coded.{IsCoded}
 use Rattle.zf_run.specs.Sessions.{setting_of, session_of, kind}
 use Rattle.zf_commands.specs.Steps.{Does, HasWindow}
-use Rattle.zf_run.specs.Splits.{owns_block, view_state, view_of, views_seen, split_session, IsPart, AreParts, IsNewPart, AreNewParts}
+use Rattle.zf_run.specs.Splits.{view_of, views_seen, split_session, IsPart, AreParts, IsNewPart, AreNewParts}
 use Rattle.zf_run.proofs.Sessions.{format_is}
 use Rattle.zf_commands.proofs.Stepping.{accepted}
 use Rattle.zf_run.proofs.Viewing.{is_owner_is, seen_at}
@@ -65,29 +66,13 @@ module _ {X : Type 0} (value : X → ℤ) where
   -- an empty cache over codes stands for an array as it is opened
   empty_state : (f : Format (List Bool)) (k : ℕ → List Bool) (c : Kept X) (n : ℕ) → IsEmpty c n → c.counts ≡ no_counts → state_of value c f k ≡ opened f k n
   unfolding opened
-  empty_state f k c n empty counts =
-      let none : ℕ = 0 in
-      let long : length c.tags ≡ n = ap length empty ∙ length-replicate n none in
-      state_is value f c k n long ∙ (λ i. standing value f n c.lines (empty i) (counts i) k)
-      ∙ same_state (standing value f n c.lines (replicate n 0) no_counts k) (opened f k n) refl (λ l. ap block_in (no_tag n l)) (λ b. clean b) (λ b. all_meant value f n c.lines no_counts k b) (λ b. refl) refl
-    where
-      clean : (b : ℕ) → (tag_at (replicate n 0) (b % n) == dirty_tag b) ≡ false
-      clean b = ap (λ t. t == dirty_tag b) (no_tag n (b % n)) ∙ ne_eqb 0 (dirty_tag b) (λ e. omega (arith, e))
+  empty_state f k c n empty counts = search (rules, length-replicate, state_is, standing, same_state, no_tag, all_meant, ne_eqb)
 
   module _ (d : ℕ) (a : Held) (n lines : ℕ) (some : 0 < n) where
     -- a view as it is made is one as it is opened
     new_view : (i : ℕ) (v : private.Held X) → IsNewPart d (shape a) n lines i v → view_of value a v ≡ opened_view (format a) (state a).codes lines (is_owner (blocks (shape a)) n i)
     unfolding opened_view opened
-    new_view i v new =
-        let e : view_state value a v ≡ opened (format a) (state a).codes lines = empty_state (format a) (state a).codes v.cache lines new.empty new.counts in
-        let o : (b : ℕ) → owns_block v b ≡ is_owner (blocks (shape a)) n i b = λ b. sym (is_owner_is (blocks (shape a)) n i v some new.first new.count b) in
-        λ j. record {
-          lines = (e j).lines;
-          held = (e j).held;
-          dirty = (e j).dirty;
-          values = fun_ext (λ b. λ m. if o b m then (e m).values b else []) j;
-          counts = (e j).counts;
-        }
+    new_view i v new = search (rules, empty_state, is_owner_is, fun_ext)
 
     pub new_views : (views : List (private.Held X)) → AreNewParts d (shape a) n lines n views → views_seen value a views ≡ opened_views (format a) (state a).codes lines n
     unfolding opened_views array_format
@@ -164,9 +149,7 @@ module _ {X : Type 0} (value : X → ℤ) where
   pub joins : (w : Width) (a b : Held) (views news : List (private.Held X)) (u : Window) → flushed_views (setting_of w a) (split_session value a views u) (length views) ≡ split_session value b news u
       → joined (setting_of w a) (split_session value a views u) ≡ session_of b u
   unfolding joined
-  joins w a b views news u flushed =
-      let end : Session (List Bool) → Session (List Bool) = λ s. record s { split = None } in
-      ap (λ n. end (flushed_views (setting_of w a) (split_session value a views u) n)) (length-map views (view_of value a)) ∙ ap end flushed
+  joins w a b views news u flushed = search (rules, length-map)
 
   pub none_flushed : (w : Width) (a : Held) (views : List (private.Held X)) (u : Window) → flushed_views (setting_of w a) (split_session value a views u) 0 ≡ split_session value a views u
   unfolding flushed_views
@@ -176,11 +159,7 @@ module _ {X : Type 0} (value : X → ℤ) where
   pub one_flushed : (w : Width) (a b c : Held) (views olds news : List (private.Held X)) (u : Window) (i : ℕ) → kind b ≡ kind a → flushed_views (setting_of w a) (split_session value a views u) i ≡ split_session value b olds u
       → (by_view (setting_of w b) (split_session value b olds u) i Act.flush).0 ≡ split_session value c news u → flushed_views (setting_of w a) (split_session value a views u) (i + 1) ≡ split_session value c news u
   unfolding flushed_views
-  one_flushed w a b c views olds news u i kept before acts =
-      let next : i + 1 ≡ suc i = omega arith in
-      ap (flushed_views (setting_of w a) (split_session value a views u)) next
-      ∙ ap (λ s. (by_view (setting_of w a) s i Act.flush).0) before
-      ∙ ap (λ (k : Ty × Mode). (by_view (array_setting w (block_bits k.1)) (split_session value b olds u) i Act.flush).0) (sym kept) ∙ acts
+  one_flushed w a b c views olds news u i kept before acts = search rules
 
 -- a whole array has no split to end
 pub whole_joins : (w : Width) (a : Held) (u : Window) → joined (setting_of w a) (session_of a u) ≡ session_of a u

@@ -1,4 +1,5 @@
 -- What a call of a view makes of an array that is split.
+use Rattle.std.proofs.Common.{rules}
 use Rattle.std.proofs.Common.{◌≡◌, ◌≢◌, ◌↔◌, refl, sym, ap, subst, ◌∙◌, ◌⊎◌, inl, inr, ℕ, ◌+◌, ◌<◌, ◌≤◌, ℤ, Bool, true, false, not, ◌&&◌, ltb, leb, List, [], length, get_or, set, Option, Some, None, if◌then◌else◌, arith}
 use Rattle.std.specs.Int.{Width}
 use Rattle.std.specs.Option.{option_map}
@@ -25,7 +26,7 @@ use Rattle.zf_cached.specs.Ownership.{Owns, first_of, count_of}
 use Rattle.zf_cached.specs.Splits.{is_view_count, is_owner, no_view, view_at, coded}
 use Rattle.zf_cached.specs.Steps.{Setting, Session, format_of, state_of_view, with_view, by_view, has_view, view_has, refuses_split, tests, done}
 use Rattle.zf_cached.specs.Runs.{array_setting}
-use Rattle.zf_cache.specs.Standing.{state_of, Fits, state_at}
+use Rattle.zf_cache.specs.Standing.{Fits, state_at}
 use Rattle.zf_private.specs.Standing as private
 use Rattle.zf_private.specs.Standing.{Own, IsSameView, IsWhole}
 use Rattle.zf_private.proofs.Alike.{stay-acted, quiet-acted, alike-acted, alike-answered}
@@ -44,12 +45,7 @@ use Rattle.zf_commands.proofs.Stepping.{accepted}
 -- ---- which blocks a view owns
 
 own-or-not : {X : Type 0} (v : private.Held X) (b : ℕ) → Own v b ⊎ (Own v b → ⊥)
-own-or-not v b = by (cases_lt b v.first) (cases_lt b (v.first + v.count))
-  where
-    by : (b < v.first) ⊎ (v.first ≤ b) → (b < v.first + v.count) ⊎ (v.first + v.count ≤ b) → Own v b ⊎ (Own v b → ⊥)
-    by (inl lt) k = inr (λ o. omega (arith, lt, o.0))
-    by (inr ge) (inl lt) = inl (ge, lt)
-    by (inr ge) (inr past) = inr (λ o. omega (arith, past, o.1))
+own-or-not v b = search (rules, cases_lt)
 
 owned-true : {X : Type 0} (v : private.Held X) (b : ℕ) → Own v b → owns_block v b ≡ true
 owned-true v b o = and_from (leb v.first b) (ltb b (v.first + v.count)) (le-leb v.first b o.0) (lt-ltb b (v.first + v.count) o.1)
@@ -58,11 +54,7 @@ true-owned : {X : Type 0} (v : private.Held X) (b : ℕ) → owns_block v b ≡ 
 true-owned v b e = let parts = and_parts (leb v.first b) (ltb b (v.first + v.count)) e in (leb-true v.first b parts.0, ltb-true b (v.first + v.count) parts.1)
 
 owned-false : {X : Type 0} (v : private.Held X) (b : ℕ) → (Own v b → ⊥) → owns_block v b ≡ false
-owned-false v b not = by (owns_block v b) refl
-  where
-    by : (t : Bool) → owns_block v b ≡ t → t ≡ false
-    by true e = absurd (not (true-owned v b e))
-    by false e = refl
+owned-false v b not = search (rules, true-owned)
 
 pub same_owned : {X : Type 0} (v n : private.Held X) → IsSameView v n → (b : ℕ) → owns_block n b ≡ owns_block v b
 same_owned v n kept b = λ i. leb (kept.first i) b && ltb b (kept.first i + kept.count i)
@@ -78,14 +70,7 @@ module _ {X : Type 0} (value : X → ℤ) where
   -- its state over the codes is that of the language in the blocks of its own
   seen_alike : (a : Held) (v : private.Held X) → AreAlike (Own v) (with_codes (view_of value a v) (state a).codes) (view_state value a v)
   unfolding state_at
-  seen_alike a v = record {
-    lines = refl;
-    held = refl;
-    dirty = refl;
-    counts = refl;
-    values = λ b own. ap (λ t. if t then (view_state value a v).values b else []) (owned-true v b own);
-    codes = λ b own. refl;
-  }
+  seen_alike a v = search (rules, owned-true)
 
   seen_own : (d : ℕ) (a : Held) (v : private.Held X) → IsWhole d v → HasOwn (Own v) (with_codes (view_of value a v) (state a).codes)
   seen_own d a v whole = let own = own_state value d v (format a) (state a).codes whole in record { held = own.held; dirty = own.dirty }
@@ -97,20 +82,7 @@ module _ {X : Type 0} (value : X → ℤ) where
   -- of two arrays with the same codes of its blocks a view is the same
   seen_same : (d : ℕ) (a b : Held) (o : private.Held X) → IsWhole d o → format b ≡ format a → ((k : ℕ) → Own o k → (state b).codes k ≡ (state a).codes k) → view_of value b o ≡ view_of value a o
   unfolding state_at
-  seen_same d a b o whole same codes =
-      let alike = other_codes_alike value d o (format a) (format b) (state a).codes (state b).codes whole same codes in
-      λ i. record {
-        lines = (view_state value a o).lines;
-        held = (view_state value a o).held;
-        dirty = (view_state value a o).dirty;
-        values = fun_ext (λ k. at_block alike k (own-or-not o k)) i;
-        counts = (view_state value a o).counts;
-      }
-    where
-      at_block : AreAlike (Own o) (view_state value a o) (view_state value b o) → (k : ℕ) → Own o k ⊎ (Own o k → ⊥) → (view_of value b o).values k ≡ (view_of value a o).values k
-      at_block alike k (inl own) = ap (λ vs. if owns_block o k then vs else []) (sym (alike.values k own))
-      at_block alike k (inr not) =
-          ap (λ t. if t then (view_state value b o).values k else []) (owned-false o k not) ∙ sym (ap (λ t. if t then (view_state value a o).values k else []) (owned-false o k not))
+  seen_same d a b o whole same codes = search (rules, other_codes_alike, fun_ext, own-or-not, owned-false)
 
 -- ---- a call of view i: the act
 
@@ -254,12 +226,7 @@ module _ {X : Type 0} (value : X → ℤ) (w : Width) (d : ℕ) (a b : Held) (vi
       part_at : (k : ℕ) (o : private.Held X) → k < length views → o ≡ get_or (set views i n) k o → (k ≡ i) ⊎ (k ≡ i → ⊥) → IsPart value d b (length views) k o
       part_at k o below there (inl e) =
           let is : o ≡ n = there ∙ ap (λ m. get_or (set views i n) m o) e ∙ get_or-set_same views i n o lt in
-          subst (λ (x : private.Held X). IsPart value d b (length views) k x) (sym is) (subst (λ m. IsPart value d b (length views) m n) (sym e) (record {
-            ready = ready_after value d f (format b) (state a).codes (state b).codes formats v n part.ready kept whole fits;
-            shape_is = kept.shape ∙ part.shape_is ∙ sym same_shape;
-            first = kept.first ∙ part.first ∙ ap (λ m. first_of (blocks m) (length views) i) (sym same_shape);
-            count = kept.count ∙ part.count ∙ ap (λ m. count_of (blocks m) (length views) i) (sym same_shape);
-          }))
+          subst (λ (x : private.Held X). IsPart value d b (length views) k x) (sym is) (subst (λ m. IsPart value d b (length views) m n) (sym e) (search (rules, ready_after, formats)))
       part_at k o below there (inr ne) =
           let here : o ≡ get_or views k o = there ∙ get_or-set_other views i k n o ne in
           let p : IsPart value d a (length views) k o = parts.each k o below here in record {
@@ -276,11 +243,7 @@ module _ {X : Type 0} (value : X → ℤ) (w : Width) (d : ℕ) (a b : Held) (vi
 
 -- a position outside
 pub not_inside : (ns : List ℕ) (p : Pos) → p ≡ with_unused 0 (used_axes (length ns) p) → (IsPosition ns p → ⊥) → is_inside ns (used_axes (length ns) p) ≡ false
-not_inside ns p unused away = by (is_inside ns (used_axes (length ns) p)) refl
-  where
-    by : (t : Bool) → is_inside ns (used_axes (length ns) p) ≡ t → t ≡ false
-    by true e = absurd (away (record { inside = e; unused = unused }))
-    by false e = refl
+not_inside ns p unused away = search rules
 
 module _ {X : Type 0} (value : X → ℤ) (a : Held) (views : List (private.Held X)) (i : ℕ) (ps : List ℕ) where
   abbrev owner : Bool
@@ -300,9 +263,7 @@ module _ {X : Type 0} (value : X → ℤ) (a : Held) (views : List (private.Held
     owner_is k = let part = parts.each i v lt at in is_owner_is (blocks (shape a)) (length views) i v (omega (arith, lt)) part.first part.count k
 
     pub block_is_none : (u : Window) → (Own v (block_number (shape a) ps) → ⊥) → view_has (split_session value a views u) i ps ≡ false
-    block_is_none u not =
-        has_is u ∙ ap (λ t. ltb i (length views) && (is_inside (shape a) ps && t)) (owner_is (block_number (shape a) ps) ∙ owned-false v (block_number (shape a) ps) not)
-        ∙ ap (λ t. ltb i (length views) && t) (and-false (is_inside (shape a) ps)) ∙ and-false (ltb i (length views))
+    block_is_none u not = search (rules, has_is, owner_is, owned-false, and-false)
 
     pub view_is_owner : (u : Window) → is_inside (shape a) ps ≡ true → Own v (block_number (shape a) ps) → view_has (split_session value a views u) i ps ≡ true
     view_is_owner u inside own =
@@ -321,9 +282,7 @@ module _ {X : Type 0} (value : X → ℤ) (a : Held) (views : List (private.Held
 
   -- what is told of one that has it
   pub has_inside : (u : Window) → view_has (split_session value a views u) i ps ≡ true → is_inside (shape a) ps ≡ true
-  has_inside u has =
-      let more = and_parts (ltb i (length views)) (is_inside (shape a) ps && owner) (sym (has_is u) ∙ has) in
-      (and_parts (is_inside (shape a) ps) owner more.1).0
+  has_inside u has = search (rules, and_parts, has_is)
 
 -- a number of a view that there is, or is not
 pub has_view_is : {X : Type 0} (value : X → ℤ) (a : Held) (views : List (private.Held X)) (i : ℕ) (u : Window) → i < length views → has_view (split_session value a views u) i ≡ true

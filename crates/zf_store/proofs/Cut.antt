@@ -1,5 +1,5 @@
 -- Codes of one length, cut from bits one after another.
-use Rattle.std.proofs.Common.{◌≡◌, ◌⊎◌, sym, ap, ◌∙◌, ℕ, suc, ◌+◌, ◌-◌, ◌*◌, ◌<◌, ◌≤◌, Bool, false, List, ◌++◌, map, length, get_or, take, drop, replicate, append_assoc, length-append, length-drop, inl, inr, arith, suc-mul}
+use Rattle.std.proofs.Common.{◌≡◌, ◌⊎◌, sym, ap, ◌∙◌, ℕ, suc, ◌+◌, ◌-◌, ◌*◌, ◌<◌, ◌≤◌, Bool, false, List, ◌++◌, map, length, get_or, take, drop, replicate, append_assoc, length-append, length-drop, inl, inr, arith, suc-mul, rules}
 use Rattle.std.specs.Int.{div_ceil}
 use Rattle.std.specs.List.{flat_map}
 use Rattle.std.proofs.Math.Path.{fun_ext}
@@ -27,9 +27,7 @@ before_change i n j s t fits within =
     let long : length (take j s) ≡ j = length-take-le j s within in
     let sum : j ≡ i + (j - i) = omega arith in
     let inner : drop i (take j s) ≡ take (j - i) (drop i s) = ap (λ k. drop i (take k s)) sum ∙ drop-take i (j - i) s in
-    ap (take n) (drop-append-le i (take j s) t (omega arith))
-    ∙ take-append-le n (drop i (take j s)) t (omega (arith, length-drop i (take j s)))
-    ∙ ap (take n) inner ∙ take-take n (j - i) (drop i s) (omega arith)
+    search (rules, drop-append-le, take-append-le, length-drop, take-take)
 
 -- the bits from bit i on, all behind a change from bit j on
 pub behind_change : (i j n : ℕ) (s c : List Bool) → j ≤ length s → length c ≡ n → j + n ≤ i → drop i (take j s ++ c ++ drop (j + n) s) ≡ drop i s
@@ -130,9 +128,4 @@ codes_in-zeros budget n count enough =
 
 pub words_are_filled : (words : List ℕ) (all : ℕ) → length words ≡ div_ceil all 64 → drop all (word_bits words) ≡ replicate (64 * length words - all) false
     → word_bits words ≡ with_fill (take all (word_bits words))
-words_are_filled words all size blank =
-    let bits = word_bits words in
-    let n = 64 * length words - all in
-    let long : length (take all bits) ≡ all = length-take-le all bits (omega (arith, length-word_bits words)) in
-    sym (take-append-drop all bits) ∙ ap (λ (bs : List Bool). take all bits ++ bs) blank
-    ∙ sym (filled_only (take all bits) n (omega arith) (omega arith))
+words_are_filled words all size blank = search (rules, length-take-le, length-word_bits, take-append-drop, filled_only)

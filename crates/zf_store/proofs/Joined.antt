@@ -1,5 +1,5 @@
 -- The words of two runs of bits end to end, and their bytes.
-use Rattle.std.proofs.Common.{◌≡◌, refl, sym, ap, ◌∙◌, ◌⊎◌, inl, inr, ℕ, zero, suc, ◌+◌, ◌-◌, ◌*◌, ◌/◌, ◌^◌, ◌<◌, ◌≤◌, min, Bool, false, List, [], ◌∷◌, ◌++◌, length, get_or, take, drop, replicate, append_assoc, append-nil, length-append, length-drop, arith}
+use Rattle.std.proofs.Common.{◌≡◌, refl, sym, ap, ◌∙◌, ◌⊎◌, inl, inr, ℕ, zero, suc, ◌+◌, ◌-◌, ◌*◌, ◌/◌, ◌^◌, ◌<◌, ◌≤◌, min, Bool, false, List, [], ◌∷◌, ◌++◌, length, get_or, take, drop, replicate, append_assoc, append-nil, length-append, length-drop, arith, rules}
 use Rattle.std.specs.Int.{w64, to_le_bytes, from_le_bytes, div_ceil}
 use Rattle.std.proofs.Math.Seq.{drop-append-add, take-append-add}
 use Rattle.std.proofs.lemmas.Bool.{cases_lt}
@@ -82,7 +82,6 @@ module _ (prefix back : List Bool) (at : ℕ) where
       → field 64 x ≡ take 64 (drop at (prefix ++ back) ++ replicate 64 false)
   word_between held n word v x now within is_held is_n narrow is_word is_v is_now is_x =
       let old = field 64 word ++ [] in
-      let size : length old ≡ 64 = omega (arith, length-append (field 64 word) [], length-field 64 word) in
       let rest = drop at prefix in
       let long : length rest ≡ held = omega (arith, length-drop at prefix) in
       let parts : n + held ≡ 64 = omega arith in
@@ -148,14 +147,10 @@ bytes_more bs i j x now new within small is_j held is_x is_now is_new =
     let sum : 8 * j ≡ 8 * i + 8 = omega arith in
     let eight : 8 * (8 * i) ≡ 64 * i = omega arith in
     let word : bytes_from 8 (field 64 x) ≡ bytes_from 8 (drop (64 * i) filled) = ap (bytes_from 8) (filled_word bs i x within is_x) ∙ bytes_from-prefix 8 (drop (64 * i) filled) in
-    ap (take (8 * j)) is_new ∙ take_at prefix (drop (8 * i + 8) now) (8 * j) size
-    ∙ ap (λ (cs : List ℕ). cs ++ to_le_bytes w64 x) is_now ∙ ap (λ (cs : List ℕ). bytes_from (8 * i) filled ++ cs) (bytes ∙ word)
-    ∙ sym (ap (λ k. bytes_from k filled) sum ∙ bytes_from-add (8 * i) 8 filled ∙ ap (λ k. bytes_from (8 * i) filled ++ bytes_from 8 (drop k filled)) eight)
+    search (rules, take_at, bytes_from-add)
 
 pub bytes_all : (bs : List Bool) (i : ℕ) (out : List ℕ) → length out ≡ 8 * div_ceil (length bs) 64 → length out ≤ 8 * i → i ≤ length out / 8 → take (8 * i) out ≡ bytes_from (8 * i) (with_fill bs) → out ≡ to_bytes (with_fill bs)
-bytes_all bs i out size all last is =
-    let count : 8 * i ≡ length (with_fill bs) / 8 = omega (arith, length-append bs (replicate (fill_len (length bs)) false), length-replicate (fill_len (length bs)) false) in
-    sym (take_all (8 * i) out all) ∙ is ∙ ap (λ k. bytes_from k (with_fill bs)) count
+bytes_all bs i out size all last is = search (rules, length-append, length-replicate, take_all)
 
 -- the word of 8 bytes
 pub word_of_bytes : (bytes : List ℕ) (at : ℕ) → at + 8 ≤ length bytes → ((i : ℕ) → get_or bytes i 0 < 256) → field 64 (from_le_bytes w64 (take 8 (drop at bytes))) ≡ take 64 (drop (8 * at) (to_bits bytes))
@@ -177,7 +172,6 @@ pub fill_of_word : (bytes : List ℕ) (used whole fill word x : ℕ) → whole �
 fill_of_word bytes used whole fill word x is_whole some within is_fill is_word is_x =
     let bits = to_bits bytes in
     let at = 8 * (whole - 8) in
-    let narrow : fill ≤ 64 = omega arith in
     let parts : 64 ≡ 64 - fill + fill = omega arith in
     let place : at + (64 - fill) ≡ used = omega arith in
     let same : fill ≡ fill_len used = omega arith in

@@ -1,5 +1,5 @@
 -- What follows from what holds of the fields of a store.
-use Rattle.std.proofs.Common.{◌≡◌, refl, sym, ap, subst, ◌∙◌, ℕ, ◌+◌, ◌-◌, ◌*◌, ◌^◌, ◌<◌, ◌≤◌, Bool, false, ℤ, List, [], ◌++◌, length, take, drop, replicate, length-drop, arith}
+use Rattle.std.proofs.Common.{◌≡◌, refl, sym, ap, ◌∙◌, ℕ, ◌+◌, ◌-◌, ◌*◌, ◌^◌, ◌<◌, ◌≤◌, Bool, false, ℤ, List, [], ◌++◌, length, take, drop, replicate, length-drop, arith, rules}
 use Rattle.std.specs.List.{flat_map}
 use Rattle.std.specs.Int.{Width}
 use Rattle.std.proofs.lemmas.List.{length-take-le, take_at, drop_at, drop-replicate}
@@ -8,14 +8,13 @@ use Rattle.zf_spec.specs.Codes.{existing_values, read_rate, rate}
 use Rattle.zf_spec.specs.Numbers.{word_bits}
 use Rattle.zf_spec.specs.Stream.{file, to_bytes, with_fill}
 use Rattle.zf_spec.proofs.WordBits.{length-word_bits}
-use Rattle.zf_base.specs.Widths.{width_of}
 use Rattle.zf_base.specs.Formats.{existing_of, meant, encoded, with_at}
 use Rattle.zf_base.proofs.Extents.{length-extent_of}
 use Rattle.zf_bits.specs.Writer.{Writer}
 use Rattle.zf_bits.proofs.Packed.{flat_map-field-replicate}
 use Rattle.zf_header.specs.declared.header.Header.{Header}
 use Rattle.zf_header.specs.HeaderBits.{block_bits, header_bits}
-use Rattle.zf_cached.specs.Arrays.{rate_coding, array_format}
+use Rattle.zf_cached.specs.Arrays.{array_format}
 use Rattle.zf_cached.proofs.Arrays.{existing_of-array, meant-rate, encoded-rate}
 use Rattle.zf_header.proofs.Parts.{length-header_bits_le}
 use Rattle.zf_store.proofs.Opened.{all_bits_most}
@@ -35,9 +34,7 @@ block_len_is s = refl
 
 -- a block of a store with this header, and a line of its size
 pub below_blocks : (s : Stored) (h : Header) (codes : List (List Bool)) (b : ℕ) → record { header = h; codes = codes } ≡ s → b < (format_of s).blocks → b < blocks h.shape
-below_blocks s h codes b same below =
-    let count : (format_of s).blocks ≡ blocks h.shape = blocks_is s ∙ sym (ap (λ (t : Stored). blocks t.header.shape) same) in
-    subst (λ n. b < n) count below
+below_blocks s h codes b same below = search (rules, blocks_is)
 
 pub line_size : (s : Stored) (h : Header) (codes : List (List Bool)) (d n : ℕ) → record { header = h; codes = codes } ≡ s → length h.shape ≡ d → n ≡ (format_of s).block_len → n ≡ 4 ^ d
 line_size s h codes d n same dims is =
@@ -56,14 +53,7 @@ module _ (w : Width) (d : ℕ) (h : Header) (words : List ℕ) (room : ℕ) (cod
   bits_within = omega (arith, kept.size, length-word_bits words)
 
   pub store_whole : IsStore w d (with_codes h (word_bits words))
-  store_whole = record {
-    same_type = kept.same_type;
-    dims = kept.dims;
-    shape = kept.shape;
-    rate = kept.rate;
-    count = length-codes_in (block_bits h.mode) (blocks h.shape) (word_bits words);
-    bits = λ b below. ap length (get_or-codes_in (block_bits h.mode) (blocks h.shape) (word_bits words) b below) ∙ length-cut (block_bits h.mode) (blocks h.shape) b (word_bits words) bits_within below;
-  }
+  store_whole = search (rules, length-codes_in, get_or-codes_in, length-cut, bits_within)
 
   pub words_are : word_bits words ≡ with_fill (flat_map (λ c. c) (codes_in (block_bits h.mode) (blocks h.shape) (word_bits words)))
   words_are = words_are_filled words (all_bits h) kept.size kept.blank ∙ ap with_fill (sym (joined-codes_in (block_bits h.mode) (blocks h.shape) (word_bits words)))
@@ -71,11 +61,7 @@ module _ (w : Width) (d : ℕ) (h : Header) (words : List ℕ) (room : ℕ) (cod
   -- the bytes of the header and the codes are the file
   pub file_is : (prefix : List Bool) (n m : ℕ) → prefix ≡ with_fill head.bits → n ≡ length head.bits → m ≡ all_bits h → to_bytes (with_fill (take n prefix ++ take m (word_bits words))) ≡ file_of (with_codes h (word_bits words))
   unfolding file header_bits
-  file_is prefix n m is_prefix is_n is_m =
-      let first : take n prefix ≡ header_bits h = ap (take n) is_prefix ∙ take_at head.bits _ n (sym is_n) ∙ kept.head_is in
-      ap (λ (bs : List Bool). to_bytes (with_fill (bs ++ take m (word_bits words)))) first
-      ∙ ap (λ k. to_bytes (with_fill (header_bits h ++ take k (word_bits words)))) is_m
-      ∙ ap (λ (bs : List Bool). to_bytes (with_fill (header_bits h ++ bs))) (sym (joined-codes_in (block_bits h.mode) (blocks h.shape) (word_bits words)))
+  file_is prefix n m is_prefix is_n is_m = search (rules, take_at, joined-codes_in)
 
   pub bits_most : length head.bits + all_bits h < 2 ^ 50
   bits_most = omega (arith, ap length kept.head_is, length-header_bits_le h kept.shape, all_bits_most h kept.shape kept.rate)
@@ -93,31 +79,17 @@ module _ (w : Width) (d : ℕ) (h : Header) (words : List ℕ) (room : ℕ) (cod
     pub read_is_meant : (s : List Bool) (block : List ℤ) → s ≡ code_at (with_codes h (word_bits words)) b
         → ((es : List ℕ) → length es ≡ d → read_rate w es s ≡ existing_values es block)
         → existing_of (format_of (with_codes h (word_bits words))) b block ≡ meant (format_of (with_codes h (word_bits words))) b (code_at (with_codes h (word_bits words)) b)
-    read_is_meant s block is reads =
-        let es = extent_of h.shape b in
-        let coding = rate_coding (width_of h.ty) (block_bits h.mode) in
-        existing_of-array coding h.shape b block ∙ sym (reads es (length-extent_of h.shape b ∙ kept.dims))
-        ∙ ap (λ v. read_rate v es s) kept.same_type ∙ ap (read_rate (width_of h.ty) es) is
-        ∙ sym (meant-rate (width_of h.ty) (block_bits h.mode) h.shape b (code_at (with_codes h (word_bits words)) b))
+    read_is_meant s block is reads = search (rules, existing_of-array, length-extent_of, meant-rate)
 
     -- the code of values is that of the format
     pub code_is_encoded : (es : List ℕ) (values : List ℤ) → es ≡ extent_of h.shape b → rate w (block_bits h.mode) es values ≡ encoded (format_of (with_codes h (word_bits words))) b values
-    code_is_encoded es values is =
-        ap (λ v. rate v (block_bits h.mode) es values) kept.same_type ∙ ap (λ fs. rate (width_of h.ty) (block_bits h.mode) fs values) is
-        ∙ sym (encoded-rate (width_of h.ty) (block_bits h.mode) h.shape b values below)
+    code_is_encoded es values is = search (rules, encoded-rate)
 
     -- the words with a code that was written by itself and then put
     pub put_is : (old fresh written : List ℕ) (at len : ℕ) (bits empty c : List Bool) → old ≡ words → at ≡ b * block_bits h.mode → len ≡ block_bits h.mode → word_bits written ≡ with_fill bits
         → bits ≡ empty ++ c → empty ≡ [] → length c ≡ block_bits h.mode → word_bits fresh ≡ take at (word_bits old) ++ take len (word_bits written) ++ drop (at + len) (word_bits old)
         → word_bits fresh ≡ take (b * block_bits h.mode) (word_bits words) ++ c ++ drop (b * block_bits h.mode + block_bits h.mode) (word_bits words)
-    put_is old fresh written at len bits empty c is_old is_at is_len is_written is_bits is_empty long put =
-        let all : bits ≡ c = is_bits ∙ ap (λ (bs : List Bool). bs ++ c) is_empty in
-        let run : take len (word_bits written) ≡ c =
-        ap (take len) (is_written ∙ ap with_fill all) ∙ take_at c _ len (long ∙ sym is_len) in
-        put ∙ ap (λ (bs : List Bool). take at (word_bits old) ++ bs ++ drop (at + len) (word_bits old)) run
-        ∙ ap (λ (ws : List ℕ). take at (word_bits ws) ++ c ++ drop (at + len) (word_bits ws)) is_old
-        ∙ ap (λ k. take k (word_bits words) ++ c ++ drop (k + len) (word_bits words)) is_at
-        ∙ ap (λ k. take (b * block_bits h.mode) (word_bits words) ++ c ++ drop (b * block_bits h.mode + k) (word_bits words)) is_len
+    put_is old fresh written at len bits empty c is_old is_at is_len is_written is_bits is_empty long put = search (rules, take_at)
 
     -- a code is put
     module _ (c : List Bool) (new : List ℕ) (long : length c ≡ block_bits h.mode) (size : length new ≡ length words)
@@ -126,18 +98,4 @@ module _ (w : Width) (d : ℕ) (h : Header) (words : List ℕ) (room : ℕ) (cod
       codes_put = codes_in-put (block_bits h.mode) (blocks h.shape) b (word_bits words) (word_bits new) c bits_within below long put
 
       pub kept_put : (room' : ℕ) (code' : Writer) → room' ≡ d → length code'.bits ≡ block_bits h.mode → IsKept w d h new room' code' head
-      kept_put room' code' is_room is_code =
-          let within : b * block_bits h.mode ≤ length (word_bits words) = omega (arith, bits_within, ends_within (block_bits h.mode) (blocks h.shape) b below) in
-          record {
-            same_type = kept.same_type;
-            dims = kept.dims;
-            shape = kept.shape;
-            rate = kept.rate;
-            size = size ∙ kept.size;
-            blank = ap (drop (all_bits h)) put
-                ∙ behind_change (all_bits h) (b * block_bits h.mode) (block_bits h.mode) (word_bits words) c within long (ends_within (block_bits h.mode) (blocks h.shape) b below)
-                ∙ kept.blank ∙ ap (λ n. replicate (64 * n - all_bits h) false) (sym size);
-            room_is = is_room;
-            code_fits = omega arith;
-            head_is = kept.head_is;
-          }
+      kept_put room' code' is_room is_code = search (rules, bits_within, ends_within, behind_change)

@@ -1,5 +1,5 @@
 -- What a file of a rate says, and why it says nothing.
-use Rattle.std.proofs.Common.{◌≡◌, ◌≢◌, ◌⊎◌, inl, inr, refl, sym, ap, subst, ◌∙◌, ℕ, ◌+◌, ◌-◌, ◌*◌, ◌/◌, ◌^◌, ◌<◌, ◌≤◌, min, Bool, false, ℤ, List, ◌++◌, map, length, take, drop, replicate, All, Ok, Err, append_assoc, length-append, length-drop, arith}
+use Rattle.std.proofs.Common.{◌≡◌, ◌≢◌, ◌⊎◌, inl, inr, refl, sym, ap, subst, ◌∙◌, ℕ, ◌+◌, ◌-◌, ◌*◌, ◌/◌, ◌^◌, ◌<◌, ◌≤◌, min, Bool, false, List, ◌++◌, map, length, take, drop, replicate, All, Err, append_assoc, length-append, length-drop, arith, rules}
 use Rattle.std.specs.Int.{div_ceil}
 use Rattle.std.proofs.Math.Nat.{div-lt_iff_lt-mul, le-div_iff_mul-le, mul-le-mul}
 use Rattle.std.proofs.lemmas.Bool.{cases_lt}
@@ -16,8 +16,6 @@ use Rattle.zf_base.specs.Widths.{width_of}
 use Rattle.zf_base.proofs.Sizes.{blocks_le}
 use Rattle.zf_base.specs.Formats.{meant}
 use Rattle.zf_header.specs.declared.header.Header.{Header}
-use Rattle.zf_header.specs.declared.header.Mode.{Mode}
-use Rattle.zf_header.specs.declared.header.Mode.TheVariants.{Reversible, Rate, Precision}
 use Rattle.zf_header.specs.HeaderBits.{IsRate, IsHeader, BeginsWith, block_bits, header_bits, rate_bytes_of}
 use Rattle.zf_header.proofs.Good.{good}
 use Rattle.zf_header.proofs.Modes.{mode_is_rate, rate_is_some}
@@ -31,16 +29,14 @@ use Rattle.zf_parse.proofs.RateStreams.{code_cut, end_to_end-cut, length-cut, re
 use Rattle.zf_cached.proofs.Arrays.{meant-rate}
 use Rattle.zf_store.specs.Stored.{code_at, format_of}
 use Rattle.zf_store.specs.Files.{HasHeader, IsOpened, values_of}
-use Rattle.zf_store.specs.Words.{codes_in, with_codes, all_bits, IsWholeFile}
+use Rattle.zf_store.specs.Words.{with_codes, all_bits, IsWholeFile}
 use Rattle.zf_store.proofs.Cut.{codes_in-prefix, get_or-codes_in, joined-codes_in, length-codes_in}
 
 -- ---- headers with a rate
 
 -- all codes have at most 2^42 bits
 pub all_bits_most : (h : Header) → IsShape h.shape → IsRate h.mode → all_bits h ≤ 2 ^ 42
-all_bits_most h is rate =
-    let most : blocks h.shape ≤ 2 ^ 27 = omega (arith, blocks_le h.shape is.not_zero, is.not_too_large) in
-    omega (arith, mul-le-mul most (rate_is_some h.mode rate).1)
+all_bits_most h is rate = search (rules, blocks_le, mul-le-mul, rate_is_some)
 
 module _ (bytes : List ℕ) (h : Header) (has : HasHeader bytes h) where
   pub is_header : IsHeader h
@@ -114,11 +110,7 @@ module _ (bytes : List ℕ) (h : Header) (has : HasHeader bytes h) where
         (λ none. one (sym same_number ∙ none))
 
     pub parse_more : rate_bytes_of h < length bytes → fill_number ≡ 0 → parse bytes ≡ Err Trailing
-    parse_more more none =
-        parse_trailing bytes h (length (header_bits h)) (block_bits h.mode) begun (mode_is_rate h.mode has.rate) in_bits
-        (omega (arith, length-behind, whole_bits, more))
-        (omega (arith, length-drop (blocks h.shape * block_bits h.mode) (drop (length (header_bits h)) (to_bits bytes)), length-behind, whole_bits, more))
-        (same_number ∙ none)
+    parse_more more none = search (rules, parse_trailing, begun, mode_is_rate, in_bits, length-behind, whole_bits, length-drop, same_number)
 
     pub whole_file : rate_bytes_of h ≡ length bytes → fill_number ≡ 0 → IsWholeFile bytes h
     whole_file all none =
@@ -155,16 +147,7 @@ module _ (bytes : List ℕ) (h : Header) (has : HasHeader bytes h) where
   moved_codes whole moved old items rest held count len all n is_items is_held is_count is_len is_all is_old is_moved is_n =
       let bits = to_bits bytes in
       let prefix : take held (moved ++ rest) ≡ moved = take_at moved rest held is_held in
-      let within : length (header_bits h) + blocks h.shape * block_bits h.mode ≤ length bits = omega (arith, enough_bits whole, length-behind, header_within, length-to_bits bytes) in
-      let run : take all (drop len old) ≡ take (all_bits h) (drop (length (header_bits h)) bits) =
-      ap (λ k. take k (drop len old)) is_all ∙ ap (λ k. take (all_bits h) (drop k old)) is_len
-      ∙ ap (λ (bs : List Bool). take (all_bits h) (drop (length (header_bits h)) bs)) is_old
-      ∙ ap (take (all_bits h)) (drop-append-le (length (header_bits h)) bits _ (omega arith))
-      ∙ take-append-le (all_bits h) (drop (length (header_bits h)) bits) _ (omega (arith, length-drop (length (header_bits h)) bits)) in
-      let pad : 64 * div_ceil all 64 - all ≡ 64 * n - all_bits h = omega arith in
-      ap word_bits (is_items ∙ ap (take count) prefix) ∙ sym (take-words 64 count moved) ∙ ap (λ k. take (64 * k) (word_bits moved)) is_count ∙ is_moved
-      ∙ ap (λ (bs : List Bool). bs ++ replicate (64 * div_ceil all 64 - all) false) run
-      ∙ ap (λ k. take (all_bits h) (drop (length (header_bits h)) bits) ++ replicate k false) pad
+      search (rules, enough_bits, length-behind, header_within, length-to_bits, drop-append-le, take-append-le, length-drop, take-words)
 
   module _ (whole : IsWholeFile bytes h) (small : All (λ b. b < 256) bytes) where
     file_is : to_bytes (with_fill (header_bits h ++ take (blocks h.shape * block_bits h.mode) (drop (length (header_bits h)) (to_bits bytes)))) ≡ bytes
@@ -178,7 +161,6 @@ module _ (bytes : List ℕ) (h : Header) (has : HasHeader bytes h) where
     opened_bits =
         let hb = header_bits h in
         let s = drop (length hb) (to_bits bytes) in
-        let m = blocks h.shape * block_bits h.mode in
         let w = width_of h.ty in
         let back = λ (b : ℕ). read_rate w (extent_of h.shape b) (code_cut (block_bits h.mode) s b) in
         let reads : (b : ℕ) → b < blocks h.shape → ReadsBack h (code_cut (block_bits h.mode) s) back b =
@@ -190,19 +172,7 @@ module _ (bytes : List ℕ) (h : Header) (has : HasHeader bytes h) where
         let meant_is : (b : ℕ) → b < blocks h.shape → back b ≡ meant (format_of store) b (code_at store b) =
         λ b below. sym (meant-rate w (block_bits h.mode) h.shape b (code_at store b) ∙ ap (read_rate w (extent_of h.shape b)) (get_or-codes_in (block_bits h.mode) (blocks h.shape) s b below)) in
         let values : values_of_blocks h.shape (map back (upto (blocks h.shape))) ≡ values_of store =
-        ap (values_of_blocks h.shape) (map-upto_same back (λ b. meant (format_of store) b (code_at store b)) (blocks h.shape) meant_is) in
-        record {
-          header = refl;
-          count = length-codes_in (block_bits h.mode) (blocks h.shape) s;
-          size = whole.size;
-          said_is = sym (ap parse joined) ∙ parsed.1 ∙ ap (λ (vs : List ℤ). Ok (record { header = h; codes = codes_in (block_bits h.mode) (blocks h.shape) s; values = vs })) values;
-          file = ap (λ (cs : List Bool). to_bytes (with_fill (hb ++ cs))) (joined-codes_in (block_bits h.mode) (blocks h.shape) s) ∙ file_is;
-        }
+        ap (values_of_blocks h.shape) (map-upto_same back (λ b. meant (format_of store) b (code_at store b)) (blocks h.shape) meant_is) in search (rules, length-codes_in, joined-codes_in, file_is)
 
     pub opened : (bits zeros : List Bool) → bits ≡ take (blocks h.shape * block_bits h.mode) (drop (length (header_bits h)) (to_bits bytes)) ++ zeros → IsOpened bytes h (with_codes h bits)
-    opened bits zeros is =
-        let s = drop (length (header_bits h)) (to_bits bytes) in
-        let m = blocks h.shape * block_bits h.mode in
-        let same : codes_in (block_bits h.mode) (blocks h.shape) s ≡ codes_in (block_bits h.mode) (blocks h.shape) bits =
-        codes_in-prefix (block_bits h.mode) (blocks h.shape) s bits (sym (ap (take m) is ∙ take_at (take m s) zeros m (length-take-le m s enough))) in
-        subst (λ (cs : List (List Bool)). IsOpened bytes h (record { header = h; codes = cs })) same opened_bits
+    opened bits zeros is = search (rules, codes_in-prefix, take_at, length-take-le, enough, opened_bits)

@@ -1,5 +1,5 @@
 -- Runs of bits that move between words, a word at a time.
-use Rattle.std.proofs.Common.{◌≡◌, refl, sym, ap, ◌∙◌, ℕ, suc, ◌+◌, ◌-◌, ◌*◌, ◌/◌, ◌^◌, ◌<◌, ◌≤◌, Bool, false, List, ◌++◌, length, get_or, set, take, drop, replicate, append_assoc, append-nil, length-append, length-drop, arith}
+use Rattle.std.proofs.Common.{◌≡◌, refl, sym, ap, ◌∙◌, ℕ, suc, ◌+◌, ◌-◌, ◌*◌, ◌/◌, ◌^◌, ◌<◌, ◌≤◌, Bool, false, List, ◌++◌, length, get_or, set, take, drop, replicate, append_assoc, append-nil, length-append, length-drop, arith, rules}
 use Rattle.std.proofs.Math.Nat.{div-eq_of_lt}
 use Rattle.std.proofs.Math.Seq.{take-add, drop-append-add}
 use Rattle.std.proofs.lemmas.List.{length-take-le, take-append-drop, take_at, take-append-le, drop_at, drop-drop}
@@ -15,7 +15,6 @@ use Rattle.zf_bits.proofs.Words.{words-set, words_here}
 pub bits_of_word : (words : List ℕ) (i n : ℕ) → i < length words → n ≤ 64 → field n (get_or words i 0) ≡ take n (drop (64 * i) (word_bits words))
 bits_of_word words i n within narrow =
     let v = get_or words i 0 in
-    let rest = drop (64 * (i + 1)) (word_bits words) in
     let parts : n + (64 - n) ≡ 64 = omega arith in
     sym (ap (take n) (words_here 64 i words within) ∙ take-append-le n (field 64 v) _ (omega (arith, length-field 64 v))
     ∙ ap (λ k. take n (field k v)) (sym parts) ∙ take-field n (64 - n) v)
@@ -37,9 +36,7 @@ abbrev pub with_run : List Bool → ℕ → List Bool → ℕ → List Bool
 with_run old at code m = take at old ++ take m code ++ drop (at + m) old
 
 pub with_run-none : (old : List Bool) (at : ℕ) (code : List Bool) → with_run old at code 0 ≡ old
-with_run-none old at code =
-    let here : at + 0 ≡ at = omega arith in
-    ap (λ (bs : List Bool). bs ++ drop (at + 0) old) (append-nil (take at old)) ∙ ap (λ k. take at old ++ drop k old) here ∙ take-append-drop at old
+with_run-none old at code = search (rules, append-nil, take-append-drop)
 
 pub with_run-more : (old : List Bool) (at : ℕ) (code : List Bool) (m n next : ℕ) (now new bits : List Bool) → at + m + n ≤ length old → m + n ≤ length code → next ≡ m + n
     → now ≡ with_run old at code m → bits ≡ take n (drop m code) → new ≡ take (at + m) now ++ bits ++ drop (at + m + n) now → new ≡ with_run old at code next
@@ -90,7 +87,6 @@ IsMoved-more old at i n next m j x words is within behind narrow enough is_j is_
     let put : field 64 x ≡ piece ++ replicate (64 - n) false = ap (field 64) (is_x ∙ ap (λ (bs : List Bool). number (take n bs)) source) ∙ field_of_number n piece long narrow in
     let pad : 64 - n ≡ 64 * j - m = omega arith in
     let count : 64 * i + n ≡ m = omega arith in
-    let next_word : 64 * suc i ≡ 64 * j = omega arith in
     record {
       moved = ap (take (64 * j)) (now ∙ parts) ∙ take_at (prefix ++ field 64 x) rest (64 * j) whole
           ∙ ap (λ (bs : List Bool). bs ++ field 64 x) first ∙ ap (λ (bs : List Bool). take (64 * i) (drop at old) ++ bs) put

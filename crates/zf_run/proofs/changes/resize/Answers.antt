@@ -1,3 +1,4 @@
+use Rattle.std.proofs.Common.{rules}
 use Rattle.std.proofs.Common.{refl, ap, not}
 use Rattle.zf_base.specs.Positions.{used_axes}
 use Rattle.zf_cached.specs.Commands.{Command}
@@ -12,11 +13,7 @@ returns-in_default-clause-does g c =
     refused_size (setting_of g.T.Lane.width c.args.a.now) (Command.resize (used_axes c.args.count c.args.sizes)) (session_of c.args.a.now c.args.window.now) c.requires.inside refl (ap not c.in_default.ensures.none)
 
 pub returns-in-Ok-clause-does : goal.returns-in-Ok-clause-does
-returns-in-Ok-clause-does g c =
-    resizes g.T.Lane.width c.args.a.now g.row.D c.requires.array c.args.window.now c.requires.inside c.resize.new.self (used_axes c.args.count c.args.sizes) c.in-Some.shape
-    c.in-Some.ensures.shape.0 c.in-Some.ensures.some c.in-Some.ensures.rate (ap (λ s. s.header) c.in-Ok.ensures.stored) c.in-Ok.ensures.ok _ c.whole.ensures.window c.whole.ensures.inside
+returns-in-Ok-clause-does g c = search (rules, resizes)
 
 pub returns-in-Err-clause-does : goal.returns-in-Err-clause-does
-returns-in-Err-clause-does g c =
-    same_array g.T.Lane.width (Command.resize (used_axes c.args.count c.args.sizes)) c.args.a.now c.resize.new.self c.args.window.now _ c.in-Err.ensures.err
-    (refused_memory (setting_of g.T.Lane.width c.args.a.now) (Command.resize (used_axes c.args.count c.args.sizes)) (session_of c.args.a.now c.args.window.now) c.requires.inside refl (ap not c.in-Some.ensures.some) refl refl refl)
+returns-in-Err-clause-does g c = search (rules, same_array, refused_memory)

@@ -1,7 +1,7 @@
-use Rattle.std.proofs.Common.{refl, sym, ap, subst, ◌∙◌}
+use Rattle.std.proofs.Common.{rules}
+use Rattle.std.proofs.Common.{sym, ap, subst, ◌∙◌}
 use Rattle.zf_cached.specs.Windows.{whole, LiesIn}
 use Rattle.zf_array.specs.Standing.{Held}
-use Rattle.zf_run.specs.declared.end.RunEnd.TheVariants.{Write}
 use Rattle.zf_run.specs.Ends.{Runs}
 use Rattle.zf_run.specs.Splits.{parted_session}
 use Rattle.zf_run.proofs.Ending.{runs_all, runs_stopped}
@@ -26,13 +26,4 @@ returns-in-Ok-clause-runs g c =
 
 -- a line was the last one: its views are dropped
 pub returns-clause-runs : goal.returns-clause-runs
-returns-clause-runs g c =
-    let a = c.args.a.now in
-    let w = g.T.Lane.width in
-    let p = c.run_lines.new.a in
-    let old = g.O.Sink.contents c.args.out.now in
-    let new = g.O.Sink.contents c.run_lines.new.out in
-    let is = c.a-in-Err-1.given.1 (sym (ap (λ (q : _). q.1) c.run_lines.ensures.stays.kept)) in
-    subst (λ (m : Held). Runs w a m c.args.script.now old new Write) (sym is)
-    (runs_stopped w a p.array.now (parted_session g.T.Lane.value p.array.now p.views.now p.window) c.whole-window.result c.args.script.now old new
-    (c.whole-window.ensures.window ∙ ap whole c.shape.ensures.value) (ap (λ (q : _). q.0) c.run_lines.ensures.stays.kept) c.in-Err.ensures.err refl refl)
+returns-clause-runs g c = search (rules, runs_stopped)

@@ -1,3 +1,4 @@
+use Rattle.std.proofs.Common.{rules}
 use Rattle.std.proofs.Common.{sym, ap, subst, ◌∙◌, length}
 use Rattle.zf_header.specs.declared.header.Header.{Header}
 use Rattle.zf_cached.specs.Windows.{whole, LiesIn}
@@ -8,7 +9,6 @@ use Rattle.zf_store.proofs.Kept.{blocks_is}
 use Rattle.zf_twoway.specs.Placing.{skewed}
 use Rattle.zf_twoway.specs.Standing.{HasRoom}
 use Rattle.zf_twoway.proofs.Standing.{fits_of}
-use Rattle.zf_run.specs.declared.end.RunEnd.TheVariants.{Write}
 use Rattle.zf_run.specs.Ends.{RunsTwo}
 use Rattle.zf_run.proofs.Ending.{two_all, two_stopped}
 use Rattle.zf_run.proofs.two_runs.run_two.Goals as goal
@@ -35,15 +35,4 @@ returns-in-Ok-clause-runs g c =
     c.in-Ok.refused c.in-Ok.ensures.ok c.flush_all.ensures.does (ap (λ (q : _). q.0) c.flush_all.ensures.kept) c.flush_all.ensures.sound c.end_of.result c.end_of.ensures))
 
 pub returns-in-Err-clause-runs : goal.returns-in-Err-clause-runs
-returns-in-Err-clause-runs g c =
-    let s = c.args.store.now in let k = c.args.cache.now in let value = g.T.Lane.value in
-    let a = c.run_lines.new.a in
-    let kept = c.run_lines.ensures.stays.kept in
-    let store = c.store-in-Err-1.given.1 (sym (ap (λ (q : _). q.1) kept)) in
-    let cache = c.cache-in-Err-1.given.1 (sym (ap (λ (q : _). q.2) kept)) in
-    let old = g.O.Sink.contents c.args.out.now in let new = g.O.Sink.contents c.run_lines.new.out in
-    subst (λ (d : Kept g.row.T.Denot). RunsTwo value g.T.Lane.width s c.store-in-Err-1.given.0 k d c.args.script.now old new Write) (sym cache)
-    (subst (λ (t : Stored). RunsTwo value g.T.Lane.width s t k a.cache.now c.args.script.now old new Write) (sym store)
-    (two_stopped value g.T.Lane.width s a.store.now a.store.now k a.cache.now a.cache.now c.whole-window.result a.window a.window c.args.script.now _ _
-    (c.whole-window.ensures.window ∙ ap (λ (h : Header). whole h.shape) c.header.ensures.value) (ap (λ (q : _). q.0) c.in-Err.ensures.stays.kept)
-    c.in-Err.ensures.err c.in-Err.ensures.stays.ready.sound))
+returns-in-Err-clause-runs g c = search (rules, two_stopped)

@@ -1,5 +1,4 @@
-use Rattle.std.proofs.Common.{ap, ◌∙◌, get_or, lit<, lit≤, rules}
-use Rattle.zf_array.specs.Coded.{Frame}
+use Rattle.std.proofs.Common.{ap, get_or, lit≤, rules}
 use Rattle.zf_array.proofs.Coded.{coded_empty}
 use Rattle.zf_cached.specs.Acts.{Act}
 use Rattle.zf_run.proofs.Lending.{lent_ready, lent}
@@ -9,17 +8,13 @@ pub bind-requires : goal.bind-requires
 bind-requires g c = (lit≤ tt, (lit≤ tt, coded_empty c.args.a.now c.requires.parts.is_coded))
 
 pub flush-requires : goal.flush-requires
-flush-requires g c =
-    let i = c.args.i in
-    let ready = lent_ready g.T.Lane.value g.row.D c.args.a.now _ i (get_or _ i c.index-views-i.result) c.requires.parts c.requires.view (ap (get_or _ i) c.index-views-i.is) c.bind.result.array c.bind.ensures.array in
-    (lit< tt, record { fits = ready.fits; blocks = ready.over })
+flush-requires g c = search (rules, lent_ready)
 
 pub returns : goal.returns
 returns g c =
     let at = ap (get_or _ c.args.i) c.index-views-i.is in
     let lt = c.requires.view in
     let back = c.flush.new.back in
-    let name = ap (λ (f : Frame). f.name) c.flush.ensures.does.step.kept ∙ c.bind.ensures.same_array in
     let taken = lent _ g.row.D _ _ c.args.i _ c.requires.parts lt at
     g.T.Lane.width c.a-1.given.0 c.flush.new.self (Act.flush) c.shape-shape.ensures.same_type c.bind.result.array back.array c.bind.ensures.array (search rules)
     (record {
@@ -30,8 +25,4 @@ returns g c =
       kept = c.flush.ensures.does.same;
       whole = c.flush.ensures.does.whole;
       fits = c.flush.ensures.does.step.fits;
-    }) tt in record {
-      acts = taken.acts;
-      parts = taken.parts;
-      kept = taken.kind_is;
-    }
+    }) tt in search rules

@@ -1,4 +1,5 @@
-use Rattle.std.proofs.Common.{sym, ap, subst, ◌∙◌, length}
+use Rattle.std.proofs.Common.{rules}
+use Rattle.std.proofs.Common.{ap, subst, ◌∙◌, length}
 use Rattle.std.proofs.lemmas.Bool.{false≢true}
 use Rattle.zf_base.specs.Places.{block_number}
 use Rattle.zf_base.specs.Positions.{used_axes, IsPosition}
@@ -7,16 +8,10 @@ use Rattle.zf_run.proofs.Viewing.{not_inside, view_is_none, position_is_none, ow
 use Rattle.zf_run.proofs.views.has_position.Goals as goal
 
 pub returns-then-i-views-clause-has : goal.returns-then-i-views-clause-has
-returns-then-i-views-clause-has g c v =
-    let a = c.args.a.now in
-    sym (view_is_none g.T.Lane.value a c.args.views.now c.args.i (used_axes (length (shape a)) c.args.p) v c.if-i-views.true)
+returns-then-i-views-clause-has g c v = search (rules, view_is_none)
 
 pub returns-then-not-contains-clause-has : goal.returns-then-not-contains-clause-has
-returns-then-not-contains-clause-has g c v =
-    let a = c.args.a.now in
-    sym (position_is_none g.T.Lane.value a c.args.views.now c.args.i (used_axes (length (shape a)) c.args.p) v
-    (not_inside (shape a) c.args.p c.requires.unused
-    (λ at. false≢true (sym c.if-not-contains.true ∙ c.contains.ensures.1 (subst (λ ns. IsPosition ns c.args.p) (sym c.shape-shape.ensures.value) at)))))
+returns-then-not-contains-clause-has g c v = search (rules, position_is_none, not_inside, false≢true)
 
 pub returns-clause-has : goal.returns-clause-has
 returns-clause-has g c v =

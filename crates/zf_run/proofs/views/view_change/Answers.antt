@@ -1,4 +1,4 @@
-use Rattle.std.proofs.Common.{◌≡◌, ℕ, refl, sym, ap, subst, ◌∙◌, not, Bool, true, false, List, length, get_or, Option, None, ℤ, lit<, lit≤, rules}
+use Rattle.std.proofs.Common.{◌≡◌, ℕ, refl, sym, ap, subst, ◌∙◌, not, Bool, true, false, List, length, get_or, None, ℤ, lit<, lit≤, rules}
 use Rattle.std.specs.Option.{option_map}
 use Rattle.std.specs.Int.{Width, w128}
 use Rattle.std.proofs.lemmas.Int.{to_z-of_z}
@@ -15,7 +15,6 @@ use Rattle.zf_cached.specs.Replies.{Reply}
 use Rattle.zf_private.specs.Standing as private
 use Rattle.zf_private.specs.Standing.{Own}
 use Rattle.zf_array.specs.Standing.{Held, shape}
-use Rattle.zf_array.specs.Coded.{Frame}
 use Rattle.zf_array.proofs.Coded.{coded_empty}
 use Rattle.zf_run.specs.Sessions.{setting_of}
 use Rattle.zf_run.specs.declared.views.Change.{Change}
@@ -96,18 +95,9 @@ returns g c =
     let ps = used_axes (length (shape a)) c.args.p in
     let is = c.in-Some.ensures.value ∙ to_z-of_z w128 c.args.v c.ranges.v in
     let back = c.change_value.new.back in
-    let name = ap (λ (f : Frame). f.name) c.change_value.ensures.does.step.kept ∙ c.bind.ensures.same_array in
     let taken = lent value g.row.D a views c.args.i x c.requires.parts lt at
     g.T.Lane.width c.a-1.given.0 c.change_value.new.view (change_act c.args.change (private.block_at x c.args.p) (private.place_at x c.args.p) (value c.in-Some.v)) c.shape-shape.ensures.same_type c.bind.result.array back.array c.bind.ensures.array (search rules)
-    (record {
-      is_coded = back.is_coded;
-      frame = c.change_value.ensures.does.step.kept;
-      step = c.change_value.ensures.does.step.state;
-      others = c.change_value.ensures.does.others;
-      kept = c.change_value.ensures.does.same;
-      whole = c.change_value.ensures.does.whole;
-      fits = c.change_value.ensures.does.step.fits;
-    }) (within c.args.change (Own x) _ _ _ there.own) in
+    (search rules) (within c.args.change (Own x) _ _ _ there.own) in
     let asked = λ (u : Window). asks c.args.change g.T.Lane.width value a views u c.args.i ps c.args.v in record {
       does = λ v lies. taken.takes v (change_cmd c.args.change c.args.i ps c.args.v) None lies (asked v).split (asked v).size ((asked v).range ∙ ap not (there.has v)) ((asked v).value ∙ ap not (subst (λ z. is_of_type g.T.Lane.width z ≡ true) (to_z-of_z w128 c.args.v c.ranges.v) c.in-Some.ensures.some)) (ap (option_map Reply.number) (silent c.args.change _ _ _ _)) refl
           ((asked v).does ∙ ap (by_view (setting_of g.T.Lane.width a) (split_session value a views v) c.args.i)

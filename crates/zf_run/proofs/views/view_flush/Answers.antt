@@ -1,5 +1,5 @@
-use Rattle.std.proofs.Common.{refl, ap, not}
-use Rattle.zf_cached.specs.Commands.{Command}
+use Rattle.std.proofs.Common.{rules}
+use Rattle.std.proofs.Common.{refl}
 use Rattle.zf_run.specs.Sessions.{setting_of}
 use Rattle.zf_run.specs.Splits.{split_session}
 use Rattle.zf_commands.proofs.Stepping.{refused_range}
@@ -7,13 +7,7 @@ use Rattle.zf_run.proofs.Viewing.{has_view_is, has_no_view, flushes_view}
 use Rattle.zf_run.proofs.views.view_flush.Goals as goal
 
 pub returns-then-i-views : goal.returns-then-i-views
-returns-then-i-views g c =
-    let a = c.args.a.now in record {
-      does = λ v lies. refused_range (setting_of g.T.Lane.width a) (Command.pflush c.args.i) (split_session g.T.Lane.value a c.args.views.now v) lies refl refl
-          (ap not (has_no_view g.T.Lane.value a c.args.views.now c.args.i v c.if-i-views.true));
-      parts = c.requires.parts;
-      kept = refl;
-    }
+returns-then-i-views g c = search (rules, refused_range, has_no_view)
 
 pub returns : goal.returns
 returns g c =

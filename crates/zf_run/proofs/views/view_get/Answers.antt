@@ -9,7 +9,6 @@ use Rattle.zf_cached.specs.Steps.{by_view, done}
 use Rattle.zf_cached.specs.Runs.{array_setting}
 use Rattle.zf_private.specs.Standing as private
 use Rattle.zf_array.specs.Standing.{shape}
-use Rattle.zf_array.specs.Coded.{Frame}
 use Rattle.zf_array.proofs.Coded.{coded_empty}
 use Rattle.zf_run.specs.Sessions.{setting_of}
 use Rattle.zf_run.specs.Splits.{split_session}
@@ -50,18 +49,9 @@ returns g c =
     let ps = used_axes (length (shape a)) c.args.p in
     let told = wide g.T.Lane.width g.met.T.Lane.two_widths c.to_wide.result (value c.get-value.result) c.to_wide.ensures.value (g.met.T.Lane.in_range_fits (value c.get-value.result)) c.to_wide.ensures.operand in
     let back = c.get-value.new.back in
-    let name = ap (λ (f : Frame). f.name) c.get-value.ensures.does.step.kept ∙ c.bind.ensures.same_array in
     let taken = lent value g.row.D a _ c.args.i x c.requires.parts lt at
     g.T.Lane.width c.a-1.given.0 c.get-value.new.self (Act.get (private.block_at x c.args.p) (private.place_at x c.args.p)) c.shape-shape.ensures.same_type c.bind.result.array back.array c.bind.ensures.array (search rules)
-    (record {
-      is_coded = back.is_coded;
-      frame = c.get-value.ensures.does.step.kept;
-      step = c.get-value.ensures.does.step.state;
-      others = c.get-value.ensures.does.others;
-      kept = c.get-value.ensures.does.same;
-      whole = c.get-value.ensures.does.whole;
-      fits = c.get-value.ensures.does.step.fits;
-    }) there.own in record {
+    (search rules) there.own in record {
       does = λ v lies. taken.takes v (Command.pget c.args.i ps) (Some (Reply.number _)) lies refl refl (ap not (there.has v)) refl (ap (option_map Reply.number) (sym c.get-value.ensures.value) ∙ ap (λ z. Some (Reply.number z)) (sym told)) refl
           (ap (by_view (setting_of g.T.Lane.width a) (split_session value a _ v) c.args.i) (sym (act_there value g.row.D a _ c.args.i x c.requires.parts lt at c.args.p (λ b q. Act.get b q))));
       parts = taken.parts;

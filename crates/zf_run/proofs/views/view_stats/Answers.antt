@@ -1,3 +1,4 @@
+use Rattle.std.proofs.Common.{rules}
 use Rattle.std.proofs.Common.{refl, sym, ap, ◌∙◌, not, Some}
 use Rattle.zf_cached.specs.State.{Counts}
 use Rattle.zf_cached.specs.Commands.{Command}
@@ -9,10 +10,7 @@ use Rattle.zf_run.proofs.Viewing.{has_view_is, has_no_view, counts_are}
 use Rattle.zf_run.proofs.views.view_stats.Goals as goal
 
 pub returns-then-i-views : goal.returns-then-i-views
-returns-then-i-views g c v lies =
-    let a = c.args.a.now in
-    refused_range (setting_of g.T.Lane.width a) (Command.pstats c.args.i) (split_session g.T.Lane.value a c.args.views.now v) lies refl refl
-    (ap not (has_no_view g.T.Lane.value a c.args.views.now c.args.i v c.if-i-views.true))
+returns-then-i-views g c v lies = search (rules, refused_range, has_no_view)
 
 pub returns : goal.returns
 unfolding done

@@ -1,6 +1,6 @@
 use Rattle.std.proofs.Common.{sym, ap, ◌∙◌, Bool, List}
 use Rattle.zf_cached.specs.State.{State}
-use Rattle.zf_cache.specs.Standing.{state_of, state_at}
+use Rattle.zf_cache.specs.Standing.{state_at}
 use Rattle.zf_array.proofs.Standing.{state_now}
 use Rattle.zf_array.proofs.array.Array.lines.Goals as goal
 

@@ -1,3 +1,4 @@
+use Rattle.std.proofs.Common.{rules}
 use Rattle.std.proofs.Common.{lit≤}
 use Rattle.zf_run.proofs.Looking.{look_touched_is, same_look}
 use Rattle.zf_run.proofs.const_arrays.LookedTarget.value_at.Goals as goal
@@ -6,10 +7,4 @@ pub value_at-requires : goal.value_at-requires
 value_at-requires g c = (lit≤ tt, (c.requires.position, c.requires.at))
 
 pub returns-clause-touched : goal.returns-clause-touched
-returns-clause-touched g c =
-    let a = c.args.self.now.array.now in
-    let told = c.value_at.ensures in record {
-      does = look_touched_is g.T.Lane.width a c.args.self.now.window c.value_at.new.self c.args.b told.state told.header;
-      sound = tt;
-      kept = same_look _ a c.value_at.new.self told.header told.codes;
-    }
+returns-clause-touched g c = search (rules, look_touched_is, same_look)

@@ -1,4 +1,5 @@
-use Rattle.std.proofs.Common.{◌∙◌, sym, ap, subst, Bool, List, replicate, lit<}
+use Rattle.std.proofs.Common.{rules}
+use Rattle.std.proofs.Common.{◌∙◌, sym, ap, subst, Bool, List, replicate}
 use Rattle.zf_base.specs.Formats.{Format, existing_of}
 use Rattle.zf_cached.specs.Touch.{with_values}
 use Rattle.zf_cached.specs.Steps.{changed}
@@ -12,9 +13,7 @@ use Rattle.zf_run.proofs.Pairing.{two_blocks, two_below, format_two, changed_two
 use Rattle.zf_run.proofs.pairs.PairChanging.fill_block.Goals as goal
 
 pub block_mut-requires : goal.block_mut-requires
-block_mut-requires g c =
-    let s = c.args.self.now.store.now in let k = c.args.self.now.cache.now in let value = g.T.Lane.value in let w = g.T.Lane.width in
-    (lit< tt, record { fits = c.requires.sound; blocks = two_blocks w g.row.D s c.header-header.ensures.whole; below = two_below w g.row.D s c.header-header.ensures.whole c.args.b c.requires.block })
+block_mut-requires g c = search (rules, two_blocks, two_below)
 
 pub returns : goal.returns
 returns g c =

@@ -1,4 +1,5 @@
-use Rattle.std.proofs.Common.{◌∙◌, sym, ap, subst, ℤ, pos, ◌+ℤ◌, ◌<◌, Bool, List, get_or, set, lit<}
+use Rattle.std.proofs.Common.{rules}
+use Rattle.std.proofs.Common.{◌∙◌, sym, ap, subst, ℤ, pos, ◌+ℤ◌, ◌<◌, Bool, List, get_or, set}
 use Rattle.zf_spec.specs.Numbers.{wrap}
 use Rattle.zf_base.specs.Formats.{Format}
 use Rattle.zf_cached.specs.Steps.{changed, changed_at}
@@ -11,11 +12,7 @@ use Rattle.zf_run.proofs.Pairing.{two_blocks, block_below, place_below, place_ex
 use Rattle.zf_run.proofs.pairs.PairChanging.increase.Goals as goal
 
 pub block_mut-line-requires : goal.block_mut-line-requires
-block_mut-line-requires g c =
-    let s = c.args.self.now.store.now in let k = c.args.self.now.cache.now in let value = g.T.Lane.value in let w = g.T.Lane.width in
-    let st = c.header.ensures.whole in let at = c.place-b.ensures.at in let b = c.place-b.result.0 in let p = c.place-b.result.1 in
-    let is = c.header.ensures.value in
-    (lit< tt, record { fits = c.requires.sound; blocks = two_blocks w g.row.D s st; below = block_below w g.row.D s st c.header.result is c.args.p b p at })
+block_mut-line-requires g c = search (rules, two_blocks, block_below)
 
 pub returns : goal.returns
 unfolding changed_at

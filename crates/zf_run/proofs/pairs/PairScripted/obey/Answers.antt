@@ -1,3 +1,4 @@
+use Rattle.std.proofs.Common.{rules}
 use Rattle.std.proofs.Common.{refl, true, false, length}
 use Rattle.zf_cached.specs.Kinds.{is_windowless}
 use Rattle.zf_twoway.specs.Runs.{twoway_setting}
@@ -10,14 +11,10 @@ use Rattle.zf_run.specs.Pairs.{pair_session, two_setting_of}
 use Rattle.zf_run.proofs.pairs.PairScripted.obey.Goals as goal
 
 pub read-requires-clause-plain : goal.read-requires-clause-plain
-read-requires-clause-plain g c =
-    let p = c.args.self.now in
-    same_plain (pair_session g.T.Lane.value p.store.now p.cache.now p.window) c.args.cmd (read_cmd c.in-Read.asked) c.in-Read.ensures c.requires.plain
+read-requires-clause-plain g c = search (rules, same_plain)
 
 pub write-requires-clause-plain : goal.write-requires-clause-plain
-write-requires-clause-plain g c =
-    let p = c.args.self.now in
-    same_plain (pair_session g.T.Lane.value p.store.now p.cache.now p.window) c.args.cmd (write_cmd c.in-Write.asked) c.in-Write.ensures c.requires.plain
+write-requires-clause-plain g c = search (rules, same_plain)
 
 pub returns-in-Read-clause-step : goal.returns-in-Read-clause-step
 unfolding twoway_setting

@@ -1,6 +1,7 @@
+use Rattle.std.proofs.Common.{rules}
 use Rattle.std.proofs.Common.{sym, ap, subst, ◌∙◌, ◌<◌, ◌^◌, ℤ, pos, List, get_or, lit<}
 use Rattle.std.proofs.lemmas.Bool.{OnTrue_at}
-use Rattle.zf_store.specs.Stored.{Frame, format_of, code_at}
+use Rattle.zf_store.specs.Stored.{format_of, code_at}
 use Rattle.zf_twoway.proofs.Standing.{values_stand}
 use Rattle.zf_commands.proofs.Wide.{wide}
 use Rattle.zf_run.proofs.Pairing.{two_blocks, two_below, exists_two, touched_two, same_pair}
@@ -12,12 +13,7 @@ get-requires g c =
     (lit< tt, (record { fits = c.requires.sound; blocks = two_blocks w g.row.D s st; below = two_below w g.row.D s st c.args.b at.block_in_array }, subst (λ n. c.args.place < 4 ^ n) st.dims at.place_in_block))
 
 pub returns-clause-touched : goal.returns-clause-touched
-returns-clause-touched g c =
-    let s = c.args.self.now.store.now in let t = c.get.new.back in let head = ap (λ (q : Frame). q.header) c.get.ensures.step.kept in record {
-      does = touched_two g.T.Lane.width s c.header-header.ensures.whole.same_type g.T.Lane.value c.args.self.now.cache.now c.args.self.now.window t c.get.new.self head c.args.b c.get.ensures.step.state;
-      sound = c.get.ensures.step.fits;
-      kept = same_pair _ _ s t head;
-    }
+returns-clause-touched g c = search (rules, touched_two, same_pair)
 
 pub returns-clause-value : goal.returns-clause-value
 returns-clause-value g c =

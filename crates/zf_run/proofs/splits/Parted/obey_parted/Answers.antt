@@ -1,5 +1,5 @@
-use Rattle.std.proofs.Common.{sym, ap, subst, ◌∙◌, false, None, length}
-use Rattle.zf_cached.specs.Kinds.{is_of_split}
+use Rattle.std.proofs.Common.{rules}
+use Rattle.std.proofs.Common.{sym, ap, subst, ◌∙◌, None}
 use Rattle.zf_commands.specs.Kinds.{cmd_of_kind, asked}
 use Rattle.zf_commands.specs.Steps.{Does}
 use Rattle.zf_commands.proofs.Sorting.{by_kind, not_of_split}
@@ -22,8 +22,4 @@ returns-in-Join-clause-does g c =
     (c.join.ensures.joined ∙ ap (λ o. parted_session value q.array.now o q.window) (sym c.join.ensures.whole)))
 
 pub returns-in_default-clause-does : goal.returns-in_default-clause-does
-returns-in_default-clause-does g c =
-    let p = c.args.self.now in
-    let s = parted_session g.T.Lane.value p.array.now p.views.now p.window in
-    refused_split (setting_of g.T.Lane.width p.array.now) _ s c.requires.window
-    (refuses_whole s _ (some_parted g.T.Lane.value p.array.now p.views.now c.requires.parted) (by_kind s c.args.cmd is_of_split false (not_of_split (length s.shape) c.args.cmd c.in_default.not-Join c.in_default.not-View)))
+returns-in_default-clause-does g c = search (rules, refused_split, refuses_whole, some_parted, by_kind, not_of_split)

@@ -1,45 +1,24 @@
-use Rattle.std.proofs.Common.{◌≡◌, refl, sym, ap, subst, ◌∙◌, true, false, not, ◌&&◌, ltb, leb, ltb-true, Some}
+use Rattle.std.proofs.Common.{rules}
+use Rattle.std.proofs.Common.{◌≡◌, refl, sym, ap, subst, ◌∙◌, true, ◌&&◌, ltb, leb, ltb-true}
 use Rattle.std.proofs.lemmas.Bool.{and_parts}
 use Rattle.zf_spec.specs.Grid.{blocks}
 use Rattle.zf_header.specs.declared.header.Header.{Header}
 use Rattle.zf_cached.specs.Arrays.{array_format}
-use Rattle.zf_cached.specs.Commands.{Command}
-use Rattle.zf_cached.specs.Replies.{Refusal, Reply}
 use Rattle.zf_cached.specs.Splits.{is_view_count}
 use Rattle.zf_cached.specs.Steps.{is_line_count}
 use Rattle.zf_array.specs.Standing.{Held, shape, state}
-use Rattle.zf_run.specs.Sessions.{setting_of, session_of}
-use Rattle.zf_run.specs.Splits.{parted_session, AreNewParts}
-use Rattle.zf_commands.specs.Steps.{Does}
+use Rattle.zf_run.specs.Splits.{AreNewParts}
 use Rattle.zf_run.proofs.Splitting.{has_split, are_parts}
 use Rattle.zf_commands.proofs.Stepping.{refused_size, refused_memory}
 use Rattle.zf_run.proofs.splits.Parted.split.Goals as goal
 
 pub returns-then-not-may_split-clause-does : goal.returns-then-not-may_split-clause-does
 unfolding array_format
-returns-then-not-may_split-clause-does g c =
-    let a = c.args.self.now.array.now in
-    let n = c.args.count in
-    let l = c.args.lines in
-    let S = setting_of g.T.Lane.width a in
-    let many = c.blocks-2.ensures.value ∙ ap blocks c.shape-shape.ensures.value in
-    let tests : (is_view_count (blocks (shape a)) n && is_line_count l) ≡ false =
-    subst (λ m. (is_view_count m n && is_line_count l) ≡ false) many (sym c.may_split.ensures ∙ c.if-not-may_split.true) in
-    subst (λ o. Does S (Command.split n l) (session_of a c.args.self.now.window) (parted_session g.T.Lane.value a o c.args.self.now.window) (Some (Reply.refused Refusal.size))) (sym c.requires.whole)
-    (refused_size S (Command.split n l) (session_of a c.args.self.now.window) c.requires.window refl (ap not tests))
+returns-then-not-may_split-clause-does g c = search (rules, refused_size)
 
 pub returns-in_default-clause-does : goal.returns-in_default-clause-does
 unfolding array_format
-returns-in_default-clause-does g c =
-    let a = c.args.self.now.array.now in
-    let n = c.args.count in
-    let l = c.args.lines in
-    let S = setting_of g.T.Lane.width a in
-    let many = c.blocks-2.ensures.value ∙ ap blocks c.shape-shape.ensures.value in
-    let tests : (is_view_count (blocks (shape a)) n && is_line_count l) ≡ true =
-    subst (λ m. (is_view_count m n && is_line_count l) ≡ true) many (sym c.may_split.ensures ∙ c.if-not-may_split.false) in
-    subst (λ o. Does S (Command.split n l) (session_of a c.args.self.now.window) (parted_session g.T.Lane.value a o c.args.self.now.window) (Some (Reply.refused Refusal.memory))) (sym c.requires.whole)
-    (refused_memory S (Command.split n l) (session_of a c.args.self.now.window) c.requires.window refl (ap not tests) refl refl refl)
+returns-in_default-clause-does g c = search (rules, refused_memory)
 
 pub returns : goal.returns
 returns g c =

@@ -1,4 +1,5 @@
-use Rattle.std.proofs.Common.{refl, sym, subst, ◌∙◌, lit<}
+use Rattle.std.proofs.Common.{rules}
+use Rattle.std.proofs.Common.{refl, sym, subst, ◌∙◌}
 use Rattle.zf_cached.specs.Runs.{array_setting}
 use Rattle.zf_commands.specs.Kinds.{cmd_of_kind, asked}
 use Rattle.zf_commands.specs.Steps.{Takes, said}
@@ -10,23 +11,14 @@ use Rattle.zf_run.proofs.Parting.{none_parted}
 use Rattle.zf_run.proofs.splits.PartedScripted.obey.Goals as goal
 
 pub obey_parted-requires : goal.obey_parted-requires
-obey_parted-requires g c =
-    let p = c.args.self.now in
-    let plain = same_plain (parted_session g.T.Lane.value p.array.now p.views.now p.window) c.args.cmd (cmd_of_kind c.kind_of-asked.result) c.kind_of-asked.ensures c.requires.plain in
-    (lit< tt, (c.requires.ready.sound, (sym c.is_some.ensures ∙ c.if-is_some.true, (c.requires.ready.window, plain))))
+obey_parted-requires g c = search (rules, same_plain)
 
 pub obey_whole-requires : goal.obey_whole-requires
-obey_whole-requires g c =
-    let p = c.args.self.now in
-    let plain = same_plain (session_of p.array.now p.window) c.args.cmd (cmd_of_kind c.kind_of-asked.result) c.kind_of-asked.ensures c.requires.plain in
-    (lit< tt, (none_parted p.views.now (sym c.is_some.ensures ∙ c.if-is_some.false), (c.requires.ready.window, plain)))
+obey_whole-requires g c = search (rules, same_plain, none_parted)
 
 pub returns-then-is_some-clause-step : goal.returns-then-is_some-clause-step
 unfolding array_setting
-returns-then-is_some-clause-step g c =
-    let p = c.args.self.now in
-    taken (setting_of g.T.Lane.width p.array.now) c.args.cmd (cmd_of_kind c.kind_of-asked.result) c.kind_of-asked.ensures
-    (parted_session g.T.Lane.value p.array.now p.views.now p.window) _ _ refl c.obey_parted.ensures.does
+returns-then-is_some-clause-step g c = search (rules, taken)
 
 pub returns-else-is_some-clause-step : goal.returns-else-is_some-clause-step
 unfolding array_setting
@@ -41,15 +33,7 @@ returns-else-is_some-clause-step g c =
     (taken S c.args.cmd (cmd_of_kind c.kind_of-asked.result) c.kind_of-asked.ensures (session_of p.array.now p.window) t _ refl c.obey_whole.ensures.does)
 
 pub returns-then-is_some-clause-stays : goal.returns-then-is_some-clause-stays
-returns-then-is_some-clause-stays g c =
-    let told = c.obey_parted.ensures in record {
-      ready = record { sound = told.sound; window = told.does.inside };
-      kept = λ i. (told.kept.0 i, told.kept.1 i);
-    }
+returns-then-is_some-clause-stays g c = search rules
 
 pub returns-else-is_some-clause-stays : goal.returns-else-is_some-clause-stays
-returns-else-is_some-clause-stays g c =
-    let told = c.obey_whole.ensures in record {
-      ready = record { sound = told.sound; window = told.does.inside };
-      kept = λ i. (told.kept.0 i, told.kept.1 i);
-    }
+returns-else-is_some-clause-stays g c = search rules
