@@ -1,5 +1,5 @@
 -- How many bits a code has at most.
-use Rattle.std.proofs.Common.{◌≡◌, ℕ, ◌+◌, ◌*◌, ◌^◌, ◌≤◌, min, Bool, ltb, ℤ, Some, List, length, take, drop, arith}
+use Rattle.std.proofs.Common.{◌≡◌, ℕ, ◌+◌, ◌*◌, ◌^◌, ◌≤◌, min, Bool, ltb, ℤ, Some, List, length, take, drop, arith, rules}
 use Rattle.std.proofs.Math.Nat.{pow-le-pow_right, mul-le-mul}
 use mir.Val.{bits}
 use Rattle.zf_spec.specs.Numbers.{number}
@@ -18,10 +18,7 @@ use Rattle.zf_parse.proofs.Prefixes.{found_some}
 
 -- the planes of a block have few bits
 few : (ty : Ty) (d : ℕ) → d ≤ 4 → 4 ^ d * (bits (width_of ty) + 1) ≤ 16640
-few ty d le =
-    let size : 4 ^ d ≤ 4 ^ 4 = pow-le-pow_right (omega arith) le in
-    let count : bits (width_of ty) + 1 ≤ 65 = omega (arith, width_at_most_64 ty) in
-    omega (arith, mul-le-mul size count)
+few ty d le = search (rules, pow-le-pow_right, width_at_most_64, mul-le-mul)
 
 rev_few : (ty : Ty) (es : List ℕ) (s : List Bool) (block : List ℤ) (k : ℕ) → length es ≤ 4 → read_rev (width_of ty) es s ≡ Some (block, k) → k ≤ 32768
 unfolding read_rev

@@ -1,5 +1,5 @@
 -- Codes that are read where they begin, and what a stream of them says.
-use Rattle.std.proofs.Common.{◌≡◌, refl, sym, ap, subst, ◌∙◌, inl, inr, ⊎_elim, ℕ, zero, suc, ◌+◌, ◌-◌, ◌%◌, ◌^◌, ◌<◌, ◌≤◌, Bool, ℤ, Option, Some, None, Result, Ok, Err, List, [], ◌∷◌, ◌++◌, map, length, get_or, take, drop, length-append, length-drop, arith}
+use Rattle.std.proofs.Common.{◌≡◌, refl, sym, ap, subst, ◌∙◌, ⊎_elim, ℕ, zero, suc, ◌+◌, ◌-◌, ◌%◌, ◌^◌, ◌<◌, ◌≤◌, Bool, ℤ, Option, Some, None, Result, Ok, Err, List, [], ◌∷◌, ◌++◌, map, length, get_or, take, drop, length-append, length-drop, arith, rules}
 use Rattle.std.proofs.lemmas.Bool.{cases_lt}
 use Rattle.std.specs.Result.{result_map_both}
 use Rattle.std.proofs.lemmas.Simd.{map-map}
@@ -68,9 +68,7 @@ module _ (h : Header) (i : Index) (s : List Bool) (read : AreRead h i s) where
   coded_read n le = coded_from 0 n (omega (arith, le)) ∙ (let same : 0 + n ≡ n = omega arith in ap (λ k. Ok (map coded (upto n), drop (place i k) s)) same)
 
   pub blocks_read : (n : ℕ) → n ≤ length i.lens → read_codes h 0 n (drop i.start s) ≡ Ok (map (λ k. block_read (found h i s k)) (upto n), drop (place i n) s)
-  blocks_read n le =
-      ap (λ (r : Result Coded ℕ). result_map_both blocks_in (λ k. k) r) (coded_read n le)
-      ∙ ap (λ (bs : List (List ℤ)). Ok (bs, drop (place i n) s)) (map-map (λ (c : List Bool × List ℤ). c.1) coded (upto n))
+  blocks_read n le = search (rules, blocks_in, coded_read, map-map)
 
   -- a code that ends too early
   pub cut_behind : length i.lens < blocks h.shape → read_code (width_of h.ty) h.mode (extent_of h.shape (length i.lens)) (drop (place i (length i.lens)) s) ≡ None
@@ -92,35 +90,22 @@ module _ (h : Header) (i : Index) (s : List Bool) (read : AreRead h i s) where
         let used : length s - length rest ≡ p = omega (arith, length-drop p s, within) in
         let Saying : List (List Bool) → List (List ℤ) → ℕ → Result Said StreamFault = λ cs bs k.
         result_map_both (λ good. record { header = h; codes = cs; values = values_of_blocks h.shape bs }) (λ e. e) (fill_answer h k rest) in
-        let first : ℕ → List Bool × List ℤ = coded in
-        ap (λ k. by_coded h (length s) (coded_blocks h 0 k (drop i.start s))) (sym count)
-        ∙ ap (by_coded h (length s)) (coded_read n (omega arith))
-        ∙ ap (λ cs. Saying cs (map (λ (c : List Bool × List ℤ). c.1) (map first (upto n))) (length s - length rest)) (map-map (λ (c : List Bool × List ℤ). c.0) first (upto n))
-        ∙ ap (λ bs. Saying (codes_in i s) bs (length s - length rest)) (map-map (λ (c : List Bool × List ℤ). c.1) first (upto n))
-        ∙ ap (Saying (codes_in i s) (blocks_found h i s)) used
+        let first : ℕ → List Bool × List ℤ = coded in search (rules, by_coded, coded_read, map-map)
 
     -- what stands behind them has a fault
     pub judged_behind : (e : StreamFault) → fill_answer h (place i (length i.lens)) (drop (place i (length i.lens)) s) ≡ Err e
         → said_behind h (length s) (drop i.start s) ≡ Err e
-    judged_behind e bad =
-        let said : Said = record { header = h; codes = codes_in i s; values = values_of_blocks h.shape (blocks_found h i s) } in
-        answer_behind ∙ ap (λ (r : Result (Unit {0}) StreamFault). result_map_both (λ good. said) (λ e. e) r) bad
+    judged_behind e bad = search (rules, answer_behind)
 
     -- which one judges who sees only so many of the bits from there on
     pub fill_seen : (r : Reader) (m : ℕ) → r.at ≡ place i (length i.lens) % 64 → rest r ≡ take m (drop (place i (length i.lens)) s) → 64 ≤ m
         → fill_answer h r.at (rest r) ≡ fill_answer h (place i (length i.lens)) (drop (place i (length i.lens)) s)
-    fill_seen r m at left enough =
-        let p = place i (length i.lens) in
-        ap (fill_answer h r.at) left ∙ fill_cut h r.at (drop p s) m enough
-        ∙ ap (λ k. fill_answer h k (drop p s)) at ∙ fill_place h (p % 64) p (drop p s) (omega arith)
+    fill_seen r m at left enough = search (rules, left, fill_cut, fill_place)
 
 -- a code that is seen among so many of the bits from its place on
 pub code_seen : (h : Header) (s t : List Bool) (at m k : ℕ) (es : List ℕ) → length es ≡ length h.shape → longest_code h ≤ m → at ≤ length s → t ≡ take m (drop at s)
     → HasCode (width_of h.ty) h.mode (length h.shape) t k → (len_read (read_code (width_of h.ty) h.mode es (drop at s)) ≡ Some k) × (at + k ≤ length s)
-code_seen h s t at m k es dims enough inside is has = (
-  ap len_read (sym (cut_told h es (drop at s) m dims enough)) ∙ ap (λ (u : List Bool). len_read (read_code (width_of h.ty) h.mode es u)) (sym is) ∙ has.code es dims,
-  omega (arith, has.within, ap length is, length-take m (drop at s), length-drop at s, inside),
-)
+code_seen h s t at m k es dims enough inside is has = search (rules, cut_told, length-take, length-drop)
 
 -- one code more is read
 pub one_more : (h : Header) (s : List Bool) (start : ℕ) (xs : List ℕ) (n : ℕ) → AreRead h (record { start = start; lens = xs }) s
@@ -148,15 +133,7 @@ module _ (bytes : List ℕ) (h : Header) (start : ℕ) (begun : BeginsWithHeader
   has_header = record { good = begun.good; header = begun.header }
 
   pub fault_is : (r : Reader) (e : IndexFault) → r.all ≡ to_bits bytes → r.at ≡ start → HasFault h r e → IsFault (parse bytes) (stream_fault e)
-  fault_is r e all at fault =
-      let bits = to_bits bytes in
-      let left : rest r ≡ drop start bits = ap (λ (s : List Bool). drop r.at s) all ∙ ap (λ k. drop k bits) at in
-      ⊎_elim
-      (λ said. inl
-      (parse_behind bytes h start begun
-      ∙ ap (λ (s : List Bool). said_behind h (length bits) s) (sym left)
-      ∙ ap (λ (s : List Bool). said_behind h (length s) (rest r)) (sym all) ∙ said))
-      (λ starved. inr (ap stream_fault starved)) fault
+  fault_is r e all at fault = search (rules, left, parse_behind)
 
   pub index_is : (lens : List ℕ) → length (to_bits bytes) < 2 ^ 64 → IsWalked h (to_bits bytes) (record { start = start; lens = lens }) → IsIndexOf bytes h (record { start = start; lens = lens })
   index_is lens small walked =

@@ -1,5 +1,5 @@
 -- Digits one by one, and numbers as words.
-use Rattle.std.proofs.Common.{◌≡◌, ◌≢◌, ℕ, zero, suc, ◌+◌, ◌*◌, ◌<◌, ◌^◌, List, [], ◌∷◌, length, get_or, take, Option, Some, None, IfSome, IfNone, ap, sym, ◌∙◌, subst, arith, decimal, slice_get, refl}
+use Rattle.std.proofs.Common.{◌≡◌, ◌≢◌, ℕ, zero, suc, ◌+◌, ◌*◌, ◌<◌, ◌^◌, List, [], ◌∷◌, length, get_or, take, Option, Some, None, IfSome, IfNone, ap, sym, ◌∙◌, subst, arith, decimal, slice_get, refl, rules}
 use Rattle.std.specs.Char.{digit_value}
 use Rattle.std.specs.Option.{SomeIff}
 use Rattle.std.specs.Str.Parse.{AllDigits, digits_value}
@@ -25,9 +25,7 @@ digit_more word i number byte lt is at short = rw (is, at) (record {
 
 -- and the number with it is that of one digit more
 pub number_more : (word : List ℕ) (i number next byte : ℕ) → i < length word → number ≡ digits_value 10 (take i word) → byte ≡ get_or word i 0 → next ≡ number * 10 + digit_value byte → next ≡ digits_value 10 (take (i + 1) word)
-number_more word i number next byte lt is at step =
-    step ∙ (ap (λ n. n * 10 + digit_value byte) is
-    ∙ (ap (λ b. digits_value 10 (take i word) * 10 + digit_value b) at ∙ sym (digits_value_more 10 word i lt)))
+number_more word i number next byte lt is at step = search (rules, digits_value_more)
 
 -- ---- a number is the word of its digits
 pub number_some : (word : List ℕ) (o : Option ℕ) → SomeIff o (IsShortNumeral word) (digits_value 10 word) → 0 < length word → (get_or word 0 0 ≡ 48 → length word ≡ 1) → IfSome o (λ n. word ≡ decimal n)
@@ -37,10 +35,7 @@ number_some word (Some n) found some alone =
 
 pub number_none : (word : List ℕ) (o : Option ℕ) → SomeIff o (IsShortNumeral word) (digits_value 10 word) → IfNone o ((n : ℕ) → n < 2 ^ 64 → word ≢ decimal n)
 number_none word (Some n) found = tt
-number_none word None found = λ n small is. found (rw is (record {
-  digits = digits_decimal own n small;
-  short = omega (arith, number-decimal n small);
-}))
+number_none word None found = λ n small is. found (rw is (search (rules, digits_decimal, own, number-decimal)))
 
 pub no_first : (word : List ℕ) → slice_get word 0 ≡ None → length word ≡ 0
 no_first [] none = refl

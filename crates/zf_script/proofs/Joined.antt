@@ -1,5 +1,5 @@
 -- Numbers with a byte between two of them, part by part.
-use Rattle.std.proofs.Common.{◌≡◌, ◌≢◌, ℕ, zero, suc, ◌+◌, ◌<◌, ◌≤◌, ◌^◌, true, ◌==◌, List, [], ◌∷◌, ◌++◌, map, length, get_or, set, take, IsTrue, refl, ap, sym, ◌∙◌, subst, arith, lit<, decimal, get_or-set_other, length-take, append_assoc, append-nil, length-append}
+use Rattle.std.proofs.Common.{◌≡◌, ℕ, zero, suc, ◌+◌, ◌<◌, ◌≤◌, ◌^◌, true, ◌==◌, List, [], ◌∷◌, ◌++◌, map, length, get_or, set, take, refl, ap, sym, ◌∙◌, arith, lit<, decimal, get_or-set_other, length-take, append_assoc, append-nil, length-append, rules}
 use Rattle.std.specs.List.{join_with_byte, list_all}
 use Rattle.std.proofs.lemmas.Bool.{ltb-true, lt-ltb, le-leb, and_from, and_parts}
 use Rattle.std.proofs.lemmas.List.{length-map, map-append, take_more_set}
@@ -15,9 +15,7 @@ use Rattle.zf_spec.proofs.Counting.{four_elements}
 
 -- ---- a word of numbers and its parts
 pub parts_are : (byte : ℕ) (word ns : List ℕ) → IsNoDigit byte → has_sizes ns ≡ true → word ≡ numbers_text byte ns → cut_at byte word ≡ map decimal ns
-parts_are byte word ns no_digit ok is =
-    let parts = sizes-parts ns ok in
-    ap (cut_at byte) is ∙ cut_at-numbers byte ns parts.0 parts.2 no_digit
+parts_are byte word ns no_digit ok is = search (rules, sizes-parts, cut_at-numbers)
 
 -- there are at most four
 pub four_parts : (byte : ℕ) (word ns : List ℕ) → IsNoDigit byte → has_sizes ns ≡ true → word ≡ numbers_text byte ns → length (cut_at byte word) ≤ 4
@@ -31,9 +29,7 @@ some_part byte word = omega (arith, length-slice_split (λ b. b == byte) word)
 part_of_texts : (ns : List ℕ) (prefix : List (List ℕ)) (part : List ℕ) (more : List (List ℕ)) → list_all is_number ns ≡ true → map decimal ns ≡ prefix ++ part ∷ more → (n : ℕ) × (n < 2 ^ 64) × (part ≡ decimal n)
 part_of_texts [] [] part more small same = absurd (cc)
 part_of_texts [] (text ∷ prefix) part more small same = absurd (cc)
-part_of_texts (n ∷ ns) [] part more small same =
-    let head : part ≡ decimal n = cc in
-    (n, ltb-true n _ (and_parts (is_number n) (list_all is_number ns) small).0, head)
+part_of_texts (n ∷ ns) [] part more small same = search (rules, ltb-true, and_parts)
 part_of_texts (n ∷ ns) (text ∷ prefix) part more small same =
     let rest : map decimal ns ≡ prefix ++ part ∷ more = cc in
     part_of_texts ns prefix part more (and_parts (is_number n) (list_all is_number ns) small).1 rest
@@ -41,9 +37,7 @@ part_of_texts (n ∷ ns) (text ∷ prefix) part more small same =
 -- what is left of the parts begins with a number
 pub begins_with_number : (byte : ℕ) (word ns : List ℕ) (prefix left : List (List ℕ)) → IsNoDigit byte → 1 ≤ length left → cut_at byte word ≡ prefix ++ left → has_sizes ns ≡ true → word ≡ numbers_text byte ns → (n : ℕ) × (more : List (List ℕ)) × (n < 2 ^ 64) × (left ≡ decimal n ∷ more)
 begins_with_number byte word ns prefix [] no_digit some cut ok is = absurd (omega arith)
-begins_with_number byte word ns prefix (part ∷ more) no_digit some cut ok is =
-    let found = part_of_texts ns prefix part more (sizes-parts ns ok).2 (sym (parts_are byte word ns no_digit ok is) ∙ cut) in
-    (found.0, more, found.1, ap (λ text. text ∷ more) found.2)
+begins_with_number byte word ns prefix (part ∷ more) no_digit some cut ok is = search (rules, part_of_texts, sizes-parts, parts_are)
 
 -- parts that are numbers make a word of them
 pub joined_parts : (byte : ℕ) (word ns : List ℕ) → cut_at byte word ≡ map decimal ns → word ≡ numbers_text byte ns
@@ -51,10 +45,7 @@ joined_parts byte word ns cut = sym (joined-cut_at byte word) ∙ ap (join_with_
 
 -- ---- one number more
 pub numbers_more : (numbers : List ℕ) (count n : ℕ) → count < length numbers → list_all is_number (take count numbers) ≡ true → n < 2 ^ 64 → list_all is_number (take (count + 1) (set numbers count n)) ≡ true
-numbers_more numbers count n lt all small =
-    ap (list_all is_number) (take_more_set numbers count n lt)
-    ∙ (list_all-append is_number (take count numbers) (n ∷ [])
-    ∙ and_from (list_all is_number (take count numbers)) (list_all is_number (n ∷ [])) all (and_from (is_number n) true (lt-ltb n _ small) refl))
+numbers_more numbers count n lt all small = search (rules, take_more_set, list_all-append, and_from, lt-ltb)
 
 pub texts_more : (texts : List (List ℕ)) (part : List ℕ) (rest : List (List ℕ)) (numbers : List ℕ) (count n : ℕ) → count < length numbers → part ≡ decimal n → texts ≡ map decimal (take count numbers) ++ part ∷ rest → texts ≡ map decimal (take (count + 1) (set numbers count n)) ++ rest
 texts_more texts part rest numbers count n lt this so_far =
@@ -70,9 +61,7 @@ texts_whole texts part numbers count n lt this so_far =
 
 -- the numbers behind the first ones stay
 pub others_more : (numbers : List ℕ) (count n unused : ℕ) → ((k : ℕ) → count ≤ k → k < 4 → get_or numbers k 0 ≡ unused) → (k : ℕ) → count + 1 ≤ k → k < 4 → get_or (set numbers count n) k 0 ≡ unused
-others_more numbers count n unused others k above below =
-    let other : k ≢ count = omega arith in
-    rw get_or-set_other (others k (omega arith) below)
+others_more numbers count n unused others k above below = search (rules, get_or-set_other)
 
 -- ---- the numbers as a `Pos`
 
@@ -98,22 +87,11 @@ others_are numbers (suc (suc (suc (suc (suc n))))) u four most others = absurd (
 
 -- a word whose parts are these numbers
 pub sizes_word : (byte unused : ℕ) (word numbers : List ℕ) (count : ℕ) → length numbers ≡ 4 → 1 ≤ count → count ≤ 4 → list_all is_number (take count numbers) ≡ true → cut_at byte word ≡ map decimal (take count numbers) → ((k : ℕ) → count ≤ k → k < 4 → get_or numbers k 0 ≡ unused) → IsSizesWord byte unused word count (pos_of numbers)
-sizes_word byte unused word numbers count four some most small cut others =
-    let same : used_axes count (pos_of numbers) ≡ take count numbers = ap (take count) (four_elements numbers four) in
-    let long : length (take count numbers) ≡ count = omega (arith, length-take count numbers) in
-    let sized : has_sizes (take count numbers) ≡ true = and_from _ (list_all is_number (take count numbers)) (and_from _ _ (le-leb 1 (length (take count numbers)) (omega arith)) (le-leb (length (take count numbers)) 4 (omega arith))) small in
-    record {
-      numbers = subst (λ ns. IsTrue (has_sizes ns)) (sym same) sized;
-      count_is = ap length same ∙ long;
-      text = joined_parts byte word (take count numbers) cut ∙ ap (numbers_text byte) (sym same);
-      others = others_are numbers count unused four most others;
-    }
+sizes_word byte unused word numbers count four some most small cut others = search (rules, four_elements, length-take, and_from, le-leb, joined_parts, others_are)
 
 -- ---- one number for each axis
 pub sizes_from_axes : (d : ℕ) (ns : List ℕ) → 1 ≤ d → d ≤ 4 → has_axes d ns ≡ true → has_sizes ns ≡ true
-sizes_from_axes d ns some most ok =
-    let parts = axes-parts d ns ok in
-    and_from _ (list_all is_number ns) (and_from _ _ (le-leb 1 (length ns) (omega arith)) (le-leb (length ns) 4 (omega arith))) parts.1
+sizes_from_axes d ns some most ok = search (rules, axes-parts, and_from, le-leb)
 
 -- a word of so many numbers is none of another number of them
 pub count_same : (d byte unused : ℕ) (word : List ℕ) (count : ℕ) (p : Pos) (ns : List ℕ) → IsNoDigit byte → 1 ≤ d → d ≤ 4 → IsSizesWord byte unused word count p → has_axes d ns ≡ true → word ≡ numbers_text byte ns → count ≡ d

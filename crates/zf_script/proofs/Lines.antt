@@ -1,16 +1,14 @@
 -- Words of lines and the commands that they are.
-use Rattle.std.proofs.Common.{◌≡◌, ◌≢◌, ℕ, suc, ◌+◌, ◌<◌, ◌≤◌, ◌^◌, ℤ, pos, negsuc, List, [], ◌∷◌, length, get_or, drop, ◌⊎◌, inl, inr, true, false, bytes_eq, Option, Some, None, Result, Ok, Err, IsTrue, IfSome, IfNone, IfOk, IfErr, FitsSigned, refl, ap, sym, subst, ◌∙◌, arith, rules, codes, decimal}
+use Rattle.std.proofs.Common.{◌≡◌, ◌≢◌, ℕ, suc, ◌+◌, ◌<◌, ◌≤◌, ◌^◌, ℤ, pos, negsuc, List, [], ◌∷◌, length, get_or, drop, ◌⊎◌, inl, inr, false, bytes_eq, Option, Some, None, Result, Ok, Err, IsTrue, IfSome, IfNone, IfOk, IfErr, FitsSigned, refl, ap, sym, subst, ◌∙◌, arith, rules, codes, decimal}
 use Rattle.std.specs.Int.{w128}
 use Rattle.std.specs.Fmt.{signed_decimal}
-use Rattle.std.specs.List.{join_with_byte}
 use Rattle.std.specs.Option.{ok_or}
 use Rattle.std.proofs.lemmas.Bool.{lt-ltb, ltb-true, false≢true, and_parts, and_from}
 use Rattle.std.proofs.lemmas.Int.{ints}
 use Rattle.std.proofs.lemmas.Slice.Eq.{bytes_eq-Decides}
 use Rattle.zf_base.specs.declared.position.Pos.{Pos}
-use Rattle.zf_base.specs.Positions.{used_axes}
 use Rattle.zf_cached.specs.Commands.{Command}
-use Rattle.zf_cached.specs.Grammar.{space, comma, letter_x, numbers_text, view_word, words_of, line_of, is_number, is_writable, is_value, has_axes, has_sizes, cut_at, read_line}
+use Rattle.zf_cached.specs.Grammar.{space, comma, letter_x, numbers_text, view_word, words_of, is_value, has_axes, has_sizes, cut_at, read_line}
 use Rattle.zf_cached.proofs.Numerals.{HasNo}
 use Rattle.zf_cached.proofs.Cutting.{cut_at-one, joined-cut_at, one_word}
 use Rattle.zf_cached.proofs.ReadLines.{sizes-parts, position_no_space, sizes_no_space, value_no_space, number_no_space, cut_at-line_of, read_line_iff, read_line-None}
@@ -39,105 +37,47 @@ value_fits (negsuc n) small = let lt : n + 1 < 2 ^ 64 = omega (arith, ltb-true (
 
 -- ---- more words than one
 pub position_and_value_some : (d : ℕ) (words first second : List ℕ) (p : Pos) (v : ℤ) → cut_at space words ≡ first ∷ cut_at space second → IsAxesWord d comma 0 first p → IsTrue (is_value v) → second ≡ signed_decimal v → IsPositionAndValue d (cut_at space words) p v
-position_and_value_some d words first second p v cut axes small text =
-    let one = axes.text in
-    let last = last_word second (signed_decimal v) text (value_no_space v small) in
-    record { axes = axes.numbers; value = small; text = cut ∙ cc; others = axes.others }
+position_and_value_some d words first second p v cut axes small text = search (rules, last_word, value_no_space)
 
 pub position_and_value_none : (d : ℕ) (words first second : List ℕ) → cut_at space words ≡ first ∷ cut_at space second → ((v : ℤ) → IsTrue (is_value v) → second ≢ signed_decimal v) → NoPositionAndValue d (cut_at space words)
-position_and_value_none d words first second cut none p v ok small same =
-    let tail : cut_at space second ≡ signed_decimal v ∷ [] = cc in
-    none v small (one_word space second (signed_decimal v) tail)
+position_and_value_none d words first second cut none p v ok small same = search (rules, one_word)
 
 pub window_some : (d : ℕ) (words first rest second third : List ℕ) (p s t : Pos) → cut_at space words ≡ first ∷ cut_at space rest → cut_at space rest ≡ second ∷ cut_at space third → IsAxesWord d comma 0 first p → IsAxesWord d letter_x 1 second s → IsAxesWord d comma 1 third t → IsWindow d (cut_at space words) p s t
-window_some d words first rest second third p s t cut again origin sizes steps =
-    let one = origin.text in
-    let two = sizes.text in
-    let last = last_word third (numbers_text comma (used_axes d t)) steps.text (position_no_space d (used_axes d t) steps.numbers) in
-    record {
-      origin = origin.numbers;
-      sizes = sizes.numbers;
-      steps = steps.numbers;
-      text = cut ∙ cc;
-      other_origins = origin.others;
-      other_sizes = sizes.others;
-      other_steps = steps.others;
-    }
+window_some d words first rest second third p s t cut again origin sizes steps = search (rules, last_word, position_no_space)
 
 pub window_none : (d : ℕ) (words first rest second third : List ℕ) → cut_at space words ≡ first ∷ cut_at space rest → cut_at space rest ≡ second ∷ cut_at space third → ((ns : List ℕ) → IsTrue (has_axes d ns) → third ≢ numbers_text comma ns) → NoWindow d (cut_at space words)
-window_none d words first rest second third cut again none p s t ok_p ok_s ok_t same =
-    let tail : cut_at space third ≡ numbers_text comma t ∷ [] = cc in
-    none t ok_t (one_word space third (numbers_text comma t) tail)
+window_none d words first rest second third cut again none p s t ok_p ok_s ok_t same = search (rules, one_word)
 
 pub two_numbers_some : (words first second : List ℕ) (a i : ℕ) → cut_at space words ≡ first ∷ cut_at space second → first ≡ decimal a → second ≡ decimal i → i < 2 ^ 64 → IsTwoNumbers (cut_at space words) a i
-two_numbers_some words first second a i cut one two small =
-    let last = last_word second (decimal i) two (number_no_space i (lt-ltb i _ small)) in
-    cut ∙ cc
+two_numbers_some words first second a i cut one two small = search (rules, last_word, number_no_space, lt-ltb)
 
 pub two_numbers_none : (words first second : List ℕ) → cut_at space words ≡ first ∷ cut_at space second → ((n : ℕ) → n < 2 ^ 64 → second ≢ decimal n) → NoTwoNumbers (cut_at space words)
-two_numbers_none words first second cut none a i small_a small_i same =
-    let tail : cut_at space second ≡ decimal i ∷ [] = cc in
-    none i small_i (one_word space second (decimal i) tail)
+two_numbers_none words first second cut none a i small_a small_i same = search (rules, one_word)
 
 -- ---- a verb and one word
 pub get_command : (d : ℕ) (rest : List ℕ) (p : Pos) → IsAxesWord d comma 0 rest p → IsCommand d (codes "get" ∷ cut_at space rest) (cmds.Get p)
-get_command d rest p axes = record {
-  writable = axes.numbers;
-  text = ap (λ last. codes "get" ∷ last) (last_word rest (numbers_text comma (used_axes d p)) axes.text (position_no_space d (used_axes d p) axes.numbers));
-  others = ap cmds.Get axes.others;
-}
+get_command d rest p axes = search (rules, last_word, position_no_space)
 
 pub vget_command : (d : ℕ) (rest : List ℕ) (p : Pos) → IsAxesWord d comma 0 rest p → IsCommand d (codes "vget" ∷ cut_at space rest) (cmds.VGet p)
-vget_command d rest p axes = record {
-  writable = axes.numbers;
-  text = ap (λ last. codes "vget" ∷ last) (last_word rest (numbers_text comma (used_axes d p)) axes.text (position_no_space d (used_axes d p) axes.numbers));
-  others = ap cmds.VGet axes.others;
-}
+vget_command d rest p axes = search (rules, last_word, position_no_space)
 
 pub set_command : (d : ℕ) (rest : List ℕ) (p : Pos) (v : ℤ) → IsPositionAndValue d (cut_at space rest) p v → IsCommand d (codes "set" ∷ cut_at space rest) (cmds.Set p v)
-set_command d rest p v both = record {
-  writable = and_from (has_axes d (used_axes d p)) (is_value v) both.axes both.value;
-  text = ap (λ last. codes "set" ∷ last) both.text;
-  others = ap (λ q. cmds.Set q v) both.others;
-}
+set_command d rest p v both = search (rules, and_from)
 
 pub add_command : (d : ℕ) (rest : List ℕ) (p : Pos) (v : ℤ) → IsPositionAndValue d (cut_at space rest) p v → IsCommand d (codes "add" ∷ cut_at space rest) (cmds.Add p v)
-add_command d rest p v both = record {
-  writable = and_from (has_axes d (used_axes d p)) (is_value v) both.axes both.value;
-  text = ap (λ last. codes "add" ∷ last) both.text;
-  others = ap (λ q. cmds.Add q v) both.others;
-}
+add_command d rest p v both = search (rules, and_from)
 
 pub vset_command : (d : ℕ) (rest : List ℕ) (p : Pos) (v : ℤ) → IsPositionAndValue d (cut_at space rest) p v → IsCommand d (codes "vset" ∷ cut_at space rest) (cmds.VSet p v)
-vset_command d rest p v both = record {
-  writable = and_from (has_axes d (used_axes d p)) (is_value v) both.axes both.value;
-  text = ap (λ last. codes "vset" ∷ last) both.text;
-  others = ap (λ q. cmds.VSet q v) both.others;
-}
+vset_command d rest p v both = search (rules, and_from)
 
 pub fill_command : (d : ℕ) (rest : List ℕ) (v : ℤ) → IsTrue (is_value v) → rest ≡ signed_decimal v → IsCommand d (codes "fill" ∷ cut_at space rest) (cmds.Fill v)
-fill_command d rest v small text = record {
-  writable = small;
-  text = ap (λ last. codes "fill" ∷ last) (last_word rest (signed_decimal v) text (value_no_space v small));
-  others = refl;
-}
+fill_command d rest v small text = search (rules, last_word, value_no_space)
 
 pub lines_command : (d : ℕ) (rest : List ℕ) (l : ℕ) → l < 2 ^ 64 → rest ≡ decimal l → IsCommand d (codes "lines" ∷ cut_at space rest) (cmds.Lines l)
-lines_command d rest l small text = record {
-  writable = lt-ltb l _ small;
-  text = ap (λ last. codes "lines" ∷ last) (last_word rest (decimal l) text (number_no_space l (lt-ltb l _ small)));
-  others = refl;
-}
+lines_command d rest l small text = search (rules, lt-ltb, last_word, number_no_space)
 
 pub resize_command : (d : ℕ) (rest : List ℕ) (count : ℕ) (s : Pos) → IsSizesWord letter_x 1 rest count s → IsCommand d (codes "resize" ∷ cut_at space rest) (cmds.Resize count s)
-resize_command d rest count s sizes =
-    let long = sizes.count_is in
-    let other = sizes.others in
-    record {
-      writable = sizes.numbers;
-      text = ap (λ last. codes "resize" ∷ last) (last_word rest (numbers_text letter_x (used_axes count s)) sizes.text (sizes_no_space (used_axes count s) (sizes-parts (used_axes count s) sizes.numbers).2));
-      others = cc;
-    }
+resize_command d rest count s sizes = search (rules, last_word, sizes_no_space, sizes-parts)
 
 -- ---- words that are no command
 -- the first word is another
@@ -336,24 +276,11 @@ no_view_verb d i word words rest is none c ok same = elim (first_word c) [
 -- ---- commands on a view
 module _ (d i : ℕ) (small : i < 2 ^ 64) (rest : List ℕ) where
   pub pget_command : (p : Pos) → IsAxesWord d comma 0 rest p → IsCommand d (view_word i ∷ codes "get" ∷ cut_at space rest) (cmds.PGet i p)
-  pget_command p axes = record {
-    writable = and_from (is_number i) (has_axes d (used_axes d p)) (lt-ltb i _ small) axes.numbers;
-    text = ap (λ last. view_word i ∷ codes "get" ∷ last) (last_word rest (numbers_text comma (used_axes d p)) axes.text (position_no_space d (used_axes d p) axes.numbers));
-    others = ap (cmds.PGet i) axes.others;
-  }
+  pget_command p axes = search (rules, and_from, lt-ltb, last_word, position_no_space)
 
 -- ---- words on a view that are no command
 pub no_pget : (d i : ℕ) (rest : List ℕ) → ((ns : List ℕ) → IsTrue (has_axes d ns) → rest ≢ numbers_text comma ns) → IsNoCommand d (view_word i ∷ codes "get" ∷ cut_at space rest)
-no_pget d i rest none c ok same = by c ok (begins_on_view (decimal i) (codes "get") (cut_at space rest) c same)
-  where
-    by : (c : Command) → is_writable d c ≡ true → BeginsOnView (codes "get") (cut_at space rest) c → ⊥
-    by (Command.pget j p) ok h = none p (and_parts (is_number j) (has_axes d p) ok).1 (one_word space rest (numbers_text comma p) h.1)
-    by (Command.pset j p v) ok h = differ (codes "get") (codes "set") refl h.0
-    by (Command.padd j p v) ok h = differ (codes "get") (codes "add") refl h.0
-    by (Command.pflush j) ok h = differ (codes "get") (codes "flush") refl h.0
-    by (Command.pdiscard j) ok h = differ (codes "get") (codes "discard") refl h.0
-    by (Command.pstats j) ok h = differ (codes "get") (codes "stats") refl h.0
-    by c ok h = h
+no_pget d i rest none c ok same = search (rules, begins_on_view, and_parts, one_word, differ)
 
 -- the word of another verb
 not_get : (verb : Verb) → verb ≢ verbs.Get → bytes_eq (verb_word verb) (codes "get") ≡ false
@@ -387,9 +314,7 @@ no_pwords d i verb rest get set add c ok same = by c (begins_on_view (decimal i)
 -- ---- the answer to a line, of which these are the words
 module _ (d : ℕ) (line : List ℕ) (words : List (List ℕ)) (same : cut_at space line ≡ words) where
   pub read_some : (cmd : Cmd) → 1 ≤ d → IsCommand d words cmd → read_line d line ≡ Some (command_of d cmd)
-  read_some cmd some is =
-      let line_is : line ≡ line_of (command_of d cmd) = sym (joined-cut_at space line) ∙ ap (join_with_byte space) (same ∙ is.text) in
-      (read_line_iff d line (command_of d cmd) some).1 (is.writable, line_is)
+  read_some cmd some is = search (rules, joined-cut_at, read_line_iff)
 
   pub read_none : IsNoCommand d words → read_line d line ≡ None
   read_none none = read_line-None d line (λ c ok is. none c ok (sym same ∙ ap (cut_at space) is ∙ cut_at-line_of d c ok))

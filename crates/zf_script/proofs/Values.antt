@@ -1,5 +1,5 @@
 -- Values as words.
-use Rattle.std.proofs.Common.{◌≡◌, ◌≢◌, ℕ, suc, ◌<◌, ◌^◌, ℤ, pos, negsuc, List, ◌∷◌, get_or, IsTrue, ap, sym, ◌∙◌, arith, decimal}
+use Rattle.std.proofs.Common.{◌≡◌, ◌≢◌, ℕ, ◌<◌, ◌^◌, ℤ, pos, negsuc, List, ◌∷◌, get_or, IsTrue, ap, sym, ◌∙◌, arith, decimal, rules}
 use Rattle.std.specs.Fmt.{signed_decimal}
 use Rattle.std.proofs.lemmas.Bool.{ltb-true}
 use Rattle.std.proofs.lemmas.Fmt.{digits_decimal, decimal_nonempty, decimal_injective}
@@ -13,9 +13,7 @@ no_minus_first n small = not_in_digits own (decimal n) 45 (digits_decimal own n 
 -- digits behind a minus are no value where they are no number but zero
 pub minus_none : (digits : List ℕ) (v : ℤ) → IsTrue (is_value v) → ((n : ℕ) → 0 < n → n < 2 ^ 64 → digits ≢ decimal n) → 45 ∷ digits ≡ signed_decimal v → ⊥
 minus_none digits (pos n) small none same = no_minus_first n (ltb-true n _ small) (ap (λ bs. get_or bs 0 0) (sym same))
-minus_none digits (negsuc n) small none same =
-    let tail : digits ≡ decimal (suc n) = cc in
-    none (suc n) (omega arith) (ltb-true (suc n) _ small) tail
+minus_none digits (negsuc n) small none same = search (rules, ltb-true)
 
 -- zero is no other number
 pub zero_only : (digits : List ℕ) (n : ℕ) → digits ≡ decimal 0 → 0 < n → n < 2 ^ 64 → digits ≢ decimal n

@@ -1,18 +1,18 @@
 -- A run of positions of a window along x: its values stand side by side in one block of the array.
-use Rattle.std.proofs.Common.{◌≡◌, ℕ, ◌+◌, ◌-◌, ◌*◌, ◌/◌, ◌%◌, ◌^◌, ◌<◌, ◌≤◌, ℤ, Bool, true, ltb, ltb-true, lt-ltb, List, [], ◌∷◌, map, length, take, drop, get_or, refl, ap, sym, subst, ◌∙◌, arith}
+use Rattle.std.proofs.Common.{◌≡◌, ℕ, ◌+◌, ◌-◌, ◌*◌, ◌%◌, ◌^◌, ◌<◌, ◌≤◌, ℤ, Bool, true, ltb-true, lt-ltb, List, [], ◌∷◌, map, length, take, drop, get_or, refl, ap, sym, subst, ◌∙◌, arith, rules}
 use Rattle.std.proofs.lemmas.Bool.{and_parts, and_from}
 use Rattle.std.proofs.lemmas.List.{length-map, length-take-le, length-drop}
-use Rattle.zf_spec.specs.Grid.{grid, raster, fours, is_inside, extent_of, indices}
+use Rattle.zf_spec.specs.Grid.{is_inside, extent_of, indices}
 use Rattle.zf_base.specs.declared.position.Pos.{Pos}
 use Rattle.zf_base.specs.Positions.{used_axes, with_unused, IsPosition}
-use Rattle.zf_base.specs.Places.{block_number, place_of, IsAt}
+use Rattle.zf_base.specs.Places.{IsAt}
 use Rattle.zf_base.specs.Formats.{Format, existing_of}
 use Rattle.zf_base.proofs.Formats.{length-existing_of, existing_of-existing_of}
 use Rattle.zf_base.proofs.Extents.{length-used_axes, used_axes-with_unused}
 use Rattle.zf_base.proofs.Places.{IsAt-position}
 use Rattle.zf_cached.specs.State.{State}
 use Rattle.zf_cached.specs.Touch.{touch, touch_for_writing, soiled, with_values, touch_for_writing_at}
-use Rattle.zf_cached.specs.Windows.{Window, LiesIn, stepped, mapped}
+use Rattle.zf_cached.specs.Windows.{Window, LiesIn, mapped}
 use Rattle.zf_cached.specs.Arrays.{Coding, array_format}
 use Rattle.zf_cached.proofs.Windows.{length-mapped}
 use Rattle.zf_array.specs.Standing.{Held, format, state, array_of, shape, block_at, place_at}
@@ -41,17 +41,10 @@ module _ (ns : List ℕ) (o s t : ℕ) (os ss ts : List ℕ) (p : Pos) (lies : L
   four = omega (arith, four_axes (s ∷ ss) p at, lies.sizes)
 
   further : (k : ℕ) → p.x + k < s → IsPosition (s ∷ ss) (along_x p k)
-  further k below =
-      let parts = and_parts (ltb p.x s) (is_inside ss rest) at.inside in
-      record {
-        inside = and_from (ltb (p.x + k) s) (is_inside ss rest) (lt-ltb (p.x + k) s below) parts.1;
-        unused = ap (λ (q : Pos). let r : Pos = record { x = p.x + k; y = q.y; z = q.z; w = q.w } in r) at.unused;
-      }
+  further k below = search (rules, and_parts, and_from, lt-ltb, below)
 
   mapped_flat : (q : Pos) → IsPosition (s ∷ ss) q → used_axes (length ns) (position_at w q) ≡ mapped w (used_axes (length (s ∷ ss)) q)
-  mapped_flat q on =
-      let four_sizes = four_axes (s ∷ ss) q on in
-      flat ns (mapped w (used_axes (length (s ∷ ss)) q)) (length-mapped ns w (used_axes (length (s ∷ ss)) q) lies (length-used_axes (length (s ∷ ss)) q four_sizes)) four
+  mapped_flat q on = search (rules, four_axes, flat, length-mapped, length-used_axes, four)
 
   module _ (k : ℕ) (lt : k < run_length w p) where
     below : p.x + k < s
@@ -64,26 +57,13 @@ module _ (ns : List ℕ) (o s t : ℕ) (os ss ts : List ℕ) (p : Pos) (lies : L
     sum = let e : o + (p.x + k) * 1 ≡ o + p.x * 1 + k = omega arith in subst (λ m. o + (p.x + k) * m ≡ o + p.x * m + k) (sym one) e
 
     block_same : block_of ns (position_at w (along_x p k)) ≡ block_of ns (position_at w p)
-    block_same =
-        ap (block_number ns) (mapped_flat (along_x p k) (further k below))
-        ∙ block_further ns (o + p.x * t) (o + (p.x + k) * t) k (stepped os ts rest) sum in_block
-        ∙ sym (ap (block_number ns) (mapped_flat p at))
+    block_same = search (rules, mapped_flat, further, below, block_further, sum, in_block)
 
     place_on : place_in ns (position_at w (along_x p k)) ≡ place_in ns (position_at w p) + k
-    place_on =
-        ap place_of (mapped_flat (along_x p k) (further k below))
-        ∙ place_further (o + p.x * t) (o + (p.x + k) * t) k (stepped os ts rest) sum in_block
-        ∙ ap (λ m. m + k) (sym (ap place_of (mapped_flat p at)))
+    place_on = search (rules, mapped_flat, further, below, place_further, sum, in_block)
 
   run_there : AreBeside ns w p (run_length w p) × (0 < run_length w p)
-  run_there = (
-    record {
-      inside = λ k lt. further k (below k lt);
-      block = block_same;
-      place = place_on;
-    },
-    omega (arith, ltb-true p.x s (and_parts (ltb p.x s) (is_inside ss rest) at.inside).0),
-  )
+  run_there = search (rules, further, below, block_same, place_on, ltb-true, and_parts)
 
 -- the window has an axis, as it has a step along x
 by_axes : (ns : List ℕ) (os ss ts : List ℕ) (p : Pos) → (let w : Window = record { origin = os; size = ss; step = ts } in

@@ -1,5 +1,5 @@
 -- Sums of the values of a window, touch by touch.
-use Rattle.std.proofs.Common.{◌≡◌, refl, sym, ap, subst, ◌∙◌, ℕ, zero, suc, ◌+◌, ◌*◌, ◌^◌, ◌<◌, ◌≤◌, ℤ, ◌+ℤ◌, FitsSigned, to_z, of_z, false, List, arith}
+use Rattle.std.proofs.Common.{◌≡◌, refl, sym, ap, subst, ◌∙◌, ℕ, zero, suc, ◌+◌, ◌*◌, ◌^◌, ◌<◌, ◌≤◌, ℤ, ◌+ℤ◌, FitsSigned, to_z, of_z, false, List, arith, rules}
 use Rattle.std.specs.Int.{w128}
 use Rattle.std.proofs.lemmas.Int.{ints, to_z-of_z}
 use Rattle.zf_base.specs.declared.position.Pos.{Pos}
@@ -42,9 +42,7 @@ sum_found-unwritten {Code} format ns s w (suc n) h =
 
 -- so does one
 pub value_unwritten : {Code : Type 0} (format : Format Code) (ns : List ℕ) (s : State Code) (b : ℕ) (p : Pos) → IsUnwritten s.codes s.values s → value_in ns (touch format s b) p ≡ value_in ns s p
-value_unwritten format ns s b p h =
-    let value_by : (ℕ → List ℤ) → ℤ = λ vs. value_in ns (record s { values = vs }) p in
-    ap value_by (touch-unwritten s.codes s.values format s b h).values
+value_unwritten format ns s b p h = search (rules, touch-unwritten)
 
 pub clean_unwritten : {Code : Type 0} (s : State Code) → ((b : ℕ) → s.dirty b ≡ false) → IsUnwritten s.codes s.values s
 clean_unwritten s clean = record { codes = refl; values = refl; clean = clean }
@@ -54,9 +52,7 @@ clean_unwritten s clean = record { codes = refl; values = refl; clean = clean }
 -- the sum of as many, and one more
 module _ (bits : ℕ) (x : ℤ) (n : ℕ) (few : n < 2 ^ 27) (sum : IsUpTo (2 ^ 63 * n) (to_z w128 bits)) (one : IsUpTo (2 ^ 63) x) where
   pub more : IsUpTo (2 ^ 63 * (n + 1)) (to_z w128 bits +ℤ x)
-  more =
-      let on : 2 ^ 63 * (n + 1) ≡ 2 ^ 63 * n + 2 ^ 63 = omega arith in
-      (omega (arith, ints, sum.0, one.0, on), omega (arith, ints, sum.1, one.1, on))
+  more = search (rules, ints)
 
   x_is : to_z w128 (of_z w128 x) ≡ x
   x_is = to_z-of_z w128 x (up_to_fits x (omega (arith, ints, one.0), omega (arith, ints, one.1)))
@@ -75,13 +71,8 @@ module _ {Code Kept : Type 0} (format : Kept → Format Code) (shape : Kept → 
     (at : p ≡ raster_at w n) (so_far : s ≡ touched_to (format k) (shape k) first w n) (touches : t ≡ touch (format l) s (block_of (shape l) p)) where
   pub touched_more : t ≡ touched_to (format k) (shape k) first w (n + 1)
   unfolding touched_to
-  touched_more =
-      let on : suc n ≡ n + 1 = omega arith in
-      touches ∙ (λ i. touch (format (same i)) (so_far i) (block_of (shape (same i)) (at i))) ∙ ap (touched_to (format k) (shape k) first w) on
+  touched_more = search rules
 
   pub found_more : (sum v : ℤ) → sum ≡ sum_found (format k) (shape k) first w n → v ≡ value_in (shape l) t p → sum +ℤ v ≡ sum_found (format k) (shape k) first w (n + 1)
   unfolding sum_found
-  found_more sum v is found =
-      let on : n + 1 ≡ suc n = omega arith in
-      let value = found ∙ (λ i. value_in (shape (same i)) (touched_more i) (at i)) ∙ ap (λ m. value_in (shape k) (touched_to (format k) (shape k) first w m) (raster_at w n)) on in
-      (λ i. is i +ℤ value i) ∙ ap (sum_found (format k) (shape k) first w) (sym on)
+  found_more sum v is found = search (rules, touched_more)

@@ -1,5 +1,5 @@
 -- Windows along four axes, and along the used ones.
-use Rattle.std.proofs.Common.{◌≡◌, ℕ, zero, suc, ◌+◌, ◌-◌, ◌*◌, ◌≤◌, true, ◌&&◌, ltb, ltb-true, leb, List, [], ◌∷◌, ◌++◌, map, length, drop, replicate, refl, ap, sym, subst, ◌∙◌, arith}
+use Rattle.std.proofs.Common.{◌≡◌, ℕ, zero, suc, ◌+◌, ◌-◌, ◌*◌, ◌≤◌, true, ◌&&◌, ltb, ltb-true, leb, List, [], ◌∷◌, ◌++◌, map, length, drop, replicate, refl, ap, sym, subst, ◌∙◌, arith, rules}
 use Rattle.std.proofs.lemmas.Bool.{and_parts, and_from}
 use Rattle.std.proofs.lemmas.List.{map-append, length-map, take-append-drop, length-drop}
 use Rattle.zf_spec.specs.Grid.{is_inside}
@@ -91,9 +91,7 @@ module _ (d : ℕ) (origin size step : Pos) (dims : d ≤ 4) (unused : AreUnused
       let ones = map-append (λ n. n - 1) (used_axes d size) (replicate (4 - d) 1) ∙ ap (λ rest. map (λ n. n - 1) (used_axes d size) ++ rest) (less_one (4 - d)) in
       ap (λ os. stepped os (axes step) (map (λ n. n - 1) (axes size))) (four 0 origin unused.origins)
       ∙ (ap (λ ts. stepped (used_axes d origin ++ replicate (4 - d) 0) ts (map (λ n. n - 1) (axes size))) (four 1 step unused.steps)
-      ∙ (ap (λ ps. stepped (used_axes d origin ++ replicate (4 - d) 0) (used_axes d step ++ replicate (4 - d) 1) ps) (ap (map (λ n. n - 1)) (four 1 size unused.sizes) ∙ ones)
-      ∙ (stepped-append (used_axes d origin) (used_axes d step) (map (λ n. n - 1) (used_axes d size)) _ _ _ (used step ∙ sym (used origin)) (length-map (used_axes d size) (λ n. n - 1) ∙ (used size ∙ sym (used origin)))
-      ∙ ap (λ rest. stepped (used_axes d origin) (used_axes d step) (map (λ n. n - 1) (used_axes d size)) ++ rest) (stepped-unused (4 - d)))))
+      ∙ (search (rules, four, stepped-append, used, length-map, stepped-unused)))
 
   -- so a test along four axes tells whether the window lies in an array
   pub lies_in-axes : (ns : List ℕ) → length ns ≡ d → length (mapped (window_of d origin size step) (map (λ n. n - 1) (used_axes d size))) ≡ d
@@ -114,18 +112,11 @@ module _ (d : ℕ) (size p : Pos) (dims : d ≤ 4) (sizes : size ≡ with_unused
       let long = length-used_axes d size dims in
       let parts = inside_parts (used_axes d size) (used_axes d p) (drop d (axes p)) (4 - d) (length-used_axes d p dims ∙ sym long) (omega (arith, length-drop d (axes p)))
       (subst (λ ns. is_inside ns (used_axes d p ++ drop d (axes p)) ≡ true) sizes_four (subst (λ ps. is_inside (axes size) ps ≡ true) (sym (take-append-drop d (axes p))) inside)) in
-      let whole : axes p ≡ used_axes d p ++ replicate (4 - d) 0 = sym (take-append-drop d (axes p)) ∙ ap (λ rest. used_axes d p ++ rest) parts.1 in
-      record {
-        inside = subst (λ k. is_inside (used_axes d size) (used_axes k p) ≡ true) (sym long) parts.0;
-        unused = same_from_axes p (with_unused 0 (used_axes (length (used_axes d size)) p))
-            (whole ∙ sym (ap (λ k. axes (with_unused 0 (used_axes k p))) long ∙ axes-with_unused 0 (used_axes d p) (omega (arith, length-used_axes d p dims)) ∙ ap (λ k. used_axes d p ++ replicate (4 - k) 0) (length-used_axes d p dims)));
-      }
+      let whole : axes p ≡ used_axes d p ++ replicate (4 - d) 0 = sym (take-append-drop d (axes p)) ∙ ap (λ rest. used_axes d p ++ rest) parts.1 in search (rules, same_from_axes, axes-with_unused, length-used_axes)
 
   pub inside-IsPosition : IsPosition (used_axes d size) p → is_inside (axes size) (axes p) ≡ true
   inside-IsPosition at =
       let long = length-used_axes d size dims in
       let whole : axes p ≡ used_axes d p ++ replicate (4 - d) 0 =
       ap axes at.unused ∙ ap (λ k. axes (with_unused 0 (used_axes k p))) long ∙ axes-with_unused 0 (used_axes d p) (omega (arith, length-used_axes d p dims)) ∙ ap (λ k. used_axes d p ++ replicate (4 - k) 0) (length-used_axes d p dims) in
-      ap (λ ps. is_inside (axes size) ps) whole ∙ ap (λ ns. is_inside ns (used_axes d p ++ replicate (4 - d) 0)) sizes_four
-      ∙ is_inside-append (used_axes d size) (used_axes d p) (4 - d) (length-used_axes d p dims ∙ sym long)
-      ∙ subst (λ k. is_inside (used_axes d size) (used_axes k p) ≡ true) long at.inside
+      search (rules, sizes_four, is_inside-append, length-used_axes)

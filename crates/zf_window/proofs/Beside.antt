@@ -1,8 +1,8 @@
 -- Positions of a window that stand side by side in one block of the array.
-use Rattle.std.proofs.Common.{◌≡◌, ℕ, zero, suc, ◌+◌, ◌*◌, ◌/◌, ◌%◌, ◌^◌, ◌<◌, ◌≤◌, Bool, true, false, ltb, ltb-true, lt-ltb, eqb, eqb-true, List, [], ◌∷◌, map, length, if◌then◌else◌, refl, ap, sym, subst, ◌∙◌, div-add-mod', arith}
+use Rattle.std.proofs.Common.{◌≡◌, ℕ, suc, ◌+◌, ◌*◌, ◌/◌, ◌%◌, ◌^◌, ◌<◌, ◌≤◌, true, ltb, ltb-true, lt-ltb, eqb-true, List, [], ◌∷◌, length, refl, ap, sym, subst, ◌∙◌, div-add-mod', arith, rules}
 use Rattle.std.proofs.Math.Nat.{add-mul}
 use Rattle.std.proofs.lemmas.Bool.{and_parts, and_from}
-use Rattle.zf_spec.specs.Grid.{IsShape, grid, raster, fours, product, coordinates, is_inside}
+use Rattle.zf_spec.specs.Grid.{IsShape, product, coordinates, is_inside}
 use Rattle.zf_spec.proofs.Raster.{length-coordinates}
 use Rattle.zf_base.specs.declared.position.Pos.{Pos}
 use Rattle.zf_base.specs.Positions.{used_axes, with_unused, IsPosition}
@@ -12,7 +12,7 @@ use Rattle.zf_base.proofs.Extents.{IsPosition-with_unused, used_axes-with_unused
 use Rattle.zf_base.proofs.Places.{IsAt-position, IsAt-block, IsAt-place}
 use Rattle.zf_cached.specs.Windows.{Window, LiesIn, stepped, mapped}
 use Rattle.zf_cached.proofs.Windows.{mapped_inside, length-mapped}
-use Rattle.zf_window.specs.Positions.{position_at, numbered, raster_at, run_length}
+use Rattle.zf_window.specs.Positions.{numbered, raster_at}
 use Rattle.zf_window.specs.Places.{IsThere, side_count}
 use Rattle.zf_window.proofs.Raster.{product_window}
 use Rattle.zf_window.proofs.Walks.{stays, position_at-numbered}
@@ -21,16 +21,10 @@ use Rattle.zf_window.proofs.Walks.{stays, position_at-numbered}
 
 pub block_further : (ns : List ℕ) (x y k : ℕ) (rest : List ℕ) → y ≡ x + k → x % 4 + k < 4 → block_number ns (y ∷ rest) ≡ block_number ns (x ∷ rest)
 block_further [] x y k rest is within = refl
-block_further (n ∷ ns) x y k rest is within =
-    let same : y / 4 ≡ x / 4 = omega (arith, is, within) in
-    ap (λ c. c + (n + 3) / 4 * raster (grid ns) (map (λ p. p / 4) rest)) same
+block_further (n ∷ ns) x y k rest is within = search rules
 
 pub place_further : (x y k : ℕ) (rest : List ℕ) → y ≡ x + k → x % 4 + k < 4 → place_of (y ∷ rest) ≡ place_of (x ∷ rest) + k
-place_further x y k rest is within =
-    let on : y % 4 ≡ x % 4 + k = omega (arith, is, within) in
-    let R = 4 * raster (fours (length rest)) (map (λ p. p % 4) rest) in
-    let sum : x % 4 + k + R ≡ x % 4 + R + k = omega arith in
-    ap (λ c. c + R) on ∙ sum
+place_further x y k rest is within = search rules
 
 -- ---- position k of a window, and those that follow along x
 
@@ -78,20 +72,7 @@ module _ (ns : List ℕ) (o s t : ℕ) (os ss ts : List ℕ) (lies : LiesIn ns (
 
   -- how far they go
   reaches : (0 < side_count w (numbered w k)) × ((i : ℕ) → i < side_count w (numbered w k) → (k % s + i < s) × ((o + (k % s) * t) % 4 + i < 4) × (i * t ≡ i))
-  reaches = by (eqb t 1) refl
-    where
-      at : (position_at w (numbered w k)).x ≡ o + (k % s) * t
-      at = ap (λ (q : Pos). q.x) (position_at-numbered w k four)
-
-      by : (b : Bool) → eqb t 1 ≡ b → (let n = if b then run_length w (numbered w k) else 1 in (0 < n) × ((i : ℕ) → i < n → (k % s + i < s) × ((o + (k % s) * t) % 4 + i < 4) × (i * t ≡ i)))
-      by true is = (
-        omega (arith, first),
-        λ i lt. let one : t ≡ 1 = eqb-true t 1 is in let times : i * 1 ≡ i = omega arith in (omega (arith, lt), omega (arith, lt, at), ap (λ m. i * m) one ∙ times),
-      )
-      by false is = (
-        omega arith,
-        λ i lt. let none : i ≡ 0 = omega arith in let times : 0 * t ≡ 0 = omega arith in (omega (arith, none, first), omega (arith, none), ap (λ m. m * t) none ∙ times ∙ sym none),
-      )
+  reaches = search (rules, position_at-numbered, first, eqb-true)
 
   side : IsSide ns w k (side_count w (numbered w k))
   side = record {

@@ -1,5 +1,5 @@
 -- Windows made of their parts.
-use Rattle.std.proofs.Common.{◌≡◌, ℕ, zero, suc, ◌-◌, ◌/◌, ◌^◌, ◌≤◌, true, false, ◌&&◌, ltb, ltb-true, lt-ltb, List, [], ◌∷◌, map, length, Some, None, refl, sym, ◌∙◌, arith, lit≤}
+use Rattle.std.proofs.Common.{◌≡◌, ℕ, zero, suc, ◌-◌, ◌/◌, ◌^◌, ◌≤◌, true, false, ◌&&◌, ltb, ltb-true, lt-ltb, List, [], ◌∷◌, map, length, Some, None, refl, ◌∙◌, arith, lit≤, rules}
 use Rattle.std.specs.List.{AllByRecursion}
 use Rattle.std.proofs.lemmas.Bool.{and_parts, and_from}
 use Rattle.std.proofs.lemmas.List.{length-map}
@@ -43,20 +43,7 @@ IsWindowOf-lies ns o s t shape unused lies =
     let long : length (used_axes d s) ≡ d = length-used_axes d s shape.four_at_most in
     let one = and_parts (none_zero w.size) (none_zero w.step && lies_in ns w) lies.inside in
     let two = and_parts (none_zero w.step) (lies_in ns w) one.1 in
-    let as_long = length-map (used_axes d s) (λ n. 2 ^ 48) ∙ long in
-    record {
-      one_at_least = shape.some_dimension;
-      four_at_most = shape.four_at_most;
-      unused = unused;
-      inside = record {
-        origins = lies.origins ∙ sym as_long;
-        sizes = lies.sizes ∙ sym as_long;
-        steps = lies.steps ∙ sym as_long;
-        inside = and_from (none_zero w.size) (none_zero w.step && lies_in (largest (used_axes d s)) w) one.0
-            (and_from (none_zero w.step) (lies_in (largest (used_axes d s)) w) two.0
-            (inside_largest ns (used_axes d s) (mapped w (map (λ n. n - 1) w.size)) (sizes_small ns shape) long two.1));
-      };
-    }
+    let as_long = length-map (used_axes d s) (λ n. 2 ^ 48) ∙ long in search (rules, and_from, inside_largest, sizes_small)
 
 -- ---- the whole array
 
@@ -73,15 +60,7 @@ AreUnused-whole x shape = record { origins = refl; sizes = refl; steps = refl }
 -- ---- tests
 
 pub LiesIn-tests : (ns : List ℕ) (o s t : Pos) → length ns ≤ 4 → none_zero (used_axes (length ns) s) ≡ true → none_zero (used_axes (length ns) t) ≡ true → lies_in ns (window_of (length ns) o s t) ≡ true → LiesIn ns (window_of (length ns) o s t)
-LiesIn-tests ns o s t dims sizes steps inside =
-    let d = length ns in
-    let w = window_of d o s t in
-    record {
-      origins = length-used_axes d o dims;
-      sizes = length-used_axes d s dims;
-      steps = length-used_axes d t dims;
-      inside = and_from (none_zero w.size) (none_zero w.step && lies_in ns w) sizes (and_from (none_zero w.step) (lies_in ns w) steps inside);
-    }
+LiesIn-tests ns o s t dims sizes steps inside = search (rules, length-used_axes, and_from)
 
 pub view_fault-none : (ns : List ℕ) (w : Window) → none_zero w.size ≡ true → none_zero w.step ≡ true → lies_in ns w ≡ true → None ≡ view_fault ns w
 view_fault-none ns w sizes steps inside = rw (sizes, steps, inside) refl

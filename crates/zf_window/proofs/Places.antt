@@ -1,5 +1,5 @@
 -- The positions that a window maps to, and its slices.
-use Rattle.std.proofs.Common.{◌≡◌, ℕ, zero, suc, ◌+◌, ◌-◌, ◌*◌, ◌^◌, ◌<◌, true, ◌&&◌, ltb, ltb-true, lt-ltb, List, [], ◌∷◌, ◌++◌, map, length, take, replicate, set, get_or, refl, ap, sym, subst, ◌∙◌, arith, get_or-set_same}
+use Rattle.std.proofs.Common.{◌≡◌, ℕ, zero, suc, ◌+◌, ◌-◌, ◌*◌, ◌^◌, ◌<◌, true, ◌&&◌, ltb, ltb-true, lt-ltb, List, [], ◌∷◌, ◌++◌, map, length, take, replicate, set, get_or, refl, ap, sym, subst, ◌∙◌, arith, get_or-set_same, rules}
 use Rattle.std.specs.List.{AllByRecursion}
 use Rattle.std.proofs.lemmas.Bool.{and_parts, and_from}
 use Rattle.std.proofs.lemmas.List.{length-map, length-set}
@@ -52,10 +52,7 @@ module _ (d : ℕ) (o s t : Pos) (w : IsWindowOf d o s t) (p : Pos) (at : IsPosi
 
   -- and it is the one with these coordinates
   pub mapped_is : (q : Pos) → axes q ≡ stepped (axes o) (axes t) (axes p) → q ≡ with_unused 0 (mapped (window_of d o s t) (used_axes (length (used_axes d s)) p))
-  mapped_is q is =
-      same_from_axes q (with_unused 0 (mapped (window_of d o s t) (used_axes d p)))
-      (is ∙ four ∙ sym (axes-with_unused 0 (mapped (window_of d o s t) (used_axes d p)) (omega (arith, mapped_long, w.four_at_most)) ∙ ap (λ k. mapped (window_of d o s t) (used_axes d p) ++ replicate (4 - k) 0) mapped_long))
-      ∙ ap (λ k. with_unused 0 (mapped (window_of d o s t) (used_axes k p))) (sym long)
+  mapped_is q is = search (rules, same_from_axes, four, axes-with_unused, mapped_long, long)
 
 -- ---- slices
 
@@ -87,9 +84,7 @@ less_one_at (n ∷ ns) (suc k) lt is = less_one_at ns k (omega arith) is
 module _ (d : ℕ) (o s t : Pos) (w : IsWindowOf d o s t) (axis at : ℕ) (on : axis < d) (there : at < get_or (axes s) axis 0) where
   -- along a used axis
   along_used : (n : ℕ) (p : Pos) → p ≡ with_unused n (used_axes d p) → get_or (axes p) axis 0 ≡ get_or (used_axes d p) axis 0
-  along_used n p is =
-      ap (λ q. get_or (axes q) axis 0) is ∙ (ap (λ xs. get_or xs axis 0) (axes-with_unused n (used_axes d p) (omega (arith, length-used_axes d p w.four_at_most, w.four_at_most)))
-      ∙ get_or-prefix (used_axes d p) (replicate (4 - length (used_axes d p)) n) axis (omega (arith, length-used_axes d p w.four_at_most)))
+  along_used n p is = search (rules, axes-with_unused, length-used_axes, get_or-prefix)
 
   used_with : (p q : Pos) (v : ℕ) → axes q ≡ set (axes p) axis v → used_axes d q ≡ set (used_axes d p) axis v
   used_with p q v is = ap (take d) is ∙ take-set-lt d (axes p) axis v on
@@ -104,9 +99,7 @@ module _ (d : ℕ) (o s t : Pos) (w : IsWindowOf d o s t) (axis at : ℕ) (on : 
       ∙ sym (axes-with_unused n (used_axes d q) (omega (arith, also, w.four_at_most)) ∙ ap (λ k. used_axes d q ++ replicate (4 - k) n) also))
 
   pub place_there : has_place (window_of d o s t) axis at ≡ true
-  place_there =
-      and_from (ltb axis (length (used_axes d s))) (ltb at (get_or (used_axes d s) axis 0)) (lt-ltb axis (length (used_axes d s)) (omega (arith, length-used_axes d s w.four_at_most)))
-      (lt-ltb at (get_or (used_axes d s) axis 0) (omega (arith, along_used 1 s w.unused.sizes)))
+  place_there = search (rules, and_from, lt-ltb, length-used_axes, along_used)
 
   slice_lies : LiesIn (largest (used_axes d s)) (sliced (window_of d o s t) axis at)
   slice_lies = LiesIn-sliced (largest (used_axes d s)) (window_of d o s t) axis at w.inside place_there
@@ -137,12 +130,7 @@ module _ (d : ℕ) (o s t : Pos) (w : IsWindowOf d o s t) (axis at : ℕ) (on : 
   -- the fields of the slice
   module _ (q r : Pos) (first : axes q ≡ set (axes o) axis (get_or (axes o) axis 0 + at * get_or (axes t) axis 0)) (only : axes r ≡ set (axes s) axis 1) where
     pub slice_is : window_of d q r t ≡ sliced (window_of d o s t) axis at
-    slice_is =
-        let v : get_or (axes o) axis 0 + at * get_or (axes t) axis 0 ≡ get_or (used_axes d o) axis 0 + at * get_or (used_axes d t) axis 0 =
-        ap (λ a. a + at * get_or (axes t) axis 0) (along_used 0 o w.unused.origins) ∙ ap (λ b. get_or (used_axes d o) axis 0 + at * b) (along_used 1 t w.unused.steps) in
-        let origin : used_axes d q ≡ set (used_axes d o) axis (get_or (used_axes d o) axis 0 + at * get_or (used_axes d t) axis 0) = used_with o q _ first ∙ ap (set (used_axes d o) axis) v in
-        let size : used_axes d r ≡ set (used_axes d s) axis 1 = used_with s r 1 only in
-        cc
+    slice_is = search (rules, along_used, used_with)
 
     pub IsWindowOf-slice : IsWindowOf d q r t
     IsWindowOf-slice =

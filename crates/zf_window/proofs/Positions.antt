@@ -1,5 +1,5 @@
 -- The position of the array that a position of a window is, is one of the array's.
-use Rattle.std.proofs.Common.{◌≡◌, ℕ, zero, suc, ◌≤◌, true, ltb, List, [], ◌∷◌, length, take, arith}
+use Rattle.std.proofs.Common.{◌≡◌, ℕ, suc, ◌≤◌, true, ltb, List, [], ◌∷◌, length, take, arith}
 use Rattle.std.proofs.lemmas.Bool.{and_parts, false≢true}
 use Rattle.zf_spec.specs.Grid.{is_inside}
 use Rattle.zf_base.specs.declared.position.Pos.{Pos}

@@ -1,5 +1,5 @@
 -- The positions of a window in raster order.
-use Rattle.std.proofs.Common.{◌≡◌, ℕ, zero, suc, ◌+◌, ◌-◌, ◌*◌, ◌≤◌, ◌<◌, true, ◌&&◌, leb, ltb, ltb-true, List, [], ◌∷◌, ◌++◌, map, length, take, replicate, refl, ap, sym, subst, ◌∙◌, arith}
+use Rattle.std.proofs.Common.{◌≡◌, ℕ, zero, suc, ◌+◌, ◌-◌, ◌*◌, ◌≤◌, ◌<◌, true, leb, ltb, ltb-true, List, [], ◌∷◌, ◌++◌, map, length, take, replicate, refl, ap, sym, subst, ◌∙◌, arith, rules}
 use Rattle.std.proofs.lemmas.Bool.{and_parts, leb-true}
 use Rattle.std.proofs.Math.Nat.{mul-le-mul_left, mul-le-mul_right, le-mul_of_pos_right}
 use Rattle.zf_spec.specs.Grid.{product, coordinates, is_inside}
@@ -8,7 +8,7 @@ use Rattle.zf_base.specs.declared.position.Pos.{Pos}
 use Rattle.zf_base.specs.Positions.{axes, used_axes, with_unused, IsPosition}
 use Rattle.zf_base.proofs.Boxes.{is_inside-coordinates, product-append_ones, coordinates-append_ones}
 use Rattle.zf_base.proofs.Extents.{IsPosition-with_unused}
-use Rattle.zf_cached.specs.Windows.{Window, LiesIn, mapped, stepped, none_zero, lies_in}
+use Rattle.zf_cached.specs.Windows.{Window, LiesIn, mapped, stepped, none_zero}
 use Rattle.zf_cached.proofs.Windows.{mapped_inside, length-mapped}
 use Rattle.zf_window.specs.Positions.{raster_at}
 use Rattle.zf_window.proofs.Axes.{sizes_four, IsPosition-inside}
@@ -59,7 +59,4 @@ product_lists (n ∷ ns) (o ∷ os) (s ∷ ss) (t ∷ ts) a b c some steps insid
 product_lists x os ss ts a b c some steps inside = absurd (omega arith)
 
 pub product_window : (ns : List ℕ) (w : Window) → LiesIn ns w → product w.size ≤ product ns
-product_window ns w lies =
-    let one = and_parts (none_zero w.size) (none_zero w.step && lies_in ns w) lies.inside in
-    let two = and_parts (none_zero w.step) (lies_in ns w) one.1 in
-    product_lists ns w.origin w.size w.step lies.origins lies.sizes lies.steps one.0 two.0 two.1
+product_window ns w lies = search (rules, and_parts, product_lists)

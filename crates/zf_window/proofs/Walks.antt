@@ -1,5 +1,5 @@
 -- Raster order by steps: from the first position of a box to the one behind it.
-use Rattle.std.proofs.Common.{◌≡◌, ℕ, zero, suc, ◌+◌, ◌-◌, ◌*◌, ◌/◌, ◌%◌, ◌<◌, ◌≤◌, Bool, true, false, ltb, ltb-true, ltb-false, List, [], ◌∷◌, ◌++◌, length, get_or, replicate, refl, ap, sym, subst, ◌∙◌, div-add-mod', arith}
+use Rattle.std.proofs.Common.{◌≡◌, ℕ, zero, suc, ◌+◌, ◌-◌, ◌*◌, ◌/◌, ◌%◌, ◌<◌, ◌≤◌, Bool, true, false, ltb, ltb-true, ltb-false, List, [], ◌∷◌, ◌++◌, length, get_or, replicate, refl, ap, sym, subst, ◌∙◌, div-add-mod', arith, rules}
 use Rattle.std.proofs.lemmas.Bool.{and_parts}
 use Rattle.std.proofs.lemmas.Nat.{div-mul-add, mod-mul-add}
 use Rattle.zf_spec.specs.Grid.{product, coordinates, is_inside}
@@ -9,7 +9,7 @@ use Rattle.zf_base.specs.Positions.{axes, used_axes, with_unused, IsPosition}
 use Rattle.zf_base.proofs.Boxes.{is_inside-coordinates, coordinates-append_ones}
 use Rattle.zf_base.proofs.Sizes.{axes-with_unused}
 use Rattle.zf_base.proofs.Extents.{length-used_axes, same_from_axes, used_axes-with_unused, IsPosition-with_unused}
-use Rattle.zf_cached.specs.Windows.{Window, mapped}
+use Rattle.zf_cached.specs.Windows.{Window}
 use Rattle.zf_window.specs.Positions.{position_at, numbered, raster_at, following, IsWalk}
 use Rattle.zf_window.proofs.Axes.{sizes_four, inside-IsPosition}
 
@@ -28,13 +28,8 @@ turns n k some last =
 -- behind the position with number k is the one with number k + 1
 following_first : (n : ℕ) (ns : List ℕ) (k : ℕ) (b : Bool) → ltb (k % n + 1) n ≡ b → k % n < n → following ns (coordinates ns (k / n)) ≡ coordinates ns (k / n + 1)
     → following (n ∷ ns) (coordinates (n ∷ ns) k) ≡ coordinates (n ∷ ns) (k + 1)
-following_first n ns k true is below rest =
-    let step = stays n k 1 (ltb-true (k % n + 1) n is) in
-    rw is (ap (λ p. p ∷ coordinates ns (k / n)) (sym step.0) ∙ ap (λ m. (k + 1) % n ∷ coordinates ns m) (sym step.1))
-following_first n ns k false is below rest =
-    let last : k % n + 1 ≡ n = omega (arith, ltb-false (k % n + 1) n is, below) in
-    let step = turns n k (omega (arith, below)) last in
-    rw is (ap (λ ps. 0 ∷ ps) rest ∙ ap (λ p. p ∷ coordinates ns (k / n + 1)) (sym step.0) ∙ ap (λ m. (k + 1) % n ∷ coordinates ns m) (sym step.1))
+following_first n ns k true is below rest = search (rules, stays, ltb-true)
+following_first n ns k false is below rest = search (rules, ltb-false, turns)
 
 pub following-coordinates : (ns : List ℕ) (k : ℕ) → is_inside ns (coordinates ns k) ≡ true → following ns (coordinates ns k) ≡ coordinates ns (k + 1)
 following-coordinates [] k inside = refl
@@ -50,11 +45,7 @@ module _ (d : ℕ) (size p q : Pos) (four : d ≤ 4) (sizes : size ≡ with_unus
   all_axes k = ap (λ ns. coordinates ns k) (sizes_four d size size four sizes) ∙ coordinates-append_ones (used_axes d size) (4 - d) k
 
   numbered_axes : (k : ℕ) → axes (with_unused 0 (coordinates (used_axes d size) k)) ≡ coordinates (axes size) k
-  numbered_axes k =
-      let long : length (coordinates (used_axes d size) k) ≡ d = length-coordinates (used_axes d size) k ∙ length-used_axes d size four in
-      axes-with_unused 0 (coordinates (used_axes d size) k) (omega (arith, long, four))
-      ∙ ap (λ n. coordinates (used_axes d size) k ++ replicate (4 - n) 0) long
-      ∙ sym (all_axes k)
+  numbered_axes k = search (rules, length-coordinates, length-used_axes, axes-with_unused, all_axes)
 
   pub after_is : (k : ℕ) → p ≡ with_unused 0 (coordinates (used_axes d size) k) → q ≡ with_unused 0 (coordinates (used_axes d size) (k + 1))
   after_is k number =
@@ -70,9 +61,7 @@ zero_at (n ∷ ns) zero = let e : 0 % n ≡ 0 = omega arith in e
 zero_at (n ∷ ns) (suc i) = let none : 0 / n ≡ 0 = omega arith in ap (λ m. get_or (coordinates ns m) i 0) none ∙ zero_at ns i
 
 pub numbered-zero : (w : Window) → (let p : Pos = record { x = 0; y = 0; z = 0; w = 0 } in p ≡ numbered w 0)
-numbered-zero w =
-    let x = zero_at w.size 0 in let y = zero_at w.size 1 in let z = zero_at w.size 2 in let t = zero_at w.size 3 in
-    sym (λ i. record { x = x i; y = y i; z = z i; w = t i })
+numbered-zero w = search (rules, zero_at)
 
 -- a position by its number is one of the window's, and is that position of the array
 module _ (w : Window) (k : ℕ) (four : length w.size ≤ 4) where
@@ -80,11 +69,7 @@ module _ (w : Window) (k : ℕ) (four : length w.size ≤ 4) where
   numbered-inside below = IsPosition-with_unused w.size (coordinates w.size k) four (length-coordinates w.size k) (is_inside-coordinates w.size k below)
 
   pub position_at-numbered : position_at w (numbered w k) ≡ raster_at w k
-  position_at-numbered =
-      let long = length-coordinates w.size k in
-      let used : used_axes (length w.size) (numbered w k) ≡ coordinates w.size k =
-      ap (λ d. used_axes d (numbered w k)) (sym long) ∙ used_axes-with_unused 0 (coordinates w.size k) (omega (arith, long, four)) in
-      ap (λ ps. with_unused 0 (mapped w ps)) used
+  position_at-numbered = search (rules, length-coordinates, used_axes-with_unused)
 
 -- so is the next position of a walk
 module _ (w : Window) (here : Pos) (next : ℕ) (is : IsWalk w here next) (below : next < product w.size) where
