@@ -56,9 +56,8 @@ Remains-bit {old} {now} {new} {budget} {left} {whole} b rest some remains append
 
 -- nothing is left of the budget, or of the list
 nothing_taken : (left : ℕ) (rest : List Bool) → min left (length rest) ≡ 0 → take left rest ≡ []
-nothing_taken zero rest none = refl
-nothing_taken (suc left) [] none = refl
 nothing_taken (suc left) (b ∷ rest) none = absurd (omega arith)
+nothing_taken left rest none = refl
 
 pub Remains-end : {old now : Writer} {budget left : ℕ} {whole rest : List Bool} → Remains old now budget left whole rest → min left (length rest) ≡ 0 → Appends old now (take budget whole)
 Remains-end {old} {now} {budget} {left} {whole} {rest} remains none = search (rules, append-nil, nothing_taken, length-take)

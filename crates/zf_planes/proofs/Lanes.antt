@@ -74,18 +74,16 @@ bit_low j c x y below small =
 row_low : (j c : ℕ) (xs ys : List ℕ) → j < c → length xs ≡ length ys → AreBelow c ys → map (λ u. is_odd (u / 2 ^ j)) (joined c xs ys) ≡ map (λ u. is_odd (u / 2 ^ j)) ys
 unfolding joined AreBelow
 row_low j c [] [] below same small = refl
-row_low j c [] (y ∷ ys) below same small = absurd (omega arith)
-row_low j c (x ∷ xs) [] below same small = absurd (omega arith)
 row_low j c (x ∷ xs) (y ∷ ys) below same small =
     ap (λ d. d ∷ map (λ u. is_odd (u / 2 ^ j)) (joined c xs ys)) (bit_low j c x y below small.0) ∙ ap (λ (ds : List Bool). is_odd (y / 2 ^ j) ∷ ds) (row_low j c xs ys below (omega arith) small.1)
+row_low j c xs ys below same small = absurd (omega arith)
 
 row_high : (i c : ℕ) (xs ys : List ℕ) → length xs ≡ length ys → AreBelow c ys → map (λ u. is_odd (u / 2 ^ (i + c))) (joined c xs ys) ≡ map (λ u. is_odd (u / 2 ^ i)) xs
 unfolding joined AreBelow
 row_high i c [] [] same small = refl
-row_high i c [] (y ∷ ys) same small = absurd (omega arith)
-row_high i c (x ∷ xs) [] same small = absurd (omega arith)
 row_high i c (x ∷ xs) (y ∷ ys) same small =
     ap (λ d. d ∷ map (λ u. is_odd (u / 2 ^ (i + c))) (joined c xs ys)) (bit_high i c x y small.0) ∙ ap (λ (ds : List Bool). is_odd (x / 2 ^ i) ∷ ds) (row_high i c xs ys (omega arith) small.1)
+row_high i c xs ys same small = absurd (omega arith)
 
 joined_low : (k c : ℕ) (xs ys : List ℕ) → k ≤ c → length xs ≡ length ys → AreBelow c ys → low_planes k (joined c xs ys) ≡ low_planes k ys
 unfolding low_planes
@@ -108,17 +106,14 @@ sum_below i c x y high low = search (rules, mul-add-lt, pow-add)
 
 pub joined_below : (i c : ℕ) (xs ys : List ℕ) → length xs ≡ length ys → AreBelow i xs → AreBelow c ys → AreBelow (i + c) (joined c xs ys)
 unfolding joined AreBelow
-joined_below i c [] [] same high low = tt
-joined_below i c [] (y ∷ ys) same high low = tt
-joined_below i c (x ∷ xs) [] same high low = tt
 joined_below i c (x ∷ xs) (y ∷ ys) same high low = (sum_below i c x y high.0 low.0, joined_below i c xs ys (omega arith) high.1 low.1)
+joined_below i c xs ys same high low = tt
 
 pub length-joined : (c : ℕ) (xs ys : List ℕ) → length xs ≡ length ys → length (joined c xs ys) ≡ length xs
 unfolding joined
-length-joined c [] [] same = refl
-length-joined c [] (y ∷ ys) same = refl
 length-joined c (x ∷ xs) [] same = absurd (omega arith)
 length-joined c (x ∷ xs) (y ∷ ys) same = ap suc (length-joined c xs ys (omega arith))
+length-joined c xs ys same = refl
 
 -- each number of the list is small
 pub each_below : (c : ℕ) (words : List ℕ) → AreBelow c words → All (λ u. u < 2 ^ c) words
@@ -231,12 +226,8 @@ gathered_down words done lanes held before = search (rules, length-lanes_in, len
 
 pub elements_below : (c : ℕ) (words : List ℕ) → length words ≡ 4 → AreBelow c words → (get_or words 0 0 < 2 ^ c) × (get_or words 1 0 < 2 ^ c) × (get_or words 2 0 < 2 ^ c) × (get_or words 3 0 < 2 ^ c)
 unfolding AreBelow
-elements_below c [] four small = absurd (omega arith)
-elements_below c (a ∷ []) four small = absurd (omega arith)
-elements_below c (a ∷ b ∷ []) four small = absurd (omega arith)
-elements_below c (a ∷ b ∷ d ∷ []) four small = absurd (omega arith)
 elements_below c (a ∷ b ∷ d ∷ e ∷ []) four small = (small.0, small.1.0, small.1.1.0, small.1.1.1.0)
-elements_below c (a ∷ b ∷ d ∷ e ∷ f ∷ words) four small = absurd (omega arith)
+elements_below c words four small = absurd (omega arith)
 
 lanes_below : (c v : ℕ) → AreBelow c (lanes_in 4 v) → (v % 65536 < 2 ^ c) × (v / 65536 % 65536 < 2 ^ c) × (v / 65536 / 65536 % 65536 < 2 ^ c) × (v / 65536 / 65536 / 65536 % 65536 < 2 ^ c)
 unfolding AreBelow lanes_in
@@ -258,17 +249,13 @@ put_together : (words : List ℕ) (done lanes held : ℕ) → length words ≡ 4
     ≡ (get_or words 0 0 * 2 ^ held % 2 ^ 64 + lanes % 65536) ∷ (get_or words 1 0 * 2 ^ held % 2 ^ 64 + lanes / 65536 % 65536)
     ∷ (get_or words 2 0 * 2 ^ held % 2 ^ 64 + lanes / 65536 / 65536 % 65536) ∷ (get_or words 3 0 * 2 ^ held % 2 ^ 64 + lanes / 65536 / 65536 / 65536 % 65536) ∷ []
 unfolding joined lanes_in AreBelow
-put_together [] done lanes held four small room = absurd (omega arith)
-put_together (a ∷ []) done lanes held four small room = absurd (omega arith)
-put_together (a ∷ b ∷ []) done lanes held four small room = absurd (omega arith)
-put_together (a ∷ b ∷ d ∷ []) done lanes held four small room = absurd (omega arith)
 put_together (a ∷ b ∷ d ∷ e ∷ []) done lanes held four small room =
     let first : a * 2 ^ held % 2 ^ 64 ≡ a * 2 ^ held = shl_whole a done held 64 small.0 room in
     let second : b * 2 ^ held % 2 ^ 64 ≡ b * 2 ^ held = shl_whole b done held 64 small.1.0 room in
     let third : d * 2 ^ held % 2 ^ 64 ≡ d * 2 ^ held = shl_whole d done held 64 small.1.1.0 room in
     let fourth : e * 2 ^ held % 2 ^ 64 ≡ e * 2 ^ held = shl_whole e done held 64 small.1.1.1.0 room in
     rw (first, second, third, fourth) refl
-put_together (a ∷ b ∷ d ∷ e ∷ f ∷ words) done lanes held four small room = absurd (omega arith)
+put_together words done lanes held four small room = absurd (omega arith)
 
 -- they are the words with the lanes below
 pub put_words : (words : List ℕ) (done lanes held : ℕ) → IsGathered words done lanes held → done + held ≤ 64

@@ -167,16 +167,10 @@ reach_of_one n v ds within is =
 cut_own : (r : ℕ) (s : List Bool) → r < 4 → r ≤ length s → (plane_bits r 4 4 s ≡ r) × (plane_ahead r 4 4 s ≡ take r s ++ replicate (4 - r) false)
 unfolding plane_bits plane_ahead
 cut_own zero s few there = (refl, refl)
-cut_own (suc zero) [] few there = absurd (omega arith)
 cut_own (suc zero) (a ∷ s) few there = (refl, refl)
-cut_own (suc (suc zero)) [] few there = absurd (omega arith)
-cut_own (suc (suc zero)) (a ∷ []) few there = absurd (omega arith)
 cut_own (suc (suc zero)) (a ∷ b ∷ s) few there = (refl, refl)
-cut_own (suc (suc (suc zero))) [] few there = absurd (omega arith)
-cut_own (suc (suc (suc zero))) (a ∷ []) few there = absurd (omega arith)
-cut_own (suc (suc (suc zero))) (a ∷ b ∷ []) few there = absurd (omega arith)
 cut_own (suc (suc (suc zero))) (a ∷ b ∷ c ∷ s) few there = (refl, refl)
-cut_own (suc (suc (suc (suc r)))) s few there = absurd (omega arith)
+cut_own r s few there = absurd (omega arith)
 
 -- the first of them
 own_plane : (r v : ℕ) (s : List Bool) → min r 4 ≤ length s → field (min r 4) v ≡ take (min r 4) s → (r < 4 → v < 2 ^ r) → (plane_bits r 4 4 s ≡ min r 4) × (plane_ahead r 4 4 s ≡ field 4 v)
@@ -301,7 +295,7 @@ lone_plane : (e : ℕ) → e < 2 → low_planes 1 (lanes_in 4 e) ≡ (is_odd e �
 unfolding low_planes lanes_in
 lone_plane zero small = refl
 lone_plane (suc zero) small = refl
-lone_plane (suc (suc e)) small = absurd (omega arith)
+lone_plane e small = absurd (omega arith)
 
 lone_below : (e : ℕ) → e < 2 → AreBelow 1 (lanes_in 4 e)
 unfolding lanes_in AreBelow

@@ -24,23 +24,16 @@ pub record IsFour (ds : List Bool) : Type 0 where
   pub is : ds ≡ first ∷ second ∷ third ∷ fourth ∷ []
 
 pub four_of : (ds : List Bool) → length ds ≡ 4 → IsFour ds
-four_of [] long = absurd (omega (arith, long))
-four_of (a ∷ []) long = absurd (omega (arith, long))
-four_of (a ∷ b ∷ []) long = absurd (omega (arith, long))
-four_of (a ∷ b ∷ c ∷ []) long = absurd (omega (arith, long))
 four_of (a ∷ b ∷ c ∷ d ∷ []) long = record { first = a; second = b; third = c; fourth = d; is = refl }
-four_of (a ∷ b ∷ c ∷ d ∷ e ∷ ds) long = absurd (omega (arith, long))
+four_of ds long = absurd (omega (arith, long))
 
 -- ---- one plane
 
 own_code : (n : ℕ) (a b c d : Bool) → 3 ≤ n → n ≤ 4 → plane_code n (a ∷ b ∷ c ∷ d ∷ []) ≡ a ∷ b ∷ c ∷ d ∷ []
-own_code zero a b c d low high = absurd (omega arith)
-own_code (suc zero) a b c d low high = absurd (omega arith)
-own_code (suc (suc zero)) a b c d low high = absurd (omega arith)
 own_code (suc (suc (suc zero))) a b c true low high = refl
 own_code (suc (suc (suc zero))) a b c false low high = refl
 own_code (suc (suc (suc (suc zero)))) a b c d low high = refl
-own_code (suc (suc (suc (suc (suc n))))) a b c d low high = absurd (omega arith)
+own_code n a b c d low high = absurd (omega arith)
 
 -- its code
 pub plane_of_three : (n : ℕ) (ds : List Bool) → 3 ≤ n → n ≤ 4 → length ds ≡ 4 → plane_code n ds ≡ ds
@@ -50,15 +43,12 @@ plane_of_three n ds low high long =
 
 -- what a budget keeps of it
 kept_short : (r : ℕ) (a b c d : Bool) → r < 4 → kept_plane r 3 (a ∷ b ∷ c ∷ d ∷ []) ≡ kept_plane r 4 (a ∷ b ∷ c ∷ d ∷ [])
-kept_short zero a b c true few = refl
-kept_short zero a b c false few = refl
-kept_short (suc zero) a b c true few = refl
-kept_short (suc zero) a b c false few = refl
-kept_short (suc (suc zero)) a b c true few = refl
-kept_short (suc (suc zero)) a b c false few = refl
-kept_short (suc (suc (suc zero))) a b c true few = refl
-kept_short (suc (suc (suc zero))) a b c false few = refl
 kept_short (suc (suc (suc (suc r)))) a b c d few = absurd (omega arith)
+kept_short zero a b c true few = refl
+kept_short (suc zero) a b c true few = refl
+kept_short (suc (suc zero)) a b c true few = refl
+kept_short (suc (suc (suc zero))) a b c true few = refl
+kept_short r a b c d few = refl
 
 kept_of_three : (n r : ℕ) (ds : List Bool) → 3 ≤ n → n ≤ 4 → length ds ≡ 4 → kept_plane r n ds ≡ kept_plane r 4 ds
 kept_of_three n r ds low high long = ⊎_elim
@@ -71,21 +61,11 @@ kept_of_three n r ds low high long = ⊎_elim
 
 -- what bits make of it
 read_of_three : (n : ℕ) (s : List Bool) → 3 ≤ n → n ≤ 4 → plane_in 4 n s ≡ plane_in 4 4 s
-read_of_three zero s low high = absurd (omega arith)
-read_of_three (suc zero) s low high = absurd (omega arith)
-read_of_three (suc (suc zero)) s low high = absurd (omega arith)
-read_of_three (suc (suc (suc zero))) [] low high = refl
-read_of_three (suc (suc (suc zero))) (a ∷ []) low high = refl
-read_of_three (suc (suc (suc zero))) (a ∷ b ∷ []) low high = refl
-read_of_three (suc (suc (suc zero))) (a ∷ b ∷ c ∷ []) low high = refl
-read_of_three (suc (suc (suc zero))) (a ∷ b ∷ c ∷ true ∷ []) low high = refl
-read_of_three (suc (suc (suc zero))) (a ∷ b ∷ c ∷ false ∷ []) low high = refl
 read_of_three (suc (suc (suc zero))) (a ∷ b ∷ c ∷ true ∷ true ∷ s) low high = refl
-read_of_three (suc (suc (suc zero))) (a ∷ b ∷ c ∷ true ∷ false ∷ s) low high = refl
 read_of_three (suc (suc (suc zero))) (a ∷ b ∷ c ∷ false ∷ true ∷ s) low high = refl
-read_of_three (suc (suc (suc zero))) (a ∷ b ∷ c ∷ false ∷ false ∷ s) low high = refl
+read_of_three (suc (suc (suc zero))) s low high = refl
 read_of_three (suc (suc (suc (suc zero)))) s low high = refl
-read_of_three (suc (suc (suc (suc (suc n))))) s low high = absurd (omega arith)
+read_of_three n s low high = absurd (omega arith)
 
 -- ---- planes
 

@@ -68,9 +68,8 @@ length-code_words-le prec size planes within enough =
 -- ---- the ones of a word
 
 digit_of : (k : ℕ) → k < 2 → k ≡ cond (eqb k 1) 1 0
-digit_of zero small = refl
-digit_of (suc zero) small = refl
 digit_of (suc (suc k)) small = absurd (omega arith)
+digit_of k small = refl
 
 field_ones : (n v : ℕ) → v < 2 ^ n → number_ones v ≡ ones (field n v)
 field_ones zero v small = omega (arith, ones_le_self v)

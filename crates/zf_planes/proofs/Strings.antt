@@ -40,8 +40,6 @@ pub pair_of_string : (n k string next : ℕ) (bits : List Bool) → 1 < k
     → bits ≡ plane_code n (field 4 (string % 16)) ++ plane_code (max n (reach (field 4 (string % 16)))) (field 4 (string / 16 % 16))
     → next ≡ max (max n (reach (field 4 (string % 16)))) (reach (field 4 (string / 16 % 16)))
     → GoesOn n (string_planes k string) bits next (string_planes (k - 2) (string / 256))
-pair_of_string n zero string next bits some is reached = absurd (omega arith)
-pair_of_string n (suc zero) string next bits some is reached = absurd (omega arith)
 pair_of_string n (suc (suc k)) string next bits some is reached =
     let mid = max n (reach (field 4 (string % 16))) in
     let left : suc (suc k) - 2 ≡ k = omega arith in
@@ -49,6 +47,7 @@ pair_of_string n (suc (suc k)) string next bits some is reached =
     let first = plane_of_string n (suc k) string mid (plane_code n (field 4 (string % 16))) refl refl in
     let second = plane_of_string mid k (string / 16) next (plane_code mid (field 4 (string / 16 % 16))) refl reached in
     rw (left, below) (GoesOn-more bits first second is)
+pair_of_string n k string next bits some is reached = absurd (omega arith)
 
 -- the same of one plane
 pub next_of_string : (n k string next : ℕ) (bits : List Bool) → 0 < k → bits ≡ plane_code n (field 4 (string % 16)) → next ≡ max n (reach (field 4 (string % 16)))
