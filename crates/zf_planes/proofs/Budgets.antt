@@ -32,10 +32,8 @@ Remains-more {old} {now} {new} {budget} {left} {whole} more rest remains appends
     let written = length-take left more in
     record {
       bits =
-          ap (λ (xs : List Bool). xs ++ take (left - length more) rest) appends.bits
-          ∙ append_assoc now.bits (take left more) (take (left - length more) rest)
-          ∙ ap (λ (xs : List Bool). now.bits ++ xs) (sym (take_append left more rest))
-          ∙ remains.bits;
+          cc (appends.bits, append_assoc now.bits (take left more) (take (left - length more) rest),
+              take_append left more rest, remains.bits);
       spent = omega (arith, remains.spent);
       fits = omega (arith, remains.fits, appends.room);
       room = omega (arith, remains.room, appends.room);
@@ -70,13 +68,10 @@ Remains-through {old} {now} {new} {budget} {left} {after} {whole} code rest more
     let short = length-append rest more in
     record {
       bits =
-          ap (λ (xs : List Bool). new.bits ++ xs) (take_append after rest more)
-          ∙ sym (append_assoc new.bits (take after rest) (take (after - length rest) more))
-          ∙ ap (λ (xs : List Bool). xs ++ take (after - length rest) more) inner.bits
-          ∙ append_assoc now.bits (take left code) (take (after - length rest) more)
-          ∙ ap (λ k. now.bits ++ (take left code ++ take k more)) inner.spent
-          ∙ ap (λ (xs : List Bool). now.bits ++ xs) (sym (take_append left code more))
-          ∙ outer.bits;
+          cc (take_append after rest more,
+              append_assoc new.bits (take after rest) (take (after - length rest) more), inner.bits,
+              append_assoc now.bits (take left code) (take (after - length rest) more), inner.spent,
+              take_append left code more, outer.bits);
       spent = omega (arith, outer.spent, inner.spent);
       fits = omega (arith, outer.fits, inner.room, inner.spent, inner.within, inner.fits);
       room = omega (arith, outer.room, outer.fits, inner.room, inner.spent, inner.within);

@@ -151,10 +151,8 @@ shl_low : (v s i : ℕ) → i < s → s < 64 → bit_at (v * 2 ^ s % 2 ^ 64) i �
 shl_low v s i low small =
     let n = v * 2 ^ s in
     let whole : n ≡ n + 0 = omega arith in
-    sym (bit_at_cat_low (n / 2 ^ 64) 64 (n % 2 ^ 64) i (omega arith))
-    ∙ ap (λ m. bit_at m i) (div-add-mod' n (2 ^ 64) ∙ whole)
-    ∙ bit_at_cat_low v s 0 i low
-    ∙ bit_at-zero i
+    cc (bit_at_cat_low (n / 2 ^ 64) 64 (n % 2 ^ 64) i (omega arith), div-add-mod' n (2 ^ 64),
+        bit_at_cat_low v s 0 i low, bit_at-zero i)
 
 -- the digit of a rank whose word is w, after that word is shifted up so that bit `top` is the highest
 digit_shifted : (size top r w : ℕ) (ws : List ℕ) → w ≡ get_or ws (top / 64) 0 → size ≤ 64 * length ws → top / 64 ≡ r / 64 → r ≤ top → r < size

@@ -54,17 +54,15 @@ run_ends (e ∷ es) none n = ap (λ t. true ∷ cond t (true ∷ code_from_run (
 pub run_zeros_behind : (ds : List Bool) (k : ℕ) → has_one ds ≡ true → code_from_run (ds ++ replicate (suc k) false) ≡ code_from_run (ds ++ false ∷ [])
 run_zeros_behind [] k one = absurd (false≢true one)
 run_zeros_behind (false ∷ ds) k one =
-    zero_once (ds ++ replicate (suc k) false) (has_one-zeros_behind ds (suc k) ∙ one)
-    ∙ ap (λ bs. false ∷ bs) (run_zeros_behind ds k one)
-    ∙ sym (zero_once (ds ++ false ∷ []) (has_one-zeros_behind ds 1 ∙ one))
+    cc (zero_once (ds ++ replicate (suc k) false) (has_one-zeros_behind ds (suc k) ∙ one),
+        run_zeros_behind ds k one, zero_once (ds ++ false ∷ []) (has_one-zeros_behind ds 1 ∙ one))
 run_zeros_behind (true ∷ ds) k one = by (has_one ds) refl (λ more. run_zeros_behind ds k more)
   where
     by : (t : Bool) → has_one ds ≡ t → (has_one ds ≡ true → code_from_run (ds ++ replicate (suc k) false) ≡ code_from_run (ds ++ false ∷ []))
         → code_from_run (true ∷ (ds ++ replicate (suc k) false)) ≡ code_from_run (true ∷ (ds ++ false ∷ []))
     by true more rest =
-        one_doubled (ds ++ replicate (suc k) false) (has_one-zeros_behind ds (suc k) ∙ more)
-        ∙ ap (λ bs. true ∷ true ∷ bs) (rest more)
-        ∙ sym (one_doubled (ds ++ false ∷ []) (has_one-zeros_behind ds 1 ∙ more))
+        cc (one_doubled (ds ++ replicate (suc k) false) (has_one-zeros_behind ds (suc k) ∙ more), rest more,
+            one_doubled (ds ++ false ∷ []) (has_one-zeros_behind ds 1 ∙ more))
     by false none rest = run_ends ds none k ∙ sym (run_ends ds none 0)
 
 -- ---- a number below 2^n that is not 0 has a one among its n lowest bits
@@ -132,10 +130,8 @@ run_of_entry_to_9 most digits e some nine one eight within is =
     let prefix : i / 256 + 1 ≡ most = omega arith in
     let low : i % 256 ≡ digits = omega arith in
     let whole : test_run most digits e ≡ true =
-    ap (λ k. test_run k digits e) (sym prefix)
-    ∙ ap (λ k. test_run (i / 256 + 1) k e) (sym low)
-    ∙ ap (test_run (i / 256 + 1) (i % 256)) (is ∙ ap (λ k. get_or DOUBLED k 0) (sym low))
-    ∙ each_below-true (λ j. test_run (j / 256 + 1) (j % 256) (get_or DOUBLED (j % 256) 0)) 2304 i test_runs (omega arith) in
+    cc (
+        each_below-true (λ j. test_run (j / 256 + 1) (j % 256) (get_or DOUBLED (j % 256) 0)) 2304 i test_runs (omega arith)) in
     let there : eqb digits 0 ≡ false = grind (arith, nat_tests) in search (rules, lt-ltb, and_parts, same_digits, same_digits-true, ltb-true)
 
 -- more digits make no difference, where they are zeros
@@ -192,10 +188,9 @@ run_goes_on most digits some within =
       more = long;
       below = below;
       code =
-          ap (λ k. code_from_run (field k digits)) parts
-          ∙ ap code_from_run (field-add 8 (most - 8) digits)
-          ∙ run_doubled (field 8 digits) (field (most - 8) (digits / 256)) (has_one-field (most - 8) (digits / 256) (omega arith) below)
-          ∙ ap (λ (ds : List Bool). doubled ds ++ code_from_run (field (most - 8) (digits / 256))) (sym (field-mod 8 digits));
+          cc (field-add 8 (most - 8) digits,
+              run_doubled (field 8 digits) (field (most - 8) (digits / 256)) (has_one-field (most - 8) (digits / 256) (omega arith) below),
+              field-mod 8 digits);
     }
   where
     long : 8 < most

@@ -89,8 +89,7 @@ joined_low : (k c : ℕ) (xs ys : List ℕ) → k ≤ c → length xs ≡ length
 unfolding low_planes
 joined_low zero c xs ys few same small = refl
 joined_low (suc k) c xs ys few same small =
-    ap (λ (ds : List Bool). ds ∷ low_planes k (joined c xs ys)) (row_low k c xs ys (omega arith) same small)
-    ∙ ap (λ (ps : List (List Bool)). map (λ u. is_odd (u / 2 ^ k)) ys ∷ ps) (joined_low k c xs ys (omega arith) same small)
+    cc (row_low k c xs ys (omega arith) same small, joined_low k c xs ys (omega arith) same small)
 
 pub planes_joined : (i c : ℕ) (xs ys : List ℕ) → length xs ≡ length ys → AreBelow c ys → low_planes (i + c) (joined c xs ys) ≡ low_planes i xs ++ low_planes c ys
 unfolding low_planes
@@ -160,9 +159,7 @@ unfolding lanes_in AreBelow joined
 lanes_joined zero v e h c high low room = refl
 lanes_joined (suc k) v e h c high low room =
     let one = lane_and_above v e h c high.0 low.0 room in
-    ap (λ u. u ∷ lanes_in k ((v * 2 ^ c + e) / 65536)) one.0
-    ∙ ap (λ u. (v % 65536 * 2 ^ c + e % 65536) ∷ lanes_in k u) one.1
-    ∙ ap (λ (us : List ℕ). (v % 65536 * 2 ^ c + e % 65536) ∷ us) (lanes_joined k (v / 65536) (e / 65536) h c high.1 low.1 room)
+    cc (one.0, one.1, lanes_joined k (v / 65536) (e / 65536) h c high.1 low.1 room)
 
 -- lanes of which each has room are lost by no word
 none_above : (k v : ℕ) → v < 65536 ^ k → above_lanes k v ≡ 0

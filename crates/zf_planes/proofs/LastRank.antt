@@ -76,8 +76,7 @@ code_of_three n m (ds ∷ planes) low high low' high' sizes =
     let long : length ds ≡ 4 = All-head (λ es. length es ≡ 4) ds planes sizes in
     let below = All-tail (λ es. length es ≡ 4) ds planes sizes in
     let rest = code_of_three (max n (reach ds)) (max m (reach ds)) planes (omega arith) (reach_within 4 n ds high long) (omega arith) (reach_within 4 m ds high' long) below in
-    ap (λ (bs : List Bool). bs ++ code_from (max n (reach ds)) planes) (plane_of_three n ds low high long ∙ sym (plane_of_three m ds low' high' long))
-    ∙ ap (λ (bs : List Bool). plane_code m ds ++ bs) rest
+    cc (plane_of_three n ds low high long, plane_of_three m ds low' high' long)
 
 -- so the ones reach as far, as a code sees it
 pub code_as_good : (m n : ℕ) (planes : List (List Bool)) → IsAsGood m n → m ≤ 4 → n ≤ 4 → AreOfSize 4 planes → code_from m planes ≡ code_from n planes

@@ -28,11 +28,7 @@ clear_later n m ws order clear =
     let bits = word_bits ws in
     let place : n + (m - n) ≡ m = omega arith in
     let count : length bits - n - (m - n) ≡ length bits - m = omega arith in
-    ap (λ k. drop k bits) (sym place)
-    ∙ sym (drop-drop (m - n) n bits)
-    ∙ ap (drop (m - n)) clear
-    ∙ drop-replicate (m - n) (length bits - n) false
-    ∙ ap (λ k. replicate k false) count
+    cc (drop-drop (m - n) n bits, drop-replicate (m - n) (length bits - n) false)
 
 pub held_zeros : (size k : ℕ) → size ≤ 64 * k → digits_held size (replicate k 0) ≡ replicate size false
 unfolding digits_held
@@ -61,10 +57,8 @@ word_filled ws at q n x s place small within word long clear =
     ap (λ k. drop k bits) next ∙ sym (drop-drop 64 at bits) ∙ ap (drop 64) clear ∙ drop-replicate 64 (length bits - at) false in
     let more = replicate (64 - n) false ++ drop (64 * suc q) bits in
     let whole : word_bits (set ws q x) ≡ (take at bits ++ s) ++ more =
-    words-set 64 q ws x within
-    ∙ ap (λ k. take k bits ++ (field 64 x ++ drop (64 * suc q) bits)) (sym place)
-    ∙ ap (λ (xs : List Bool). take at bits ++ (xs ++ drop (64 * suc q) bits)) word
-    ∙ regroup (take at bits) s (replicate (64 - n) false) (drop (64 * suc q) bits) in
+    cc (words-set 64 q ws x within,
+        regroup (take at bits) s (replicate (64 - n) false) (drop (64 * suc q) bits)) in
     let prefix : length (take at bits ++ s) ≡ at + n = omega (arith, length-append (take at bits) s, length-take at bits) in
     let same : 64 - n + (length bits - at - 64) ≡ length (word_bits (set ws q x)) - (at + n) = omega (arith, length-word_bits (set ws q x), length-set ws q x) in
         search (rules, take_at, drop_at, replicate-append-replicate)

@@ -23,9 +23,7 @@ pub record GoesOn (n : ℕ) (planes : List (List Bool)) (bits : List Bool) (m : 
 pub GoesOn-more : {n m k : ℕ} {planes rest last : List (List Bool)} {prefix back : List Bool} (both : List Bool) → GoesOn n planes prefix m rest → GoesOn m rest back k last → both ≡ prefix ++ back
     → GoesOn n planes both k last
 GoesOn-more {n} {m} {k} {planes} {rest} {last} {prefix} {back} both first second joined = record {
-  code =
-      first.code ∙ ap (λ (bs : List Bool). prefix ++ bs) second.code ∙ sym (append_assoc prefix back (code_from k last))
-      ∙ ap (λ (bs : List Bool). bs ++ code_from k last) (sym joined);
+  code = cc (first.code, second.code, append_assoc prefix back (code_from k last));
   reached = first.reached ∙ second.reached;
 }
 
@@ -93,10 +91,7 @@ whole_string (suc k) string =
     let far : max 4 (reach digits) ≡ 4 = omega (arith, reach-le digits, length-field 4 string) in
     let whole : plane_code 4 digits ≡ digits = plane_whole 4 string in
     let count : 4 * suc k ≡ 4 + 4 * k = omega arith in
-    ap (λ (bs : List Bool). bs ++ code_from (max 4 (reach digits)) (string_planes k (string / 16))) whole
-    ∙ ap (λ n. digits ++ code_from n (string_planes k (string / 16))) far
-    ∙ ap (λ (bs : List Bool). digits ++ bs) (whole_string k (string / 16))
-    ∙ sym (ap (λ n. field n string) count ∙ field-add 4 (4 * k) string)
+    cc (whole_string k (string / 16), field-add 4 (4 * k) string)
 
 pub own_string : (n k string : ℕ) → 3 ≤ n → n ≤ 4 → code_from n (string_planes k string) ≡ field (4 * k) string
 own_string n k string low high = code_of_three n 4 (string_planes k string) low high (omega arith) (omega arith) (four_digits k string) ∙ whole_string k string

@@ -60,10 +60,9 @@ loop-n-preserved g c =
     record {
       passes = Passes-part (tail_bits left' (c.args.size - (n + z + 1)) s') before.passes bits' taken;
       digits =
-          before.digits
-          ∙ ap (λ (ds : List Bool). digits_held n old ++ ds) digits'
-          ∙ regroup (digits_held n old) (replicate z false) (tail_ahead left' (c.args.size - (n + z + 1)) s')
-          ∙ ap (λ (ds : List Bool). ds ++ tail_ahead left' (c.args.size - (n + z + 1)) s') (sym placed.0);
+          cc (before.digits,
+              regroup (digits_held n old) (replicate z false) (tail_ahead left' (c.args.size - (n + z + 1)) s'),
+              placed.0);
       clear = placed.1;
       within = omega (arith, ok.within, before.within);
       above = omega (arith, before.above, reached, long);

@@ -48,10 +48,9 @@ loop-digits-preserved g c =
     let rest = drop (c.loop-digits.i + 1) (take c.args.prec (planes_held size (map words c.args.planes.now))) in
     let three : c.loop-i.above ≡ 3 = c.loop-digits-test.true in
     let back : code_from 3 (drop c.loop-digits.i (take c.args.prec (planes_held size (map words c.args.planes.now)))) ≡ field more.result.len more.result.bits ++ code_from 3 rest =
-    code_next words 3 c.args.prec size c.loop-digits.i c.args.planes.now plane c.index-planes-planes-in-loop-digits.is c.if-i-prec.true c.requires.planes
-    ∙ ap (λ (es : List Bool). plane_code 3 es ++ code_from (max 3 (reach es)) rest) (sym c.first_word-digits.ensures.digits)
-    ∙ ap (λ (bs : List Bool). bs ++ code_from (max 3 (reach ds)) rest) more.ensures.code
-    ∙ ap (λ n. field more.result.len more.result.bits ++ code_from n rest) more.ensures.same in
+    cc (
+        code_next words 3 c.args.prec size c.loop-digits.i c.args.planes.now plane c.index-planes-planes-in-loop-digits.is c.if-i-prec.true c.requires.planes,
+        c.first_word-digits.ensures.digits, more.ensures.code, more.ensures.same) in
     record {
       code =
           c.loop-digits.invariant.code
