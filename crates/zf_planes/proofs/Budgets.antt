@@ -1,6 +1,6 @@
 -- A list that is written in parts, as far as a budget of bits reaches.
 use Rattle.std.proofs.Common.{rules}
-use Rattle.std.proofs.Common.{◌≡◌, ℕ, suc, zero, ◌-◌, ◌<◌, ◌≤◌, min, Bool, List, [], ◌∷◌, ◌++◌, length, take, refl, sym, ap, subst, ◌∙◌, arith, append_assoc, length-append}
+use Rattle.std.proofs.Common.{◌≡◌, ℕ, suc, zero, ◌-◌, ◌<◌, ◌≤◌, min, Bool, List, [], ◌∷◌, ◌++◌, length, take, refl, sym, ap, subst, arith, append_assoc, length-append}
 use Rattle.std.proofs.lemmas.List.{length-take, append-nil}
 use Rattle.zf_bits.specs.Writer.{Writer, Appends}
 use Rattle.zf_planes.specs.Writes.{Remains}
@@ -81,7 +81,3 @@ Remains-through {old} {now} {new} {budget} {left} {after} {whole} code rest more
 -- all of the rest is written but for its end
 pub Remains-but : {old now new : Writer} {budget left after : ℕ} {whole : List Bool} (code rest : List Bool) → Remains old now budget left whole code → Remains now new left after code rest → Remains old new budget after whole rest
 Remains-but code rest outer inner = Remains-same (Remains-through code rest [] (Remains-same outer (sym (append-nil code))) inner) (append-nil rest)
-
--- the whole by another name
-pub Remains-whole : {old now : Writer} {budget left : ℕ} {whole whole' : List Bool} {rest : List Bool} → Remains old now budget left whole rest → whole ≡ whole' → Remains old now budget left whole' rest
-Remains-whole {old} {now} {budget} {left} {whole} {whole'} {rest} remains same = let P : List Bool → Type 0 = λ xs. Remains old now budget left xs rest in subst P same remains

@@ -71,9 +71,7 @@ zeros_by_bits size at m w ws is long same bits j from below =
     ⊎_elim
     (λ (inside : j < size).
     let place : at + (j - at) ≡ j = omega arith in
-    ap (λ i. get_or (digits_held size ws) i false) (sym place)
-    ∙ digit_in_word size at (j - at) w ws is long (omega arith) (omega arith)
-    ∙ ap (λ b. eqb b 1) (bits (j - at) (omega arith)))
+    cc (digit_in_word size at (j - at) w ws is long (omega arith) (omega arith), bits (j - at) (omega arith)))
     (λ (past : size ≤ j). past_size size j ws long past)
     (cases_lt j size)
 
@@ -93,9 +91,7 @@ split_prefix [] m within zeros one = absurd (omega arith)
 split_prefix (x ∷ xs) zero within zeros one = ap (λ b. b ∷ xs) one
 split_prefix (x ∷ xs) (suc m) within zeros one =
     let e : suc m + 1 ≡ suc (m + 1) = omega arith in
-    rw e
-    (ap (λ b. b ∷ xs) (zeros 0 (omega arith))
-    ∙ ap (λ ys. false ∷ ys) (split_prefix xs m (omega arith) (λ i below. zeros (suc i) (omega arith)) one))
+    rw e (cc (zeros 0 (omega arith), split_prefix xs m (omega arith) (λ i below. zeros (suc i) (omega arith)) one))
 
 -- rank k has the next one from rank n on
 pub record IsNextOne (ds : List Bool) (n k : ℕ) : Type 0 where
@@ -169,9 +165,8 @@ pub none_in_word : (size end w : ℕ) (ws : List ℕ) → 0 < end → end ≤ si
 none_in_word size end w ws some within is long zeros none j from =
     ⊎_elim
     (λ (below : j < end).
-    digit_shifted size (end - 1) j w ws is long (omega arith) (omega arith) (omega arith)
-    ∙ ap (λ v. eqb (bit_at v (j % 64 + (63 - (end - 1) % 64))) 1) none
-    ∙ ap (λ b. eqb b 1) (bit_at-zero (j % 64 + (63 - (end - 1) % 64))))
+    cc (digit_shifted size (end - 1) j w ws is long (omega arith) (omega arith) (omega arith),
+        bit_at-zero (j % 64 + (63 - (end - 1) % 64))))
     (λ (above : end ≤ j). zeros j above)
     (cases_lt j end)
 
@@ -200,9 +195,7 @@ reach_in_word size end w ws some within is long zeros one fits =
           (cases_lt k end))
           (λ k last.
           let place : k % 64 + s ≡ j = omega arith in
-          digit_shifted size (end - 1) k w ws is long (omega arith) (omega arith) (omega arith)
-          ∙ ap (λ i. eqb (bit_at a i) 1) place
-          ∙ ap (λ b. eqb b 1) set),
+          cc (digit_shifted size (end - 1) k w ws is long (omega arith) (omega arith) (omega arith))),
     )
 
 pub reach_none_from : (ds : List Bool) → IsZeroFrom ds 0 → 0 ≡ reach ds

@@ -96,9 +96,7 @@ unfolding low_planes
 planes_joined zero c xs ys same small = let all : zero + c ≡ c = omega arith in rw all (joined_low c c xs ys (omega arith) same small)
 planes_joined (suc i) c xs ys same small =
     let next : suc i + c ≡ suc (i + c) = omega arith in
-    rw next
-    (ap (λ (ds : List Bool). ds ∷ low_planes (i + c) (joined c xs ys)) (row_high i c xs ys same small)
-    ∙ ap (λ (ps : List (List Bool)). map (λ u. is_odd (u / 2 ^ i)) xs ∷ ps) (planes_joined i c xs ys same small))
+    rw next (cc (row_high i c xs ys same small, planes_joined i c xs ys same small))
 
 sum_below : (i c x y : ℕ) → x < 2 ^ i → y < 2 ^ c → x * 2 ^ c + y < 2 ^ (i + c)
 sum_below i c x y high low = search (rules, mul-add-lt, pow-add)

@@ -1,6 +1,6 @@
 -- Planes of four digits in which three ranks have had a one: each is its own code, as where all four have.
 use Rattle.std.proofs.Common.{rules}
-use Rattle.std.proofs.Common.{◌≡◌, ℕ, zero, suc, ◌+◌, ◌-◌, ◌*◌, ◌<◌, ◌≤◌, min, max, Bool, true, false, List, [], ◌∷◌, ◌++◌, length, take, drop, refl, sym, ap, ◌∙◌, ⊎_elim, arith}
+use Rattle.std.proofs.Common.{◌≡◌, ℕ, zero, suc, ◌+◌, ◌-◌, ◌*◌, ◌<◌, ◌≤◌, min, max, Bool, true, false, List, [], ◌∷◌, length, take, drop, refl, ap, ◌∙◌, ⊎_elim, arith}
 use Rattle.std.proofs.lemmas.Bool.{cases_lt}
 use Rattle.std.proofs.lemmas.List.{length-append}
 use Rattle.std.proofs.lemmas.List.Elements.{All-nil, All-cons, All-head, All-tail}
@@ -12,7 +12,6 @@ use Rattle.zf_spec.proofs.KeptSame.{kept_whole}
 use Rattle.zf_spec.proofs.Reach.{reach_within}
 use Rattle.zf_bits.specs.Reader.{Reader, rest}
 use Rattle.zf_planes.specs.Decoding.{planes_ahead, planes_bits}
-use Rattle.zf_planes.specs.Fours.{IsAsGood}
 use Rattle.zf_planes.specs.Lanes.{ReadsPlanes, ReadsSome}
 
 -- a list of four
@@ -77,10 +76,6 @@ code_of_three n m (ds ∷ planes) low high low' high' sizes =
     let below = All-tail (λ es. length es ≡ 4) ds planes sizes in
     let rest = code_of_three (max n (reach ds)) (max m (reach ds)) planes (omega arith) (reach_within 4 n ds high long) (omega arith) (reach_within 4 m ds high' long) below in
     cc (plane_of_three n ds low high long, plane_of_three m ds low' high' long)
-
--- so the ones reach as far, as a code sees it
-pub code_as_good : (m n : ℕ) (planes : List (List Bool)) → IsAsGood m n → m ≤ 4 → n ≤ 4 → AreOfSize 4 planes → code_from m planes ≡ code_from n planes
-code_as_good m n planes same high high' sizes = search (rules, code_of_three, cases_lt)
 
 -- what a budget keeps of them
 kept_of_planes : (n r : ℕ) (planes : List (List Bool)) → 3 ≤ n → n ≤ 4 → AreOfSize 4 planes → kept_planes_from r n planes ≡ kept_planes_from r 4 planes

@@ -1,11 +1,11 @@
 -- A plane in words whose digits are put in from its front on.
 use Rattle.std.proofs.Common.{rules}
-use Rattle.std.proofs.Common.{◌≡◌, ℕ, zero, suc, ◌+◌, ◌-◌, ◌*◌, ◌/◌, ◌%◌, ◌^◌, ◌<◌, ◌≤◌, ◌≢◌, ⊎_elim, Bool, true, false, eqb, List, [], ◌∷◌, ◌++◌, length, get_or, set, take, drop, replicate, get_or-set_same, get_or-set_other, ext_get_or, sym, ap, ◌∙◌, arith, length-set, length-append, length-take, append_assoc}
+use Rattle.std.proofs.Common.{◌≡◌, ℕ, zero, suc, ◌+◌, ◌-◌, ◌*◌, ◌/◌, ◌%◌, ◌^◌, ◌<◌, ◌≤◌, ◌≢◌, ⊎_elim, Bool, true, false, List, [], ◌∷◌, ◌++◌, length, get_or, set, take, drop, replicate, get_or-set_same, get_or-set_other, ext_get_or, sym, ap, ◌∙◌, arith, length-set, length-append, length-take, append_assoc}
 use Rattle.std.specs.Int.{w64}
 use Rattle.std.specs.Int.Bits.{bit_or}
 use Rattle.std.proofs.Math.Seq.{take-add}
 use Rattle.std.proofs.lemmas.Bool.{cases_eq}
-use Rattle.std.proofs.lemmas.List.{take_at, drop_at, drop-drop, take-replicate, drop-replicate, length-replicate, replicate-append-replicate, append-nil}
+use Rattle.std.proofs.lemmas.List.{take_at, drop_at, drop-drop, take-replicate, drop-replicate, length-replicate, replicate-append-replicate, append-nil, take_more_set}
 use Rattle.std.proofs.lemmas.Nat.Bits.{bit_at_set_same, bit_at_set_other}
 use Rattle.zf_spec.specs.Numbers.{is_odd, field, word_bits}
 use Rattle.zf_spec.specs.Planes.{reach}
@@ -13,7 +13,7 @@ use Rattle.zf_spec.specs.HeldPlanes.{digits_held, IsClearFrom}
 use Rattle.zf_spec.proofs.WordBits.{length-word_bits, get_or-word_bits}
 use Rattle.zf_bits.proofs.Words.{words-set}
 use Rattle.zf_bits.proofs.Packed.{flat_map-field-replicate}
-use Rattle.zf_planes.proofs.Filling.{prefix_set, behind_set}
+use Rattle.zf_planes.proofs.Filling.{behind_set}
 use Rattle.zf_planes.proofs.Runs.{reach-push, reach-push_zero}
 
 -- ---- words with no bit from a rank on
@@ -78,14 +78,11 @@ one_set ws r within =
     get_or-word_bits (set ws q x) j (omega arith)
     ∙ ⊎_elim
     (λ (here : j ≡ r).
-    ap (λ i. is_odd (get_or (set ws q x) (i / 64) 0 / 2 ^ (i % 64))) here
-    ∙ ap (λ u. is_odd (u / 2 ^ (r % 64))) (get_or-set_same ws q x 0 (omega arith))
-    ∙ ap (λ b. eqb b 1) (bit_at_set_same w64 v (r % 64) (omega arith))
-    ∙ sym (ap (λ i. get_or (set (word_bits ws) r true) i false) here ∙ get_or-set_same (word_bits ws) r true false (omega arith)))
+    cc (get_or-set_same ws q x 0 (omega arith), bit_at_set_same w64 v (r % 64) (omega arith),
+        get_or-set_same (word_bits ws) r true false (omega arith)))
     (λ (apart : j ≢ r).
-    other j apart (omega arith)
-    ∙ sym (get_or-word_bits ws j (omega arith))
-    ∙ sym (get_or-set_other (word_bits ws) r j true false apart))
+    cc (other j apart (omega arith), get_or-word_bits ws j (omega arith),
+        get_or-set_other (word_bits ws) r j true false apart))
     (cases_eq j r))
   where
     other : (j : ℕ) → j ≢ r → j < 64 * length ws
@@ -97,10 +94,8 @@ one_set ws r within =
         ⊎_elim
         (λ (same : j / 64 ≡ q).
         let bit : j % 64 ≢ r % 64 = λ (e : j % 64 ≡ r % 64). apart (omega arith) in
-        ap (λ i. is_odd (get_or (set ws q x) i 0 / 2 ^ (j % 64))) same
-        ∙ ap (λ u. is_odd (u / 2 ^ (j % 64))) (get_or-set_same ws q x 0 (omega arith))
-        ∙ ap (λ b. eqb b 1) (bit_at_set_other w64 v (r % 64) (omega arith) (j % 64) bit)
-        ∙ ap (λ i. is_odd (get_or ws i 0 / 2 ^ (j % 64))) (sym same))
+        cc (get_or-set_same ws q x 0 (omega arith),
+            bit_at_set_other w64 v (r % 64) (omega arith) (j % 64) bit))
         (λ (away : j / 64 ≢ q). ap (λ u. is_odd (u / 2 ^ (j % 64))) (get_or-set_other ws q (j / 64) x 0 away))
         (cases_eq (j / 64) q)
 
@@ -108,7 +103,7 @@ one_set ws r within =
 pub one_placed : (ws ws' : List ℕ) (n z : ℕ) → n + z < 64 * length ws → IsClearFrom n ws → word_bits ws' ≡ set (word_bits ws) (n + z) true
     → (digits_held (n + z + 1) ws' ≡ digits_held n ws ++ (replicate z false ++ true ∷ [])) × IsClearFrom (n + z + 1) ws'
 unfolding digits_held IsClearFrom
-one_placed ws ws' n z within clear is = search (rules, length-word_bits, prefix_set, behind_set)
+one_placed ws ws' n z within clear is = search (rules, length-word_bits, take-replicate, take_more_set, take-add, append_assoc, behind_set)
 
 -- ---- how far the ones reach
 
@@ -119,6 +114,5 @@ reach_behind xs (suc k) =
 
 pub reach_one : (xs : List Bool) (z : ℕ) → reach (xs ++ (replicate z false ++ true ∷ [])) ≡ length xs + z + 1
 reach_one xs z =
-    ap reach (sym (append_assoc xs (replicate z false) (true ∷ [])))
-    ∙ reach-push (xs ++ replicate z false)
-    ∙ omega (arith, length-append xs (replicate z false), length-replicate z false)
+    grind (arith, append_assoc xs (replicate z false) (true ∷ []), reach-push (xs ++ replicate z false),
+        length-append xs (replicate z false), length-replicate z false)

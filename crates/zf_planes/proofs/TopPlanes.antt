@@ -99,12 +99,11 @@ planes-from w p z words small within few =
     (λ i here.
     let j = w - 1 - (z + i) in
     let place : j ≡ 63 - (m + i) = omega arith in
-    get_or-drop z (take p ps) i []
-    ∙ get_or-take p ps (z + i) [] (omega arith)
-    ∙ get_or-planes_of w cs (z + i) (omega arith)
-    ∙ map-map (λ (ds : List Bool). get_or ds j false) (field w) words
-    ∙ map_each (λ word. get_or (field w word) j false) (λ word. top_digit word (m + i)) words (λ word. get_or-field w word j false (omega arith) ∙ ap (λ n. is_odd (word / 2 ^ n)) place)
-    ∙ plane-below words m i (omega arith)))
+    cc (get_or-drop z (take p ps) i [], get_or-take p ps (z + i) [] (omega arith),
+        get_or-planes_of w cs (z + i) (omega arith),
+        map-map (λ (ds : List Bool). get_or ds j false) (field w) words,
+        map_each (λ word. get_or (field w word) j false) (λ word. top_digit word (m + i)) words
+            (λ word. cc (get_or-field w word j false (omega arith))), plane-below words m i (omega arith))))
 
 -- ---- digits apart
 
@@ -228,9 +227,8 @@ remains_all out budget w p z words four small within few zeros room =
     let most = length-code-le 4 top sizes in
     let first : take z top ≡ replicate z (replicate 4 false) = take-take z p ps few ∙ zeros in
     Remains-same (Remains-start out budget (code top) (omega (arith, room, most, long)))
-    (ap code (sym (take-append-drop z top) ∙ ap (λ (qs : List (List Bool)). qs ++ drop z top) first)
-    ∙ zero_code z 4 (drop z top) (omega arith)
-    ∙ ap (λ (qs : List (List Bool)). replicate z false ++ code_from 0 qs) (planes-from w p z words small within few))
+    (cc (take-append-drop z top, zero_code z 4 (drop z top) (omega arith),
+        planes-from w p z words small within few))
 
 -- once the zeros of the first z planes are written, that of the others remains
 pub zeros_written : {new : Writer} (out : Writer) (budget w p z count : ℕ) (words : List ℕ) → length words ≡ 4 → w ≤ 64 → p ≤ w → z ≤ p → take z (planes_of w (map (field w) words)) ≡ replicate z (replicate 4 false)

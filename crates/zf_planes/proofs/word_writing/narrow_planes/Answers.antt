@@ -1,8 +1,8 @@
 use Rattle.std.proofs.Common.{rules}
-use Rattle.std.proofs.Common.{◌≡◌, ◌+◌, ◌<◌, max, Bool, List, ◌++◌, map, take, drop, sym, ap, ◌∙◌, arith, append_assoc}
+use Rattle.std.proofs.Common.{◌≡◌, ◌+◌, ◌<◌, Bool, List, ◌++◌, map, take, drop, sym, ap, ◌∙◌, arith, append_assoc}
 use Rattle.std.proofs.lemmas.Nat.{le_or_l, le_or_r}
 use Rattle.zf_spec.specs.Numbers.{field}
-use Rattle.zf_spec.specs.Planes.{plane_code, code_from, reach}
+use Rattle.zf_spec.specs.Planes.{code_from}
 use Rattle.zf_spec.specs.HeldPlanes.{planes_held}
 use Rattle.zf_planes.proofs.Unpacking.{code_next}
 use Rattle.zf_planes.proofs.Narrow.{narrow_two}
