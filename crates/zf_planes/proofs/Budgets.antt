@@ -30,15 +30,7 @@ pub Remains-more : {old now new : Writer} {budget left : ℕ} {whole : List Bool
 Remains-more {old} {now} {new} {budget} {left} {whole} more rest remains appends =
     let long = length-append more rest in
     let written = length-take left more in
-    record {
-      bits =
-          cc (appends.bits, append_assoc now.bits (take left more) (take (left - length more) rest),
-              take_append left more rest, remains.bits);
-      spent = omega (arith, remains.spent);
-      fits = omega (arith, remains.fits, appends.room);
-      room = omega (arith, remains.room, appends.room);
-      within = omega (arith, remains.within);
-    }
+    search (rules, append_assoc, take_append)
 
 -- the next bit is written
 pub Remains-bit : {old now new : Writer} {budget left : ℕ} {whole : List Bool} (b : Bool) (rest : List Bool) → 0 < left → Remains old now budget left whole (b ∷ rest) → Appends now new (b ∷ [])
@@ -66,17 +58,7 @@ pub Remains-through : {old now new : Writer} {budget left after : ℕ} {whole : 
 Remains-through {old} {now} {new} {budget} {left} {after} {whole} code rest more outer inner =
     let long = length-append code more in
     let short = length-append rest more in
-    record {
-      bits =
-          cc (take_append after rest more,
-              append_assoc new.bits (take after rest) (take (after - length rest) more), inner.bits,
-              append_assoc now.bits (take left code) (take (after - length rest) more), inner.spent,
-              take_append left code more, outer.bits);
-      spent = omega (arith, outer.spent, inner.spent);
-      fits = omega (arith, outer.fits, inner.room, inner.spent, inner.within, inner.fits);
-      room = omega (arith, outer.room, outer.fits, inner.room, inner.spent, inner.within);
-      within = omega (arith, outer.within, inner.within);
-    }
+    search (rules, take_append, append_assoc)
 
 -- all of the rest is written but for its end
 pub Remains-but : {old now new : Writer} {budget left after : ℕ} {whole : List Bool} (code rest : List Bool) → Remains old now budget left whole code → Remains now new left after code rest → Remains old new budget after whole rest

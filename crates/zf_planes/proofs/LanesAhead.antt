@@ -51,13 +51,9 @@ planes_then (suc m) q r size n count s (ds ∷ planes) some within sizes is bits
     let k = plane_bits r size n s in
     let above = max n (reach ds) in
     let long : length (plane_ahead r size n s) ≡ size = ap length first ∙ size_is in
-    let here = next_plane r m size n s some within long in
-    let more = next_plane r (m + q) size n s some within long in
-    let here_bits = rw first at here.bits in
-    let here_digits = rw first at here.digits in
-    let more_bits = rw first at more.bits in
-    let more_digits = rw first at more.digits in
-    let below : planes_ahead (r - k) m size above (drop k s) ≡ planes = tail_is (sym here_digits ∙ is) in
+    let here = rw first at (next_plane r m size n s some within long) in
+    let more = rw first at (next_plane r (m + q) size n s some within long) in
+    let below : planes_ahead (r - k) m size above (drop k s) ≡ planes = cc (here.digits, is) in
     let low = planes_bits (r - k) m size above (drop k s) in
     let rest = planes_then m q (r - k) size above low (drop k s) planes some (reach_within size n ds within size_is) (All-tail (λ es. length es ≡ size) ds planes sizes) below refl in
     let sum : count ≡ k + low = omega arith in
@@ -68,12 +64,9 @@ planes_then (suc m) q r size n count s (ds ∷ planes) some within sizes is bits
     let rest_bits = rw (spent, place, reached) at rest.bits in
     let rest_digits = rw (spent, place, reached) at rest.digits in
     record {
-      bits = rw next (omega (arith, more_bits, rest_bits));
-      digits = rw next (more_digits ∙ ap (λ (ps : List (List Bool)). ds ∷ ps) rest_digits);
+      bits = rw next (omega (arith, more.bits, rest_bits));
+      digits = rw next (cc (more.digits, rest_digits));
     }
-  where
-    tail_is : {d e : List Bool} {ps qs : List (List Bool)} → d ∷ ps ≡ e ∷ qs → ps ≡ qs
-    tail_is same = cc
 
 -- ---- in lanes
 
@@ -179,13 +172,8 @@ own_plane r v s there is small = ⊎_elim
     let all : min r 4 ≡ r = omega arith in
     let cut = cut_own r s few (omega arith) in
     let parts : r + (4 - r) ≡ 4 = omega arith in
-    let none : v / 2 ^ r ≡ 0 = div-eq_of_lt (small few) in (
-      cut.0 ∙ sym all,
-      cut.1
-          ∙ ap (λ (bs : List Bool). bs ++ replicate (4 - r) false) (sym (rw all at is))
-          ∙ ap (λ (bs : List Bool). field r v ++ bs) (sym (ap (field (4 - r)) none ∙ field-zero (4 - r)))
-          ∙ sym (field-add r (4 - r) v) ∙ ap (λ k. field k v) parts,
-    ))
+    let none : v / 2 ^ r ≡ 0 = div-eq_of_lt (small few) in
+    (cut.0 ∙ sym all, cc (cut.1, field-zero (4 - r), field-add r (4 - r) v)))
     (λ (many : 4 ≤ r).
     let all : min r 4 ≡ 4 = omega arith in
     let ds = field 4 v in

@@ -131,9 +131,7 @@ whole_planes (ds ∷ planes) r (suc p) size n len s some within sizes code there
     let one = whole_plane r n k ds s (omega arith) prefix (omega arith) (omega arith) in
     let is : plane_ahead r size n s ≡ ds = subst (λ m. plane_ahead r m n s ≡ ds) size_is one.1 in
     let bits : plane_bits r size n s ≡ k = subst (λ m. plane_bits r m n s ≡ k) size_is one.0 in
-    let next = next_plane r p size n s some within (ap length is ∙ size_is) in
-    let next_bits = rw (is, bits) at next.bits in
-    let next_digits = rw (is, bits) at next.digits in
+    let next = rw (is, bits) at (next_plane r p size n s some within (ap length is ∙ size_is)) in
     let rest = whole_planes planes (r - k) p size above (len - k) (drop k s) some (reach_within size n ds within size_is) (All-tail (λ es. length es ≡ size) ds planes sizes) behind (omega (arith, length-drop k s)) (omega arith) (omega arith) in
     let spent : r - k - (len - k) ≡ r - len = omega arith in
     let place : drop (len - k) (drop k s) ≡ drop len s = drop-drop (len - k) k s ∙ ap (λ m. drop m s) (sym parts) in

@@ -72,8 +72,7 @@ run_digits j k (d ∷ rest) e =
     let all : k ≡ j + 1 = omega (arith, length-append zeros (true ∷ d ∷ rest), length-replicate j false) in
     let prefix : take (j + 1) (zeros ++ true ∷ d ∷ rest) ≡ zeros ++ true ∷ [] =
     ap (take (j + 1)) (sym (append_assoc zeros (true ∷ []) (d ∷ rest))) ∙ take_at (zeros ++ true ∷ []) (d ∷ rest) (j + 1) (length-append zeros (true ∷ []) ∙ ap (λ n. n + 1) (length-replicate j false)) in
-    tail-first j d rest
-    ∙ ap (λ (xs : List Bool). true ∷ xs) (sym (rw (all, prefix) (append_assoc zeros (true ∷ []) (tail (d ∷ rest)))))
+    search (rules, tail-first, append_assoc)
 
 -- the tail n digits into a plane: its run ends before m
 pub tail_run_at : (ds : List Bool) (n j m : ℕ) → j < length (drop n ds) → drop n ds ≡ replicate j false ++ true ∷ drop (j + 1) (drop n ds) → m ≡ min (n + j + 1) (length ds - 1)

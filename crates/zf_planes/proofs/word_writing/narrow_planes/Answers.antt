@@ -52,11 +52,8 @@ loop-digits-preserved g c =
         code_next words 3 c.args.prec size c.loop-digits.i c.args.planes.now plane c.index-planes-planes-in-loop-digits.is c.if-i-prec.true c.requires.planes,
         c.first_word-digits.ensures.digits, more.ensures.code, more.ensures.same) in
     record {
-      code =
-          c.loop-digits.invariant.code
-          ∙ ap (λ (bs : List Bool). field part.len part.bits ++ bs) (rw three back)
-          ∙ sym (append_assoc (field part.len part.bits) (field more.result.len more.result.bits) (code_from c.loop-i.above rest))
-          ∙ ap (λ (bs : List Bool). bs ++ code_from c.loop-i.above rest) (sym joined.ensures.bits);
+      code = cc (c.loop-digits.invariant.code, back, three, joined.ensures.bits,
+          append_assoc (field part.len part.bits) (field more.result.len more.result.bits) (code_from 3 rest));
       place = omega (arith, c.if-i-prec.true);
       small = joined.ensures.small more.ensures.small;
       in_word = omega (arith, joined.ensures.len, c.if-part-le60.true, more.ensures.shorter c.requires.some);
