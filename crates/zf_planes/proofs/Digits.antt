@@ -138,10 +138,9 @@ shl_bit : (v s i : ℕ) → i + s < 64 → bit_at (v * 2 ^ s % 2 ^ 64) (i + s) �
 shl_bit v s i within =
     let n = v * 2 ^ s in
     let whole : n ≡ n + 0 = omega arith in
-    sym (bit_at_cat_low (n / 2 ^ 64) 64 (n % 2 ^ 64) (i + s) within)
-    ∙ ap (λ m. bit_at m (i + s)) (div-add-mod' n (2 ^ 64) ∙ whole)
-    ∙ bit_at_cat_high v s 0 (i + s) (pow_pos s) (omega arith)
-    ∙ ap (bit_at v) (omega arith)
+    let place : i + s - s ≡ i = omega arith in
+    cc (bit_at_cat_low (n / 2 ^ 64) 64 (n % 2 ^ 64) (i + s) within, div-add-mod' n (2 ^ 64),
+        bit_at_cat_high v s 0 (i + s) (pow_pos s) (omega arith))
 
 shl_low : (v s i : ℕ) → i < s → s < 64 → bit_at (v * 2 ^ s % 2 ^ 64) i ≡ 0
 shl_low v s i low small =

@@ -39,16 +39,14 @@ run_doubled (false ∷ xs) ys one = zero_once (xs ++ ys) (has_one-behind xs ys o
 
 -- ---- zeros behind
 
-zeros_end : (k : ℕ) → code_from_run (true ∷ replicate (suc k) false) ≡ true ∷ false ∷ []
-zeros_end k = ap (λ t. true ∷ cond t (true ∷ code_from_run (replicate (suc k) false)) (false ∷ [])) (has_one-zeros (suc k))
-
 pub has_one-zeros_behind : (ds : List Bool) (k : ℕ) → has_one (ds ++ replicate k false) ≡ has_one ds
 has_one-zeros_behind [] k = has_one-zeros k
 has_one-zeros_behind (true ∷ ds) k = refl
 has_one-zeros_behind (false ∷ ds) k = has_one-zeros_behind ds k
 
 run_ends : (es : List Bool) → has_one es ≡ false → (n : ℕ) → code_from_run (true ∷ (es ++ replicate (suc n) false)) ≡ true ∷ false ∷ []
-run_ends [] none n = zeros_end n
+run_ends [] none n =
+    ap (λ t. true ∷ cond t (true ∷ code_from_run (replicate (suc n) false)) (false ∷ [])) (has_one-zeros (suc n))
 run_ends (e ∷ es) none n = ap (λ t. true ∷ cond t (true ∷ code_from_run ((e ∷ es) ++ replicate (suc n) false)) (false ∷ [])) (has_one-zeros_behind (e ∷ es) (suc n) ∙ none)
 
 pub run_zeros_behind : (ds : List Bool) (k : ℕ) → has_one ds ≡ true → code_from_run (ds ++ replicate (suc k) false) ≡ code_from_run (ds ++ false ∷ [])
@@ -158,13 +156,8 @@ run_of_entry most digits e one eight within is = ⊎_elim
     let short = run_of_entry_to_9 9 digits e (omega arith) (omega arith) one eight (omega arith) is in
     let all = not_last most digits nine eight in
     let all_of_9 = not_last 9 digits (omega arith) eight in
-    record {
-      bits = ap (λ k. field (run_len digits e - k) (run_bits digits e)) (all ∙ sym all_of_9) ∙ short.bits ∙ sym (nine_digits most digits nine one eight);
-      len = short.len;
-      two = short.two;
-      digits_enough = short.digits_enough;
-      bits_enough = short.bits_enough;
-    })
+    let bits : field (run_len digits e - implied most digits) (run_bits digits e) ≡ code_from_run (field most digits) =
+    cc (all, all_of_9, short.bits, nine_digits most digits nine one eight) in search rules)
     (cases_lt most 9)
   where
     some : (m v : ℕ) → 0 < v → v < 2 ^ m → 0 < m

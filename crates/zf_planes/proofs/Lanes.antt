@@ -1,6 +1,6 @@
 -- Digits of four coefficients in words, and in four lanes of one word.
 use Rattle.std.proofs.Common.{rules}
-use Rattle.std.proofs.Common.{◌≡◌, ℕ, zero, suc, ◌+◌, ◌-◌, ◌*◌, ◌/◌, ◌%◌, ◌^◌, ◌<◌, ◌≤◌, Bool, false, List, [], ◌∷◌, ◌++◌, length, map, get_or, replicate, refl, sym, ap, subst, ◌∙◌, arith, ext_get_or, pow-suc, lit<, append_assoc}
+use Rattle.std.proofs.Common.{◌≡◌, ℕ, zero, suc, ◌+◌, ◌-◌, ◌*◌, ◌/◌, ◌%◌, ◌^◌, ◌<◌, ◌≤◌, Bool, false, List, [], ◌∷◌, ◌++◌, length, map, get_or, replicate, refl, sym, ap, ◌∙◌, arith, ext_get_or, pow-suc, lit<, append_assoc}
 use Rattle.std.proofs.Math.Nat.{div-eq_of_lt, mod-eq_of_lt, pow-le-pow_right}
 use Rattle.std.proofs.lemmas.Nat.{pow_pos, pow-add, shr-shr, shr_high, mod_low, mul-add-lt, shl_whole}
 use Rattle.std.proofs.lemmas.List.{length-map, append-nil}
@@ -204,12 +204,10 @@ gathered_more words done lanes held e c before small room =
     let back = lanes_in 4 e in
     let same : length prefix ≡ length back = length-lanes_in 4 lanes ∙ sym (length-lanes_in 4 e) in
     let is = lanes_joined 4 lanes e held c before.back small room in
-    let P : List ℕ → Type 0 = λ us. AreBelow (held + c) us in (
-      record { four = before.four; prefix = before.prefix; back = subst P (sym is) (joined_below held c prefix back same before.back small) },
-      ap (λ (us : List ℕ). low_planes done words ++ low_planes (held + c) us) is
-          ∙ ap (λ (ps : List (List Bool)). low_planes done words ++ ps) (planes_joined held c prefix back same small)
-          ∙ sym (append_assoc (low_planes done words) (low_planes held prefix) (low_planes c back)),
-    )
+    let below = joined_below held c prefix back same before.back small in
+    (record { four = before.four; prefix = before.prefix; back = rw is below },
+        cc (is, planes_joined held c prefix back same small,
+            append_assoc (low_planes done words) (low_planes held prefix) (low_planes c back)))
 
 -- what is in the lanes is put into the words
 pub gathered_down : (words : List ℕ) (done lanes held : ℕ) → IsGathered words done lanes held
@@ -260,10 +258,8 @@ pub put_words : (words : List ℕ) (done lanes held : ℕ) → IsGathered words 
     ∷ (get_or words 2 0 * 2 ^ held % 2 ^ 64 + lanes / 65536 / 65536 % 65536) ∷ (get_or words 3 0 * 2 ^ held % 2 ^ 64 + lanes / 65536 / 65536 / 65536 % 65536) ∷ []) (done + held) 0 0
     ≡ gathered words done lanes held)
 put_words words done lanes held before room =
-    let is = put_together words done lanes held before.four before.prefix room in
-    let down = gathered_down words done lanes held before in
-    let Whole : List ℕ → Type 0 = λ us. IsGathered us (done + held) 0 0 in
-    (subst Whole is down.0, ap (λ (us : List ℕ). gathered us (done + held) 0 0) (sym is) ∙ down.1)
+    rw (put_together words done lanes held before.four before.prefix room) at
+        (gathered_down words done lanes held before)
 
 -- lanes as they are put together
 pub lanes_put : (words : List ℕ) (done lanes held e c : ℕ) → lanes < 2 ^ 64 → e < 2 ^ 64 → IsGathered words done lanes held → AreBelow c (lanes_in 4 e) → held + c ≤ 16

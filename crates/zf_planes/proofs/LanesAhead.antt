@@ -63,10 +63,7 @@ planes_then (suc m) q r size n count s (ds ∷ planes) some within sizes is bits
     let next : suc m + q ≡ suc (m + q) = omega arith in
     let rest_bits = rw (spent, place, reached) at rest.bits in
     let rest_digits = rw (spent, place, reached) at rest.digits in
-    record {
-      bits = rw next (omega (arith, more.bits, rest_bits));
-      digits = rw next (cc (more.digits, rest_digits));
-    }
+    grind arith
 
 -- ---- in lanes
 
@@ -136,7 +133,7 @@ one_read {now} {new} {left} {after} most n v len above some within is long reach
     let s = rest now in
     let ds = plane_ahead left 4 n s in
     let planes : most ≡ suc (most - 1) = omega arith in
-    let size : length ds ≡ 4 = only_size (rw is at (sizes 1 v)) in
+    let size = All-head (λ es. length es ≡ 4) ds [] (rw is at (sizes 1 v)) in
     let next = next_plane left (most - 1) 4 n s (omega arith) within size in
     let spent : after ≡ left - len = omega (arith, takes.spent) in
     let Bits : ℕ → Type 0 = λ p. planes_bits left p 4 n s ≡ len + planes_bits (left - len) (most - 1) 4 above (drop len s) in
@@ -145,9 +142,6 @@ one_read {now} {new} {left} {after} most n v len above some within is long reach
       bits = rw (Takes-rest takes, spent) (subst Bits (sym planes) (rw (long, reached) next.bits));
       digits = rw (Takes-rest takes, spent) (subst Digits (sym planes) (rw (is, long, reached) next.digits));
     }
-  where
-    only_size : {ds : List Bool} → AreOfSize 4 (ds ∷ []) → length ds ≡ 4
-    only_size {ds} all = All-head (λ es. length es ≡ 4) ds [] all
 
 -- how far the ones of one plane reach at most
 pub reach_of_one : (n v : ℕ) (ds : List Bool) → n ≤ 4 → low_planes 1 (lanes_in 4 v) ≡ ds ∷ [] → max n (reach ds) ≤ 4
@@ -225,11 +219,9 @@ own_read {now} {new} {left} {after} most c v string len few is there bits_are sm
     let next = planes_then c (most - c) left 4 4 len s (low_planes c (lanes_in 4 v)) (omega arith) (omega arith) (sizes c v) (here.1 ∙ sym lanes) (here.0 ∙ sym is) in
     let spent : after ≡ left - len = omega (arith, takes.spent) in
     let reached : max 4 (reach_of_all (low_planes c (lanes_in 4 v))) ≡ 4 = omega (arith, reach_of_fours (low_planes c (lanes_in 4 v)) (sizes c v)) in
-    let bits = rw (parts, reached) at next.bits in
-    let digits = rw (parts, reached) at next.digits in
     record {
-      bits = rw (Takes-rest takes, spent) bits;
-      digits = rw (Takes-rest takes, spent) digits;
+      bits = rw (Takes-rest takes, spent) (rw (parts, reached) at next.bits);
+      digits = rw (Takes-rest takes, spent) (rw (parts, reached) at next.digits);
     }
   where
     reach_of_fours : (planes : List (List Bool)) → AreOfSize 4 planes → reach_of_all planes ≤ 4
@@ -358,8 +350,6 @@ FoursRead-more {start} {now} {new} {budget} {left} {after} {prec} {n} {words} {d
     let fewer : prec - (done + held) - c ≡ prec - (done' + held') = omega arith in
     let bits = rw fewer at some.bits in
     let digits = rw fewer at some.digits in
-    let below = planes_ahead after (prec - (done' + held')) 4 above (rest new) in
-    let prefix = gathered words done lanes held in
     record {
       passes = Passes-part (planes_bits after (prec - (done' + held')) 4 above (rest new)) before.passes bits some.taken;
       put = put;

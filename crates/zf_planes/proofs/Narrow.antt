@@ -54,7 +54,6 @@ narrow_next : {A : Type 0} (words : A → List ℕ) (n prec size i v : ℕ) (pla
     → field size v ≡ digits_held size (words plane)
     → code_from n (drop i (take prec (planes_held size (map words planes)))) ≡ plane_code n (field 4 v) ++ code_from (max n (reach (field 4 v))) (drop (i + 1) (take prec (planes_held size (map words planes))))
 narrow_next words n prec size i v planes plane three some low is below within same =
-    let rest = drop (i + 1) (take prec (planes_held size (map words planes))) in
     cc (code_next words n prec size i planes plane is below within, narrow_code n size v three some low,
         narrow_reach size v some low)
 

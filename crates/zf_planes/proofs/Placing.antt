@@ -38,7 +38,6 @@ held_zeros size k within = ap (take size) (flat_map-field-replicate 64 k) ∙ ta
 pub held_behind : (n size : ℕ) (ws : List ℕ) → n ≤ size → size ≤ 64 * length ws → IsClearFrom n ws → digits_held size ws ≡ digits_held n ws ++ replicate (size - n) false
 unfolding digits_held IsClearFrom
 held_behind n size ws order within clear =
-    let bits = word_bits ws in
     let place : size ≡ n + (size - n) = omega arith in search (rules, take-add, take-replicate, length-word_bits)
 
 -- ---- a word is put in

@@ -1,6 +1,6 @@
 -- What the decoder makes of one plane: its first digits as they are, and then a tail.
 use Rattle.std.proofs.Common.{rules}
-use Rattle.std.proofs.Common.{◌≡◌, ℕ, suc, zero, ◌+◌, ◌-◌, ◌<◌, ◌≤◌, ◌⊎◌, inl, inr, ⊎_elim, min, Bool, true, false, List, [], ◌∷◌, ◌++◌, length, take, drop, replicate, refl, sym, ap, ◌∙◌, arith, drop_at, append-nil, take-append-drop}
+use Rattle.std.proofs.Common.{◌≡◌, ℕ, suc, zero, ◌+◌, ◌-◌, ◌≤◌, ⊎_elim, min, Bool, true, false, List, [], ◌∷◌, ◌++◌, length, take, drop, replicate, refl, sym, ap, ◌∙◌, arith, drop_at, append-nil, take-append-drop}
 use Rattle.std.proofs.lemmas.Bool.{false≢true, cases_lt}
 use Rattle.std.proofs.lemmas.List.{length-take, take-take, length-drop, drop-take, drop_all, take-append-le}
 use Rattle.zf_spec.specs.Planes.{has_one, code_from_run, tail, plane_code}
@@ -76,10 +76,7 @@ prefix_padded r n s = ⊎_elim
     let q : min n r ≡ r = omega arith in
     let n' : n ≡ r + (n - r) = omega arith in
     rw q (ap (λ k. first_bits k (take r s)) n' ∙ first_zeros r (n - r) (take r s) (omega (arith, length-take r s))))
-    (cases_le n r)
-  where
-    cases_le : (a b : ℕ) → (a ≤ b) ⊎ (b ≤ a)
-    cases_le a b = ⊎_elim (λ (h : a < b). inl (omega arith)) (λ h. inr h) (cases_lt a b)
+    (cases_lt n r)
 
 -- where the bits are there
 pub prefix_read : (r n : ℕ) (s : List Bool) → min n r ≤ length s → first_bits n (take r s) ≡ take (min n r) s ++ replicate (n - min n r) false

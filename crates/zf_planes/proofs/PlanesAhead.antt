@@ -52,7 +52,6 @@ unfolding planes_bits planes_ahead
 next_whole r p size n s within fits =
     let ds = plane_in size n (take r s) in
     let count = length (plane_code n ds) in
-    let above = max n (reach ds) in
     let r' : r ≡ count + (r - count) = omega arith in search (rules, drop-take, length-append, kept_whole)
 
 next_cut : (r p size n : ℕ) (s : List Bool) → 1 ≤ size → n ≤ size → r < length (plane_code n (plane_in size n (take r s))) → length (plane_ahead r size n s) ≡ size
@@ -102,7 +101,6 @@ pub zero_planes : (k r p size : ℕ) (s t : List Bool) → 1 ≤ size → k ≤ 
 zero_planes zero r p size s t some within below e = search rules
 zero_planes (suc k) r zero size s t some within below e = absurd (omega arith)
 zero_planes (suc k) r (suc p) size s t some within below e =
-    let zeros = replicate size false in
     let one = zero_plane r p size s (replicate k false ++ t) some (omega arith) e in
     let more = zero_planes k (r - 1) p size (replicate k false ++ t) t some (omega arith) (omega arith) refl in search rules
 

@@ -165,10 +165,6 @@ spread_of_entries word prefix back small is_prefix is_back =
 
 -- ---- four words as a string
 
-spread-next : (k : ℕ) (f : ℕ → Bool) → spread 16 (suc k) f ≡ digit_value (f 0) + 16 * spread 16 k (λ i. f (suc i))
-unfolding spread
-spread-next k f = refl
-
 fours-next : (k v : ℕ) (ds : List Bool) (r : ℕ) → length ds ≡ 4 → v ≡ number ds + 16 * r → number ds < 16 → string_planes (suc k) v ≡ ds ∷ string_planes k r
 unfolding string_planes
 fours-next k v ds r four is small =
@@ -177,7 +173,7 @@ fours-next k v ds r four is small =
     cc (field-mod 4 v, field-number 4 ds four)
 
 string-is : (k : ℕ) (f g h e : ℕ → Bool) → string_planes k (spread 16 k f + 2 * spread 16 k g + 4 * spread 16 k h + 8 * spread 16 k e) ≡ map (λ i. f i ∷ g i ∷ h i ∷ e i ∷ []) (upto k)
-unfolding string_planes
+unfolding string_planes spread
 string-is zero f g h e = refl
 string-is (suc k) f g h e =
     let next = λ (d : ℕ → Bool) (i : ℕ). d (suc i) in
@@ -185,8 +181,7 @@ string-is (suc k) f g h e =
     let row' : ℕ → List Bool = λ i. f (suc i) ∷ g (suc i) ∷ h (suc i) ∷ e (suc i) ∷ [] in
     let r = spread 16 k (next f) + 2 * spread 16 k (next g) + 4 * spread 16 k (next h) + 8 * spread 16 k (next e) in
     let small : number (row 0) < 16 = omega (arith, digit_value_le (f 0), digit_value_le (g 0), digit_value_le (h 0), digit_value_le (e 0)) in
-    let sum : spread 16 (suc k) f + 2 * spread 16 (suc k) g + 4 * spread 16 (suc k) h + 8 * spread 16 (suc k) e ≡ number (row 0) + 16 * r =
-    omega (arith, spread-next k f, spread-next k g, spread-next k h, spread-next k e) in
+    let sum : spread 16 (suc k) f + 2 * spread 16 (suc k) g + 4 * spread 16 (suc k) h + 8 * spread 16 (suc k) e ≡ number (row 0) + 16 * r = omega arith in
     cc (fours-next k _ (row 0) r refl sum small, string-is k (next f) (next g) (next h) (next e),
         map-from row row' 1 k [] (λ i here. let place : 1 + i ≡ suc i = omega arith in ap row place))
 

@@ -24,7 +24,6 @@ entry c =
     let power : 1 * 2 ^ left % 2 ^ 64 ≡ 2 ^ left = one_shl left 64 (omega arith) in
     let found = last_of_entry c.args.n left (c.args.bits % 2 ^ left) c.if-entry-ge33554432.entry c.requires.in_plane c.requires.some c.requires.few (mod-lt c.args.bits (pow_pos left))
     (entry_is c ∙ ap (λ (p : ℕ). end_entry c.args.n p (c.args.bits % p)) power) in
-    let count = c.if-entry-ge33554432.entry / 1048576 % 8 in
     let same = sym (field-mod left c.args.bits) in search rules
 
 pub returns : goal.returns

@@ -44,7 +44,6 @@ loop-digits-preserved g c =
     let more = c.plain_plane in
     let joined = c.join-part-in-loop-digits in
     let plane = c.index-planes-planes-in-loop-digits.result in
-    let ds = field size c.first_word-digits.result in
     let rest = drop (c.loop-digits.i + 1) (take c.args.prec (planes_held size (map words c.args.planes.now))) in
     let three : c.loop-i.above ≡ 3 = c.loop-digits-test.true in
     let back : code_from 3 (drop c.loop-digits.i (take c.args.prec (planes_held size (map words c.args.planes.now)))) ≡ field more.result.len more.result.bits ++ code_from 3 rest =

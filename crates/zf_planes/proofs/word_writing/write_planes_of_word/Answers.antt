@@ -23,7 +23,6 @@ pub loop-i-preserved-then-part-more-gt64 : goal.loop-i-preserved-then-part-more-
 loop-i-preserved-then-part-more-gt64 g c =
     let part = c.loop-i.part in
     let more = c.plain_plane-more in
-    let ds = field c.args.size c.first_word-digits.result in
     let next = next_word g.P.Plane.words c.loop-i.above c.args.prec c.args.size c.loop-i.i part.len part.bits c.first_word-digits.result c.args.planes.now c.index-planes-planes.result c.loop-i.invariant.remains
     c.index-planes-planes.is c.loop-i-test.true c.requires.planes c.first_word-digits.ensures.digits in
     let written = Remains-more (field part.len part.bits) _ next c.write_part-left.ensures.bits in
@@ -40,7 +39,6 @@ pub loop-i-preserved-else-part-more-gt64 : goal.loop-i-preserved-else-part-more-
 loop-i-preserved-else-part-more-gt64 g c =
     let part = c.loop-i.part in
     let more = c.plain_plane-more in
-    let ds = field c.args.size c.first_word-digits.result in
     let rest = drop (c.loop-i.i + 1) (take c.args.prec (planes_held c.args.size (map g.P.Plane.words c.args.planes.now))) in
     let next = next_word g.P.Plane.words c.loop-i.above c.args.prec c.args.size c.loop-i.i part.len part.bits c.first_word-digits.result c.args.planes.now c.index-planes-planes.result c.loop-i.invariant.remains
     c.index-planes-planes.is c.loop-i-test.true c.requires.planes c.first_word-digits.ensures.digits in
@@ -82,7 +80,6 @@ pub loop-i-preserved : goal.loop-i-preserved
 loop-i-preserved g c =
     let part = c.loop-i.part in
     let ds = field c.args.size c.first_word-digits.result in
-    let new = c.write_with-left.new.part in
     let top : c.max-above.result ≡ max c.loop-i.above c.reach_in-end.result = omega (arith, c.max-above.ensures) in
     let reached : max c.loop-i.above (reach ds) ≡ c.max-above.result = omega (arith, ap reach c.first_word-digits.ensures.digits, c.reach_in-end.ensures.value, top) in
     record {
