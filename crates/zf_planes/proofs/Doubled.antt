@@ -129,7 +129,8 @@ run_of_entry_to_9 most digits e some nine one eight within is =
     let low : i % 256 ≡ digits = omega arith in
     let whole : test_run most digits e ≡ true =
     cc (
-        each_below-true (λ j. test_run (j / 256 + 1) (j % 256) (get_or DOUBLED (j % 256) 0)) 2304 i test_runs (omega arith)) in
+        each_below-true (λ j. test_run (j / 256 + 1) (j % 256) (get_or DOUBLED (j % 256) 0)) 2304 i test_runs
+            (omega arith)) in
     let there : eqb digits 0 ≡ false = grind (arith, nat_tests) in search (rules, lt-ltb, and_parts, same_digits, same_digits-true, ltb-true)
 
 -- more digits make no difference, where they are zeros
@@ -156,7 +157,8 @@ run_of_entry most digits e one eight within is = ⊎_elim
     let short = run_of_entry_to_9 9 digits e (omega arith) (omega arith) one eight (omega arith) is in
     let all = not_last most digits nine eight in
     let all_of_9 = not_last 9 digits (omega arith) eight in
-    let bits : field (run_len digits e - implied most digits) (run_bits digits e) ≡ code_from_run (field most digits) =
+    let bits : field (run_len digits e - implied most digits) (run_bits digits e)
+        ≡ code_from_run (field most digits) =
     cc (all, all_of_9, short.bits, nine_digits most digits nine one eight) in search rules)
     (cases_lt most 9)
   where

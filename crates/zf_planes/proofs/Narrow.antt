@@ -75,4 +75,5 @@ narrow_two words n prec size i v w l bits a planes first second three some low l
     two.bits ∙ ap (λ u. plane_code n (field 4 u) ++ plane_code (max n (reach (field 4 u))) (field 4 ((v + 16 * w) / 16 % 16))) v_is ∙ ap (λ u. plane_code n (field 4 v) ++ plane_code m (field 4 u)) w_is in
     cc (narrow_next words n prec size i v planes first (omega arith) some low is (omega arith) within same,
         narrow_next words m prec size (i + 1) w planes second reached some low' is' below within same',
-        append_assoc (plane_code n (field 4 v)) (plane_code m (field 4 w)) (code_from (max m (reach (field 4 w))) (drop (i + 1 + 1) top)))
+        append_assoc (plane_code n (field 4 v)) (plane_code m (field 4 w))
+            (code_from (max m (reach (field 4 w))) (drop (i + 1 + 1) top)))

@@ -102,7 +102,8 @@ one_set ws r within =
 pub one_placed : (ws ws' : List ℕ) (n z : ℕ) → n + z < 64 * length ws → IsClearFrom n ws → word_bits ws' ≡ set (word_bits ws) (n + z) true
     → (digits_held (n + z + 1) ws' ≡ digits_held n ws ++ (replicate z false ++ true ∷ [])) × IsClearFrom (n + z + 1) ws'
 unfolding digits_held IsClearFrom
-one_placed ws ws' n z within clear is = search (rules, length-word_bits, take-replicate, take_more_set, take-add, append_assoc, behind_set)
+one_placed ws ws' n z within clear is =
+    search (rules, length-word_bits, take-replicate, take_more_set, take-add, append_assoc, behind_set)
 
 -- ---- how far the ones reach
 

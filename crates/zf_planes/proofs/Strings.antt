@@ -110,4 +110,5 @@ Remains-none {old} {now} {budget} {left} {whole} rest rest' none remains = searc
 -- how far the ones reach above counts only while bits are left
 pub Remains-above : {old now : Writer} {budget left : ℕ} {whole : List Bool} (m n : ℕ) (planes : List (List Bool)) → (0 < left → IsAsGood m n) → m ≤ 4 → n ≤ 4 → AreOfSize 4 planes
     → Remains old now budget left whole (code_from n planes) → Remains old now budget left whole (code_from m planes)
-Remains-above {old} {now} {budget} {left} {whole} m n planes same high high' sizes remains = search (rules, code_of_three, cases_lt, Remains-none)
+Remains-above {old} {now} {budget} {left} {whole} m n planes same high high' sizes remains =
+    search (rules, code_of_three, cases_lt, Remains-none)

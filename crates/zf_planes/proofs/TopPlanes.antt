@@ -181,7 +181,8 @@ string-is (suc k) f g h e =
     let row' : ℕ → List Bool = λ i. f (suc i) ∷ g (suc i) ∷ h (suc i) ∷ e (suc i) ∷ [] in
     let r = spread 16 k (next f) + 2 * spread 16 k (next g) + 4 * spread 16 k (next h) + 8 * spread 16 k (next e) in
     let small : number (row 0) < 16 = omega (arith, digit_value_le (f 0), digit_value_le (g 0), digit_value_le (h 0), digit_value_le (e 0)) in
-    let sum : spread 16 (suc k) f + 2 * spread 16 (suc k) g + 4 * spread 16 (suc k) h + 8 * spread 16 (suc k) e ≡ number (row 0) + 16 * r = omega arith in
+    let sum : spread 16 (suc k) f + 2 * spread 16 (suc k) g + 4 * spread 16 (suc k) h + 8 * spread 16 (suc k) e
+        ≡ number (row 0) + 16 * r = omega arith in
     cc (fours-next k _ (row 0) r refl sum small, string-is k (next f) (next g) (next h) (next e),
         map-from row row' 1 k [] (λ i here. let place : 1 + i ≡ suc i = omega arith in ap row place))
 
