@@ -1,6 +1,6 @@
 -- A list that is written in parts, as far as a budget of bits reaches.
 use Rattle.std.proofs.Common.{rules}
-use Rattle.std.proofs.Common.{◌≡◌, ℕ, suc, zero, ◌-◌, ◌<◌, ◌≤◌, min, Bool, List, [], ◌∷◌, ◌++◌, length, take, refl, sym, ap, subst, ◌∙◌, arith, append_assoc, length-append}
+use Rattle.std.proofs.Common.{◌≡◌, ℕ, suc, zero, ◌-◌, ◌<◌, ◌≤◌, min, Bool, List, [], ◌∷◌, ◌++◌, length, take, refl, sym, ap, subst, arith, append_assoc, length-append}
 use Rattle.std.proofs.lemmas.List.{length-take, append-nil}
 use Rattle.zf_bits.specs.Writer.{Writer, Appends}
 use Rattle.zf_planes.specs.Writes.{Remains}
@@ -30,17 +30,7 @@ pub Remains-more : {old now new : Writer} {budget left : ℕ} {whole : List Bool
 Remains-more {old} {now} {new} {budget} {left} {whole} more rest remains appends =
     let long = length-append more rest in
     let written = length-take left more in
-    record {
-      bits =
-          ap (λ (xs : List Bool). xs ++ take (left - length more) rest) appends.bits
-          ∙ append_assoc now.bits (take left more) (take (left - length more) rest)
-          ∙ ap (λ (xs : List Bool). now.bits ++ xs) (sym (take_append left more rest))
-          ∙ remains.bits;
-      spent = omega (arith, remains.spent);
-      fits = omega (arith, remains.fits, appends.room);
-      room = omega (arith, remains.room, appends.room);
-      within = omega (arith, remains.within);
-    }
+    search (rules, append_assoc, take_append)
 
 -- the next bit is written
 pub Remains-bit : {old now new : Writer} {budget left : ℕ} {whole : List Bool} (b : Bool) (rest : List Bool) → 0 < left → Remains old now budget left whole (b ∷ rest) → Appends now new (b ∷ [])
@@ -56,9 +46,8 @@ Remains-bit {old} {now} {new} {budget} {left} {whole} b rest some remains append
 
 -- nothing is left of the budget, or of the list
 nothing_taken : (left : ℕ) (rest : List Bool) → min left (length rest) ≡ 0 → take left rest ≡ []
-nothing_taken zero rest none = refl
-nothing_taken (suc left) [] none = refl
 nothing_taken (suc left) (b ∷ rest) none = absurd (omega arith)
+nothing_taken left rest none = refl
 
 pub Remains-end : {old now : Writer} {budget left : ℕ} {whole rest : List Bool} → Remains old now budget left whole rest → min left (length rest) ≡ 0 → Appends old now (take budget whole)
 Remains-end {old} {now} {budget} {left} {whole} {rest} remains none = search (rules, append-nil, nothing_taken, length-take)
@@ -69,25 +58,8 @@ pub Remains-through : {old now new : Writer} {budget left after : ℕ} {whole : 
 Remains-through {old} {now} {new} {budget} {left} {after} {whole} code rest more outer inner =
     let long = length-append code more in
     let short = length-append rest more in
-    record {
-      bits =
-          ap (λ (xs : List Bool). new.bits ++ xs) (take_append after rest more)
-          ∙ sym (append_assoc new.bits (take after rest) (take (after - length rest) more))
-          ∙ ap (λ (xs : List Bool). xs ++ take (after - length rest) more) inner.bits
-          ∙ append_assoc now.bits (take left code) (take (after - length rest) more)
-          ∙ ap (λ k. now.bits ++ (take left code ++ take k more)) inner.spent
-          ∙ ap (λ (xs : List Bool). now.bits ++ xs) (sym (take_append left code more))
-          ∙ outer.bits;
-      spent = omega (arith, outer.spent, inner.spent);
-      fits = omega (arith, outer.fits, inner.room, inner.spent, inner.within, inner.fits);
-      room = omega (arith, outer.room, outer.fits, inner.room, inner.spent, inner.within);
-      within = omega (arith, outer.within, inner.within);
-    }
+    search (rules, take_append, append_assoc)
 
 -- all of the rest is written but for its end
 pub Remains-but : {old now new : Writer} {budget left after : ℕ} {whole : List Bool} (code rest : List Bool) → Remains old now budget left whole code → Remains now new left after code rest → Remains old new budget after whole rest
 Remains-but code rest outer inner = Remains-same (Remains-through code rest [] (Remains-same outer (sym (append-nil code))) inner) (append-nil rest)
-
--- the whole by another name
-pub Remains-whole : {old now : Writer} {budget left : ℕ} {whole whole' : List Bool} {rest : List Bool} → Remains old now budget left whole rest → whole ≡ whole' → Remains old now budget left whole' rest
-Remains-whole {old} {now} {budget} {left} {whole} {whole'} {rest} remains same = let P : List Bool → Type 0 = λ xs. Remains old now budget left xs rest in subst P same remains

@@ -71,9 +71,7 @@ zeros_by_bits size at m w ws is long same bits j from below =
     ⊎_elim
     (λ (inside : j < size).
     let place : at + (j - at) ≡ j = omega arith in
-    ap (λ i. get_or (digits_held size ws) i false) (sym place)
-    ∙ digit_in_word size at (j - at) w ws is long (omega arith) (omega arith)
-    ∙ ap (λ b. eqb b 1) (bits (j - at) (omega arith)))
+    cc (digit_in_word size at (j - at) w ws is long (omega arith) (omega arith), bits (j - at) (omega arith)))
     (λ (past : size ≤ j). past_size size j ws long past)
     (cases_lt j size)
 
@@ -93,9 +91,7 @@ split_prefix [] m within zeros one = absurd (omega arith)
 split_prefix (x ∷ xs) zero within zeros one = ap (λ b. b ∷ xs) one
 split_prefix (x ∷ xs) (suc m) within zeros one =
     let e : suc m + 1 ≡ suc (m + 1) = omega arith in
-    rw e
-    (ap (λ b. b ∷ xs) (zeros 0 (omega arith))
-    ∙ ap (λ ys. false ∷ ys) (split_prefix xs m (omega arith) (λ i below. zeros (suc i) (omega arith)) one))
+    rw e (cc (zeros 0 (omega arith), split_prefix xs m (omega arith) (λ i below. zeros (suc i) (omega arith)) one))
 
 -- rank k has the next one from rank n on
 pub record IsNextOne (ds : List Bool) (n k : ℕ) : Type 0 where
@@ -142,19 +138,16 @@ shl_bit : (v s i : ℕ) → i + s < 64 → bit_at (v * 2 ^ s % 2 ^ 64) (i + s) �
 shl_bit v s i within =
     let n = v * 2 ^ s in
     let whole : n ≡ n + 0 = omega arith in
-    sym (bit_at_cat_low (n / 2 ^ 64) 64 (n % 2 ^ 64) (i + s) within)
-    ∙ ap (λ m. bit_at m (i + s)) (div-add-mod' n (2 ^ 64) ∙ whole)
-    ∙ bit_at_cat_high v s 0 (i + s) (pow_pos s) (omega arith)
-    ∙ ap (bit_at v) (omega arith)
+    let place : i + s - s ≡ i = omega arith in
+    cc (bit_at_cat_low (n / 2 ^ 64) 64 (n % 2 ^ 64) (i + s) within, div-add-mod' n (2 ^ 64),
+        bit_at_cat_high v s 0 (i + s) (pow_pos s) (omega arith))
 
 shl_low : (v s i : ℕ) → i < s → s < 64 → bit_at (v * 2 ^ s % 2 ^ 64) i ≡ 0
 shl_low v s i low small =
     let n = v * 2 ^ s in
     let whole : n ≡ n + 0 = omega arith in
-    sym (bit_at_cat_low (n / 2 ^ 64) 64 (n % 2 ^ 64) i (omega arith))
-    ∙ ap (λ m. bit_at m i) (div-add-mod' n (2 ^ 64) ∙ whole)
-    ∙ bit_at_cat_low v s 0 i low
-    ∙ bit_at-zero i
+    cc (bit_at_cat_low (n / 2 ^ 64) 64 (n % 2 ^ 64) i (omega arith), div-add-mod' n (2 ^ 64),
+        bit_at_cat_low v s 0 i low, bit_at-zero i)
 
 -- the digit of a rank whose word is w, after that word is shifted up so that bit `top` is the highest
 digit_shifted : (size top r w : ℕ) (ws : List ℕ) → w ≡ get_or ws (top / 64) 0 → size ≤ 64 * length ws → top / 64 ≡ r / 64 → r ≤ top → r < size
@@ -171,9 +164,8 @@ pub none_in_word : (size end w : ℕ) (ws : List ℕ) → 0 < end → end ≤ si
 none_in_word size end w ws some within is long zeros none j from =
     ⊎_elim
     (λ (below : j < end).
-    digit_shifted size (end - 1) j w ws is long (omega arith) (omega arith) (omega arith)
-    ∙ ap (λ v. eqb (bit_at v (j % 64 + (63 - (end - 1) % 64))) 1) none
-    ∙ ap (λ b. eqb b 1) (bit_at-zero (j % 64 + (63 - (end - 1) % 64))))
+    cc (digit_shifted size (end - 1) j w ws is long (omega arith) (omega arith) (omega arith),
+        bit_at-zero (j % 64 + (63 - (end - 1) % 64))))
     (λ (above : end ≤ j). zeros j above)
     (cases_lt j end)
 
@@ -202,9 +194,7 @@ reach_in_word size end w ws some within is long zeros one fits =
           (cases_lt k end))
           (λ k last.
           let place : k % 64 + s ≡ j = omega arith in
-          digit_shifted size (end - 1) k w ws is long (omega arith) (omega arith) (omega arith)
-          ∙ ap (λ i. eqb (bit_at a i) 1) place
-          ∙ ap (λ b. eqb b 1) set),
+          cc (digit_shifted size (end - 1) k w ws is long (omega arith) (omega arith) (omega arith))),
     )
 
 pub reach_none_from : (ds : List Bool) → IsZeroFrom ds 0 → 0 ≡ reach ds

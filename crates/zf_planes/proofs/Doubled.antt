@@ -39,32 +39,28 @@ run_doubled (false ∷ xs) ys one = zero_once (xs ++ ys) (has_one-behind xs ys o
 
 -- ---- zeros behind
 
-zeros_end : (k : ℕ) → code_from_run (true ∷ replicate (suc k) false) ≡ true ∷ false ∷ []
-zeros_end k = ap (λ t. true ∷ cond t (true ∷ code_from_run (replicate (suc k) false)) (false ∷ [])) (has_one-zeros (suc k))
-
 pub has_one-zeros_behind : (ds : List Bool) (k : ℕ) → has_one (ds ++ replicate k false) ≡ has_one ds
 has_one-zeros_behind [] k = has_one-zeros k
 has_one-zeros_behind (true ∷ ds) k = refl
 has_one-zeros_behind (false ∷ ds) k = has_one-zeros_behind ds k
 
 run_ends : (es : List Bool) → has_one es ≡ false → (n : ℕ) → code_from_run (true ∷ (es ++ replicate (suc n) false)) ≡ true ∷ false ∷ []
-run_ends [] none n = zeros_end n
+run_ends [] none n =
+    ap (λ t. true ∷ cond t (true ∷ code_from_run (replicate (suc n) false)) (false ∷ [])) (has_one-zeros (suc n))
 run_ends (e ∷ es) none n = ap (λ t. true ∷ cond t (true ∷ code_from_run ((e ∷ es) ++ replicate (suc n) false)) (false ∷ [])) (has_one-zeros_behind (e ∷ es) (suc n) ∙ none)
 
 pub run_zeros_behind : (ds : List Bool) (k : ℕ) → has_one ds ≡ true → code_from_run (ds ++ replicate (suc k) false) ≡ code_from_run (ds ++ false ∷ [])
 run_zeros_behind [] k one = absurd (false≢true one)
 run_zeros_behind (false ∷ ds) k one =
-    zero_once (ds ++ replicate (suc k) false) (has_one-zeros_behind ds (suc k) ∙ one)
-    ∙ ap (λ bs. false ∷ bs) (run_zeros_behind ds k one)
-    ∙ sym (zero_once (ds ++ false ∷ []) (has_one-zeros_behind ds 1 ∙ one))
+    cc (zero_once (ds ++ replicate (suc k) false) (has_one-zeros_behind ds (suc k) ∙ one),
+        run_zeros_behind ds k one, zero_once (ds ++ false ∷ []) (has_one-zeros_behind ds 1 ∙ one))
 run_zeros_behind (true ∷ ds) k one = by (has_one ds) refl (λ more. run_zeros_behind ds k more)
   where
     by : (t : Bool) → has_one ds ≡ t → (has_one ds ≡ true → code_from_run (ds ++ replicate (suc k) false) ≡ code_from_run (ds ++ false ∷ []))
         → code_from_run (true ∷ (ds ++ replicate (suc k) false)) ≡ code_from_run (true ∷ (ds ++ false ∷ []))
     by true more rest =
-        one_doubled (ds ++ replicate (suc k) false) (has_one-zeros_behind ds (suc k) ∙ more)
-        ∙ ap (λ bs. true ∷ true ∷ bs) (rest more)
-        ∙ sym (one_doubled (ds ++ false ∷ []) (has_one-zeros_behind ds 1 ∙ more))
+        cc (one_doubled (ds ++ replicate (suc k) false) (has_one-zeros_behind ds (suc k) ∙ more), rest more,
+            one_doubled (ds ++ false ∷ []) (has_one-zeros_behind ds 1 ∙ more))
     by false none rest = run_ends ds none k ∙ sym (run_ends ds none 0)
 
 -- ---- a number below 2^n that is not 0 has a one among its n lowest bits
@@ -132,10 +128,9 @@ run_of_entry_to_9 most digits e some nine one eight within is =
     let prefix : i / 256 + 1 ≡ most = omega arith in
     let low : i % 256 ≡ digits = omega arith in
     let whole : test_run most digits e ≡ true =
-    ap (λ k. test_run k digits e) (sym prefix)
-    ∙ ap (λ k. test_run (i / 256 + 1) k e) (sym low)
-    ∙ ap (test_run (i / 256 + 1) (i % 256)) (is ∙ ap (λ k. get_or DOUBLED k 0) (sym low))
-    ∙ each_below-true (λ j. test_run (j / 256 + 1) (j % 256) (get_or DOUBLED (j % 256) 0)) 2304 i test_runs (omega arith) in
+    cc (
+        each_below-true (λ j. test_run (j / 256 + 1) (j % 256) (get_or DOUBLED (j % 256) 0)) 2304 i test_runs
+            (omega arith)) in
     let there : eqb digits 0 ≡ false = grind (arith, nat_tests) in search (rules, lt-ltb, and_parts, same_digits, same_digits-true, ltb-true)
 
 -- more digits make no difference, where they are zeros
@@ -162,13 +157,9 @@ run_of_entry most digits e one eight within is = ⊎_elim
     let short = run_of_entry_to_9 9 digits e (omega arith) (omega arith) one eight (omega arith) is in
     let all = not_last most digits nine eight in
     let all_of_9 = not_last 9 digits (omega arith) eight in
-    record {
-      bits = ap (λ k. field (run_len digits e - k) (run_bits digits e)) (all ∙ sym all_of_9) ∙ short.bits ∙ sym (nine_digits most digits nine one eight);
-      len = short.len;
-      two = short.two;
-      digits_enough = short.digits_enough;
-      bits_enough = short.bits_enough;
-    })
+    let bits : field (run_len digits e - implied most digits) (run_bits digits e)
+        ≡ code_from_run (field most digits) =
+    cc (all, all_of_9, short.bits, nine_digits most digits nine one eight) in search rules)
     (cases_lt most 9)
   where
     some : (m v : ℕ) → 0 < v → v < 2 ^ m → 0 < m
@@ -192,10 +183,9 @@ run_goes_on most digits some within =
       more = long;
       below = below;
       code =
-          ap (λ k. code_from_run (field k digits)) parts
-          ∙ ap code_from_run (field-add 8 (most - 8) digits)
-          ∙ run_doubled (field 8 digits) (field (most - 8) (digits / 256)) (has_one-field (most - 8) (digits / 256) (omega arith) below)
-          ∙ ap (λ (ds : List Bool). doubled ds ++ code_from_run (field (most - 8) (digits / 256))) (sym (field-mod 8 digits));
+          cc (field-add 8 (most - 8) digits,
+              run_doubled (field 8 digits) (field (most - 8) (digits / 256)) (has_one-field (most - 8) (digits / 256) (omega arith) below),
+              field-mod 8 digits);
     }
   where
     long : 8 < most

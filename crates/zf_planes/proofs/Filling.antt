@@ -1,29 +1,18 @@
 -- A list that is filled from its front, and holds one value from some place on.
-use Rattle.std.proofs.Common.{rules}
-use Rattle.std.proofs.Common.{◌≡◌, ℕ, ◌+◌, ◌-◌, ◌<◌, List, [], ◌∷◌, ◌++◌, length, take, drop, set, replicate, sym, ap, ◌∙◌, arith, length-set}
-use Rattle.std.proofs.lemmas.List.{take_more_set, drop-set-lt, drop-drop, drop-replicate, take-replicate, append_assoc, take-append-drop}
-use Rattle.std.proofs.Math.Seq.{take-add}
+use Rattle.std.proofs.Common.{◌≡◌, ℕ, ◌+◌, ◌-◌, List, ◌++◌, length, take, drop, set, replicate, sym, ap, ◌∙◌, arith, length-set}
+use Rattle.std.proofs.lemmas.List.{drop-set-lt, drop-drop, drop-replicate, take-append-drop}
 
 -- behind a place that is written
 pub behind_set : {A : Type 0} (xs : List A) (x z : A) (i k : ℕ) → drop i xs ≡ replicate (length xs - i) z → drop (i + k + 1) (set xs (i + k) x) ≡ replicate (length (set xs (i + k) x) - (i + k + 1)) z
 behind_set xs x z i k e =
     let place : i + k + 1 ≡ i + (k + 1) = omega arith in
     let count : length xs - i - (k + 1) ≡ length (set xs (i + k) x) - (i + k + 1) = omega (arith, length-set xs (i + k) x) in
-    drop-set-lt (i + k + 1) xs (i + k) x (omega arith)
-    ∙ ap (λ n. drop n xs) place
-    ∙ sym (drop-drop (k + 1) i xs)
-    ∙ ap (drop (k + 1)) e
-    ∙ drop-replicate (k + 1) (length xs - i) z
-    ∙ ap (λ n. replicate n z) count
+    cc (drop-set-lt (i + k + 1) xs (i + k) x (omega arith), drop-drop (k + 1) i xs,
+        drop-replicate (k + 1) (length xs - i) z)
 
 -- behind the next place
 pub behind_next : {A : Type 0} (xs : List A) (x z : A) (i : ℕ) → drop i xs ≡ replicate (length xs - i) z → drop (i + 1) (set xs i x) ≡ replicate (length (set xs i x) - (i + 1)) z
 behind_next xs x z i e = let here : i + 0 ≡ i = omega arith in rw here at (behind_set xs x z i 0 e)
-
--- the prefix up to and with a place that is written, k places on
-pub prefix_set : {A : Type 0} (xs : List A) (x z : A) (i k : ℕ) → i + k < length xs → drop i xs ≡ replicate (length xs - i) z
-    → take (i + k + 1) (set xs (i + k) x) ≡ take i xs ++ (replicate k z ++ x ∷ [])
-prefix_set xs x z i k within e = search (rules, take-replicate, take_more_set, take-add, append_assoc)
 
 -- in the whole list
 pub whole_from : {A : Type 0} (xs ys : List A) (z : A) (i : ℕ) → drop i xs ≡ replicate (length xs - i) z → ys ≡ replicate (length xs - i) z → xs ≡ take i xs ++ ys

@@ -33,12 +33,8 @@ bits_behind len n a v within small =
     let whole : 64 ≡ (len + n) + more = omega arith in
     let high : 64 - len ≡ n + more = omega arith in
     let place : len + n ≡ length (field len a) + n = omega (arith, length-field len a) in
-    sym (take-field (len + n) more x)
-    ∙ ap (λ k. take (len + n) (field k x)) (sym whole)
-    ∙ ap (take (len + n)) (field_or 64 len (64 - len) v a (omega arith) small)
-    ∙ ap (λ k. take k (field len a ++ field (64 - len) v)) place
-    ∙ take-append-add (field len a) (field (64 - len) v) n
-    ∙ ap (λ (bs : List Bool). field len a ++ bs) (ap (λ k. take n (field k v)) high ∙ take-field n more v)
+    cc (take-field (len + n) more x, field_or 64 len (64 - len) v a (omega arith) small,
+        take-append-add (field len a) (field (64 - len) v) n, take-field n more v)
 
 pub small_behind : (len n a v : ℕ) → a < 2 ^ len → v < 2 ^ n → bit_or a (v * 2 ^ len % 2 ^ 64) < 2 ^ (len + n)
 small_behind len n a v small narrow =
@@ -68,10 +64,7 @@ zero_bits : (k : ℕ) → word_bits (replicate k 0) ≡ replicate (64 * k) false
 zero_bits zero = refl
 zero_bits (suc k) =
     let more : 64 + 64 * k ≡ 64 * suc k = omega arith in
-    ap (λ (bs : List Bool). bs ++ word_bits (replicate k 0)) (field-zero 64)
-    ∙ ap (λ (bs : List Bool). replicate 64 false ++ bs) (zero_bits k)
-    ∙ replicate-append-replicate 64 (64 * k) false
-    ∙ ap (λ n. replicate n false) more
+    cc (field-zero 64, zero_bits k, replicate-append-replicate 64 (64 * k) false)
 
 -- the first of some words that are zero but for it
 first_word : (k digits : ℕ) → digits < 2 ^ 64 → word_bits (digits ∷ replicate k 0) ≡ field (64 + 64 * k) digits

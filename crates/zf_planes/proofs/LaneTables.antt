@@ -65,10 +65,8 @@ lanes_of_entry n bits e in_plane eight is =
     let prefix : i / 256 ≡ n = omega arith in
     let low : i % 256 ≡ bits = omega arith in
     let test : test_entry n bits e ≡ true =
-    ap (λ k. test_entry k bits e) (sym prefix)
-    ∙ ap (λ k. test_entry (i / 256) k e) (sym low)
-    ∙ ap (test_entry (i / 256) (i % 256)) is
-    ∙ each_below-true (λ j. test_entry (j / 256) (j % 256) (get_or LANES j 0)) 768 i test_all_lanes (omega arith) in
+    cc (
+        each_below-true (λ j. test_entry (j / 256) (j % 256) (get_or LANES j 0)) 768 i test_all_lanes (omega arith)) in
     lanes_tested n bits (lanes_apart (e % 65536)) (e / 65536 % 16) (e / 1048576 % 8) (e / 8388608) test
 
 -- ---- planes by the last bits of a budget

@@ -1,6 +1,6 @@
 -- Digits of four coefficients in words, and in four lanes of one word.
 use Rattle.std.proofs.Common.{rules}
-use Rattle.std.proofs.Common.{◌≡◌, ℕ, zero, suc, ◌+◌, ◌-◌, ◌*◌, ◌/◌, ◌%◌, ◌^◌, ◌<◌, ◌≤◌, Bool, false, List, [], ◌∷◌, ◌++◌, length, map, get_or, replicate, refl, sym, ap, subst, ◌∙◌, arith, ext_get_or, pow-suc, lit<, append_assoc}
+use Rattle.std.proofs.Common.{◌≡◌, ℕ, zero, suc, ◌+◌, ◌-◌, ◌*◌, ◌/◌, ◌%◌, ◌^◌, ◌<◌, ◌≤◌, Bool, false, List, [], ◌∷◌, ◌++◌, length, map, get_or, replicate, refl, sym, ap, ◌∙◌, arith, ext_get_or, pow-suc, lit<, append_assoc}
 use Rattle.std.proofs.Math.Nat.{div-eq_of_lt, mod-eq_of_lt, pow-le-pow_right}
 use Rattle.std.proofs.lemmas.Nat.{pow_pos, pow-add, shr-shr, shr_high, mod_low, mul-add-lt, shl_whole}
 use Rattle.std.proofs.lemmas.List.{length-map, append-nil}
@@ -74,51 +74,43 @@ bit_low j c x y below small =
 row_low : (j c : ℕ) (xs ys : List ℕ) → j < c → length xs ≡ length ys → AreBelow c ys → map (λ u. is_odd (u / 2 ^ j)) (joined c xs ys) ≡ map (λ u. is_odd (u / 2 ^ j)) ys
 unfolding joined AreBelow
 row_low j c [] [] below same small = refl
-row_low j c [] (y ∷ ys) below same small = absurd (omega arith)
-row_low j c (x ∷ xs) [] below same small = absurd (omega arith)
 row_low j c (x ∷ xs) (y ∷ ys) below same small =
     ap (λ d. d ∷ map (λ u. is_odd (u / 2 ^ j)) (joined c xs ys)) (bit_low j c x y below small.0) ∙ ap (λ (ds : List Bool). is_odd (y / 2 ^ j) ∷ ds) (row_low j c xs ys below (omega arith) small.1)
+row_low j c xs ys below same small = absurd (omega arith)
 
 row_high : (i c : ℕ) (xs ys : List ℕ) → length xs ≡ length ys → AreBelow c ys → map (λ u. is_odd (u / 2 ^ (i + c))) (joined c xs ys) ≡ map (λ u. is_odd (u / 2 ^ i)) xs
 unfolding joined AreBelow
 row_high i c [] [] same small = refl
-row_high i c [] (y ∷ ys) same small = absurd (omega arith)
-row_high i c (x ∷ xs) [] same small = absurd (omega arith)
 row_high i c (x ∷ xs) (y ∷ ys) same small =
     ap (λ d. d ∷ map (λ u. is_odd (u / 2 ^ (i + c))) (joined c xs ys)) (bit_high i c x y small.0) ∙ ap (λ (ds : List Bool). is_odd (x / 2 ^ i) ∷ ds) (row_high i c xs ys (omega arith) small.1)
+row_high i c xs ys same small = absurd (omega arith)
 
 joined_low : (k c : ℕ) (xs ys : List ℕ) → k ≤ c → length xs ≡ length ys → AreBelow c ys → low_planes k (joined c xs ys) ≡ low_planes k ys
 unfolding low_planes
 joined_low zero c xs ys few same small = refl
 joined_low (suc k) c xs ys few same small =
-    ap (λ (ds : List Bool). ds ∷ low_planes k (joined c xs ys)) (row_low k c xs ys (omega arith) same small)
-    ∙ ap (λ (ps : List (List Bool)). map (λ u. is_odd (u / 2 ^ k)) ys ∷ ps) (joined_low k c xs ys (omega arith) same small)
+    cc (row_low k c xs ys (omega arith) same small, joined_low k c xs ys (omega arith) same small)
 
 pub planes_joined : (i c : ℕ) (xs ys : List ℕ) → length xs ≡ length ys → AreBelow c ys → low_planes (i + c) (joined c xs ys) ≡ low_planes i xs ++ low_planes c ys
 unfolding low_planes
 planes_joined zero c xs ys same small = let all : zero + c ≡ c = omega arith in rw all (joined_low c c xs ys (omega arith) same small)
 planes_joined (suc i) c xs ys same small =
     let next : suc i + c ≡ suc (i + c) = omega arith in
-    rw next
-    (ap (λ (ds : List Bool). ds ∷ low_planes (i + c) (joined c xs ys)) (row_high i c xs ys same small)
-    ∙ ap (λ (ps : List (List Bool)). map (λ u. is_odd (u / 2 ^ i)) xs ∷ ps) (planes_joined i c xs ys same small))
+    rw next (cc (row_high i c xs ys same small, planes_joined i c xs ys same small))
 
 sum_below : (i c x y : ℕ) → x < 2 ^ i → y < 2 ^ c → x * 2 ^ c + y < 2 ^ (i + c)
 sum_below i c x y high low = search (rules, mul-add-lt, pow-add)
 
 pub joined_below : (i c : ℕ) (xs ys : List ℕ) → length xs ≡ length ys → AreBelow i xs → AreBelow c ys → AreBelow (i + c) (joined c xs ys)
 unfolding joined AreBelow
-joined_below i c [] [] same high low = tt
-joined_below i c [] (y ∷ ys) same high low = tt
-joined_below i c (x ∷ xs) [] same high low = tt
 joined_below i c (x ∷ xs) (y ∷ ys) same high low = (sum_below i c x y high.0 low.0, joined_below i c xs ys (omega arith) high.1 low.1)
+joined_below i c xs ys same high low = tt
 
 pub length-joined : (c : ℕ) (xs ys : List ℕ) → length xs ≡ length ys → length (joined c xs ys) ≡ length xs
 unfolding joined
-length-joined c [] [] same = refl
-length-joined c [] (y ∷ ys) same = refl
 length-joined c (x ∷ xs) [] same = absurd (omega arith)
 length-joined c (x ∷ xs) (y ∷ ys) same = ap suc (length-joined c xs ys (omega arith))
+length-joined c xs ys same = refl
 
 -- each number of the list is small
 pub each_below : (c : ℕ) (words : List ℕ) → AreBelow c words → All (λ u. u < 2 ^ c) words
@@ -165,9 +157,7 @@ unfolding lanes_in AreBelow joined
 lanes_joined zero v e h c high low room = refl
 lanes_joined (suc k) v e h c high low room =
     let one = lane_and_above v e h c high.0 low.0 room in
-    ap (λ u. u ∷ lanes_in k ((v * 2 ^ c + e) / 65536)) one.0
-    ∙ ap (λ u. (v % 65536 * 2 ^ c + e % 65536) ∷ lanes_in k u) one.1
-    ∙ ap (λ (us : List ℕ). (v % 65536 * 2 ^ c + e % 65536) ∷ us) (lanes_joined k (v / 65536) (e / 65536) h c high.1 low.1 room)
+    cc (one.0, one.1, lanes_joined k (v / 65536) (e / 65536) h c high.1 low.1 room)
 
 -- lanes of which each has room are lost by no word
 none_above : (k v : ℕ) → v < 65536 ^ k → above_lanes k v ≡ 0
@@ -214,12 +204,10 @@ gathered_more words done lanes held e c before small room =
     let back = lanes_in 4 e in
     let same : length prefix ≡ length back = length-lanes_in 4 lanes ∙ sym (length-lanes_in 4 e) in
     let is = lanes_joined 4 lanes e held c before.back small room in
-    let P : List ℕ → Type 0 = λ us. AreBelow (held + c) us in (
-      record { four = before.four; prefix = before.prefix; back = subst P (sym is) (joined_below held c prefix back same before.back small) },
-      ap (λ (us : List ℕ). low_planes done words ++ low_planes (held + c) us) is
-          ∙ ap (λ (ps : List (List Bool)). low_planes done words ++ ps) (planes_joined held c prefix back same small)
-          ∙ sym (append_assoc (low_planes done words) (low_planes held prefix) (low_planes c back)),
-    )
+    let below = joined_below held c prefix back same before.back small in
+    (record { four = before.four; prefix = before.prefix; back = rw is below },
+        cc (is, planes_joined held c prefix back same small,
+            append_assoc (low_planes done words) (low_planes held prefix) (low_planes c back)))
 
 -- what is in the lanes is put into the words
 pub gathered_down : (words : List ℕ) (done lanes held : ℕ) → IsGathered words done lanes held
@@ -231,12 +219,8 @@ gathered_down words done lanes held before = search (rules, length-lanes_in, len
 
 pub elements_below : (c : ℕ) (words : List ℕ) → length words ≡ 4 → AreBelow c words → (get_or words 0 0 < 2 ^ c) × (get_or words 1 0 < 2 ^ c) × (get_or words 2 0 < 2 ^ c) × (get_or words 3 0 < 2 ^ c)
 unfolding AreBelow
-elements_below c [] four small = absurd (omega arith)
-elements_below c (a ∷ []) four small = absurd (omega arith)
-elements_below c (a ∷ b ∷ []) four small = absurd (omega arith)
-elements_below c (a ∷ b ∷ d ∷ []) four small = absurd (omega arith)
 elements_below c (a ∷ b ∷ d ∷ e ∷ []) four small = (small.0, small.1.0, small.1.1.0, small.1.1.1.0)
-elements_below c (a ∷ b ∷ d ∷ e ∷ f ∷ words) four small = absurd (omega arith)
+elements_below c words four small = absurd (omega arith)
 
 lanes_below : (c v : ℕ) → AreBelow c (lanes_in 4 v) → (v % 65536 < 2 ^ c) × (v / 65536 % 65536 < 2 ^ c) × (v / 65536 / 65536 % 65536 < 2 ^ c) × (v / 65536 / 65536 / 65536 % 65536 < 2 ^ c)
 unfolding AreBelow lanes_in
@@ -258,17 +242,13 @@ put_together : (words : List ℕ) (done lanes held : ℕ) → length words ≡ 4
     ≡ (get_or words 0 0 * 2 ^ held % 2 ^ 64 + lanes % 65536) ∷ (get_or words 1 0 * 2 ^ held % 2 ^ 64 + lanes / 65536 % 65536)
     ∷ (get_or words 2 0 * 2 ^ held % 2 ^ 64 + lanes / 65536 / 65536 % 65536) ∷ (get_or words 3 0 * 2 ^ held % 2 ^ 64 + lanes / 65536 / 65536 / 65536 % 65536) ∷ []
 unfolding joined lanes_in AreBelow
-put_together [] done lanes held four small room = absurd (omega arith)
-put_together (a ∷ []) done lanes held four small room = absurd (omega arith)
-put_together (a ∷ b ∷ []) done lanes held four small room = absurd (omega arith)
-put_together (a ∷ b ∷ d ∷ []) done lanes held four small room = absurd (omega arith)
 put_together (a ∷ b ∷ d ∷ e ∷ []) done lanes held four small room =
     let first : a * 2 ^ held % 2 ^ 64 ≡ a * 2 ^ held = shl_whole a done held 64 small.0 room in
     let second : b * 2 ^ held % 2 ^ 64 ≡ b * 2 ^ held = shl_whole b done held 64 small.1.0 room in
     let third : d * 2 ^ held % 2 ^ 64 ≡ d * 2 ^ held = shl_whole d done held 64 small.1.1.0 room in
     let fourth : e * 2 ^ held % 2 ^ 64 ≡ e * 2 ^ held = shl_whole e done held 64 small.1.1.1.0 room in
     rw (first, second, third, fourth) refl
-put_together (a ∷ b ∷ d ∷ e ∷ f ∷ words) done lanes held four small room = absurd (omega arith)
+put_together words done lanes held four small room = absurd (omega arith)
 
 -- they are the words with the lanes below
 pub put_words : (words : List ℕ) (done lanes held : ℕ) → IsGathered words done lanes held → done + held ≤ 64
@@ -278,10 +258,8 @@ pub put_words : (words : List ℕ) (done lanes held : ℕ) → IsGathered words 
     ∷ (get_or words 2 0 * 2 ^ held % 2 ^ 64 + lanes / 65536 / 65536 % 65536) ∷ (get_or words 3 0 * 2 ^ held % 2 ^ 64 + lanes / 65536 / 65536 / 65536 % 65536) ∷ []) (done + held) 0 0
     ≡ gathered words done lanes held)
 put_words words done lanes held before room =
-    let is = put_together words done lanes held before.four before.prefix room in
-    let down = gathered_down words done lanes held before in
-    let Whole : List ℕ → Type 0 = λ us. IsGathered us (done + held) 0 0 in
-    (subst Whole is down.0, ap (λ (us : List ℕ). gathered us (done + held) 0 0) (sym is) ∙ down.1)
+    rw (put_together words done lanes held before.four before.prefix room) at
+        (gathered_down words done lanes held before)
 
 -- lanes as they are put together
 pub lanes_put : (words : List ℕ) (done lanes held e c : ℕ) → lanes < 2 ^ 64 → e < 2 ^ 64 → IsGathered words done lanes held → AreBelow c (lanes_in 4 e) → held + c ≤ 16

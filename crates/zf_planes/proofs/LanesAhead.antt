@@ -51,13 +51,9 @@ planes_then (suc m) q r size n count s (ds ∷ planes) some within sizes is bits
     let k = plane_bits r size n s in
     let above = max n (reach ds) in
     let long : length (plane_ahead r size n s) ≡ size = ap length first ∙ size_is in
-    let here = next_plane r m size n s some within long in
-    let more = next_plane r (m + q) size n s some within long in
-    let here_bits = rw first at here.bits in
-    let here_digits = rw first at here.digits in
-    let more_bits = rw first at more.bits in
-    let more_digits = rw first at more.digits in
-    let below : planes_ahead (r - k) m size above (drop k s) ≡ planes = tail_is (sym here_digits ∙ is) in
+    let here = rw first at (next_plane r m size n s some within long) in
+    let more = rw first at (next_plane r (m + q) size n s some within long) in
+    let below : planes_ahead (r - k) m size above (drop k s) ≡ planes = cc (here.digits, is) in
     let low = planes_bits (r - k) m size above (drop k s) in
     let rest = planes_then m q (r - k) size above low (drop k s) planes some (reach_within size n ds within size_is) (All-tail (λ es. length es ≡ size) ds planes sizes) below refl in
     let sum : count ≡ k + low = omega arith in
@@ -67,13 +63,7 @@ planes_then (suc m) q r size n count s (ds ∷ planes) some within sizes is bits
     let next : suc m + q ≡ suc (m + q) = omega arith in
     let rest_bits = rw (spent, place, reached) at rest.bits in
     let rest_digits = rw (spent, place, reached) at rest.digits in
-    record {
-      bits = rw next (omega (arith, more_bits, rest_bits));
-      digits = rw next (more_digits ∙ ap (λ (ps : List (List Bool)). ds ∷ ps) rest_digits);
-    }
-  where
-    tail_is : {d e : List Bool} {ps qs : List (List Bool)} → d ∷ ps ≡ e ∷ qs → ps ≡ qs
-    tail_is same = cc
+    grind arith
 
 -- ---- in lanes
 
@@ -143,7 +133,7 @@ one_read {now} {new} {left} {after} most n v len above some within is long reach
     let s = rest now in
     let ds = plane_ahead left 4 n s in
     let planes : most ≡ suc (most - 1) = omega arith in
-    let size : length ds ≡ 4 = only_size (rw is at (sizes 1 v)) in
+    let size = All-head (λ es. length es ≡ 4) ds [] (rw is at (sizes 1 v)) in
     let next = next_plane left (most - 1) 4 n s (omega arith) within size in
     let spent : after ≡ left - len = omega (arith, takes.spent) in
     let Bits : ℕ → Type 0 = λ p. planes_bits left p 4 n s ≡ len + planes_bits (left - len) (most - 1) 4 above (drop len s) in
@@ -152,9 +142,6 @@ one_read {now} {new} {left} {after} most n v len above some within is long reach
       bits = rw (Takes-rest takes, spent) (subst Bits (sym planes) (rw (long, reached) next.bits));
       digits = rw (Takes-rest takes, spent) (subst Digits (sym planes) (rw (is, long, reached) next.digits));
     }
-  where
-    only_size : {ds : List Bool} → AreOfSize 4 (ds ∷ []) → length ds ≡ 4
-    only_size {ds} all = All-head (λ es. length es ≡ 4) ds [] all
 
 -- how far the ones of one plane reach at most
 pub reach_of_one : (n v : ℕ) (ds : List Bool) → n ≤ 4 → low_planes 1 (lanes_in 4 v) ≡ ds ∷ [] → max n (reach ds) ≤ 4
@@ -167,16 +154,10 @@ reach_of_one n v ds within is =
 cut_own : (r : ℕ) (s : List Bool) → r < 4 → r ≤ length s → (plane_bits r 4 4 s ≡ r) × (plane_ahead r 4 4 s ≡ take r s ++ replicate (4 - r) false)
 unfolding plane_bits plane_ahead
 cut_own zero s few there = (refl, refl)
-cut_own (suc zero) [] few there = absurd (omega arith)
 cut_own (suc zero) (a ∷ s) few there = (refl, refl)
-cut_own (suc (suc zero)) [] few there = absurd (omega arith)
-cut_own (suc (suc zero)) (a ∷ []) few there = absurd (omega arith)
 cut_own (suc (suc zero)) (a ∷ b ∷ s) few there = (refl, refl)
-cut_own (suc (suc (suc zero))) [] few there = absurd (omega arith)
-cut_own (suc (suc (suc zero))) (a ∷ []) few there = absurd (omega arith)
-cut_own (suc (suc (suc zero))) (a ∷ b ∷ []) few there = absurd (omega arith)
 cut_own (suc (suc (suc zero))) (a ∷ b ∷ c ∷ s) few there = (refl, refl)
-cut_own (suc (suc (suc (suc r)))) s few there = absurd (omega arith)
+cut_own r s few there = absurd (omega arith)
 
 -- the first of them
 own_plane : (r v : ℕ) (s : List Bool) → min r 4 ≤ length s → field (min r 4) v ≡ take (min r 4) s → (r < 4 → v < 2 ^ r) → (plane_bits r 4 4 s ≡ min r 4) × (plane_ahead r 4 4 s ≡ field 4 v)
@@ -185,13 +166,8 @@ own_plane r v s there is small = ⊎_elim
     let all : min r 4 ≡ r = omega arith in
     let cut = cut_own r s few (omega arith) in
     let parts : r + (4 - r) ≡ 4 = omega arith in
-    let none : v / 2 ^ r ≡ 0 = div-eq_of_lt (small few) in (
-      cut.0 ∙ sym all,
-      cut.1
-          ∙ ap (λ (bs : List Bool). bs ++ replicate (4 - r) false) (sym (rw all at is))
-          ∙ ap (λ (bs : List Bool). field r v ++ bs) (sym (ap (field (4 - r)) none ∙ field-zero (4 - r)))
-          ∙ sym (field-add r (4 - r) v) ∙ ap (λ k. field k v) parts,
-    ))
+    let none : v / 2 ^ r ≡ 0 = div-eq_of_lt (small few) in
+    (cut.0 ∙ sym all, cc (cut.1, field-zero (4 - r), field-add r (4 - r) v)))
     (λ (many : 4 ≤ r).
     let all : min r 4 ≡ 4 = omega arith in
     let ds = field 4 v in
@@ -243,11 +219,9 @@ own_read {now} {new} {left} {after} most c v string len few is there bits_are sm
     let next = planes_then c (most - c) left 4 4 len s (low_planes c (lanes_in 4 v)) (omega arith) (omega arith) (sizes c v) (here.1 ∙ sym lanes) (here.0 ∙ sym is) in
     let spent : after ≡ left - len = omega (arith, takes.spent) in
     let reached : max 4 (reach_of_all (low_planes c (lanes_in 4 v))) ≡ 4 = omega (arith, reach_of_fours (low_planes c (lanes_in 4 v)) (sizes c v)) in
-    let bits = rw (parts, reached) at next.bits in
-    let digits = rw (parts, reached) at next.digits in
     record {
-      bits = rw (Takes-rest takes, spent) bits;
-      digits = rw (Takes-rest takes, spent) digits;
+      bits = rw (Takes-rest takes, spent) (rw (parts, reached) at next.bits);
+      digits = rw (Takes-rest takes, spent) (rw (parts, reached) at next.digits);
     }
   where
     reach_of_fours : (planes : List (List Bool)) → AreOfSize 4 planes → reach_of_all planes ≤ 4
@@ -301,7 +275,7 @@ lone_plane : (e : ℕ) → e < 2 → low_planes 1 (lanes_in 4 e) ≡ (is_odd e �
 unfolding low_planes lanes_in
 lone_plane zero small = refl
 lone_plane (suc zero) small = refl
-lone_plane (suc (suc e)) small = absurd (omega arith)
+lone_plane e small = absurd (omega arith)
 
 lone_below : (e : ℕ) → e < 2 → AreBelow 1 (lanes_in 4 e)
 unfolding lanes_in AreBelow
@@ -376,8 +350,6 @@ FoursRead-more {start} {now} {new} {budget} {left} {after} {prec} {n} {words} {d
     let fewer : prec - (done + held) - c ≡ prec - (done' + held') = omega arith in
     let bits = rw fewer at some.bits in
     let digits = rw fewer at some.digits in
-    let below = planes_ahead after (prec - (done' + held')) 4 above (rest new) in
-    let prefix = gathered words done lanes held in
     record {
       passes = Passes-part (planes_bits after (prec - (done' + held')) 4 above (rest new)) before.passes bits some.taken;
       put = put;

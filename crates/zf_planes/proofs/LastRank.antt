@@ -1,6 +1,6 @@
 -- Planes of four digits in which three ranks have had a one: each is its own code, as where all four have.
 use Rattle.std.proofs.Common.{rules}
-use Rattle.std.proofs.Common.{◌≡◌, ℕ, zero, suc, ◌+◌, ◌-◌, ◌*◌, ◌<◌, ◌≤◌, min, max, Bool, true, false, List, [], ◌∷◌, ◌++◌, length, take, drop, refl, sym, ap, ◌∙◌, ⊎_elim, arith}
+use Rattle.std.proofs.Common.{◌≡◌, ℕ, zero, suc, ◌+◌, ◌-◌, ◌*◌, ◌<◌, ◌≤◌, min, max, Bool, true, false, List, [], ◌∷◌, length, take, drop, refl, ap, ◌∙◌, ⊎_elim, arith}
 use Rattle.std.proofs.lemmas.Bool.{cases_lt}
 use Rattle.std.proofs.lemmas.List.{length-append}
 use Rattle.std.proofs.lemmas.List.Elements.{All-nil, All-cons, All-head, All-tail}
@@ -12,7 +12,6 @@ use Rattle.zf_spec.proofs.KeptSame.{kept_whole}
 use Rattle.zf_spec.proofs.Reach.{reach_within}
 use Rattle.zf_bits.specs.Reader.{Reader, rest}
 use Rattle.zf_planes.specs.Decoding.{planes_ahead, planes_bits}
-use Rattle.zf_planes.specs.Fours.{IsAsGood}
 use Rattle.zf_planes.specs.Lanes.{ReadsPlanes, ReadsSome}
 
 -- a list of four
@@ -24,23 +23,16 @@ pub record IsFour (ds : List Bool) : Type 0 where
   pub is : ds ≡ first ∷ second ∷ third ∷ fourth ∷ []
 
 pub four_of : (ds : List Bool) → length ds ≡ 4 → IsFour ds
-four_of [] long = absurd (omega (arith, long))
-four_of (a ∷ []) long = absurd (omega (arith, long))
-four_of (a ∷ b ∷ []) long = absurd (omega (arith, long))
-four_of (a ∷ b ∷ c ∷ []) long = absurd (omega (arith, long))
 four_of (a ∷ b ∷ c ∷ d ∷ []) long = record { first = a; second = b; third = c; fourth = d; is = refl }
-four_of (a ∷ b ∷ c ∷ d ∷ e ∷ ds) long = absurd (omega (arith, long))
+four_of ds long = absurd (omega (arith, long))
 
 -- ---- one plane
 
 own_code : (n : ℕ) (a b c d : Bool) → 3 ≤ n → n ≤ 4 → plane_code n (a ∷ b ∷ c ∷ d ∷ []) ≡ a ∷ b ∷ c ∷ d ∷ []
-own_code zero a b c d low high = absurd (omega arith)
-own_code (suc zero) a b c d low high = absurd (omega arith)
-own_code (suc (suc zero)) a b c d low high = absurd (omega arith)
 own_code (suc (suc (suc zero))) a b c true low high = refl
 own_code (suc (suc (suc zero))) a b c false low high = refl
 own_code (suc (suc (suc (suc zero)))) a b c d low high = refl
-own_code (suc (suc (suc (suc (suc n))))) a b c d low high = absurd (omega arith)
+own_code n a b c d low high = absurd (omega arith)
 
 -- its code
 pub plane_of_three : (n : ℕ) (ds : List Bool) → 3 ≤ n → n ≤ 4 → length ds ≡ 4 → plane_code n ds ≡ ds
@@ -50,15 +42,12 @@ plane_of_three n ds low high long =
 
 -- what a budget keeps of it
 kept_short : (r : ℕ) (a b c d : Bool) → r < 4 → kept_plane r 3 (a ∷ b ∷ c ∷ d ∷ []) ≡ kept_plane r 4 (a ∷ b ∷ c ∷ d ∷ [])
-kept_short zero a b c true few = refl
-kept_short zero a b c false few = refl
-kept_short (suc zero) a b c true few = refl
-kept_short (suc zero) a b c false few = refl
-kept_short (suc (suc zero)) a b c true few = refl
-kept_short (suc (suc zero)) a b c false few = refl
-kept_short (suc (suc (suc zero))) a b c true few = refl
-kept_short (suc (suc (suc zero))) a b c false few = refl
 kept_short (suc (suc (suc (suc r)))) a b c d few = absurd (omega arith)
+kept_short zero a b c true few = refl
+kept_short (suc zero) a b c true few = refl
+kept_short (suc (suc zero)) a b c true few = refl
+kept_short (suc (suc (suc zero))) a b c true few = refl
+kept_short r a b c d few = refl
 
 kept_of_three : (n r : ℕ) (ds : List Bool) → 3 ≤ n → n ≤ 4 → length ds ≡ 4 → kept_plane r n ds ≡ kept_plane r 4 ds
 kept_of_three n r ds low high long = ⊎_elim
@@ -71,21 +60,11 @@ kept_of_three n r ds low high long = ⊎_elim
 
 -- what bits make of it
 read_of_three : (n : ℕ) (s : List Bool) → 3 ≤ n → n ≤ 4 → plane_in 4 n s ≡ plane_in 4 4 s
-read_of_three zero s low high = absurd (omega arith)
-read_of_three (suc zero) s low high = absurd (omega arith)
-read_of_three (suc (suc zero)) s low high = absurd (omega arith)
-read_of_three (suc (suc (suc zero))) [] low high = refl
-read_of_three (suc (suc (suc zero))) (a ∷ []) low high = refl
-read_of_three (suc (suc (suc zero))) (a ∷ b ∷ []) low high = refl
-read_of_three (suc (suc (suc zero))) (a ∷ b ∷ c ∷ []) low high = refl
-read_of_three (suc (suc (suc zero))) (a ∷ b ∷ c ∷ true ∷ []) low high = refl
-read_of_three (suc (suc (suc zero))) (a ∷ b ∷ c ∷ false ∷ []) low high = refl
 read_of_three (suc (suc (suc zero))) (a ∷ b ∷ c ∷ true ∷ true ∷ s) low high = refl
-read_of_three (suc (suc (suc zero))) (a ∷ b ∷ c ∷ true ∷ false ∷ s) low high = refl
 read_of_three (suc (suc (suc zero))) (a ∷ b ∷ c ∷ false ∷ true ∷ s) low high = refl
-read_of_three (suc (suc (suc zero))) (a ∷ b ∷ c ∷ false ∷ false ∷ s) low high = refl
+read_of_three (suc (suc (suc zero))) s low high = refl
 read_of_three (suc (suc (suc (suc zero)))) s low high = refl
-read_of_three (suc (suc (suc (suc (suc n))))) s low high = absurd (omega arith)
+read_of_three n s low high = absurd (omega arith)
 
 -- ---- planes
 
@@ -96,12 +75,7 @@ code_of_three n m (ds ∷ planes) low high low' high' sizes =
     let long : length ds ≡ 4 = All-head (λ es. length es ≡ 4) ds planes sizes in
     let below = All-tail (λ es. length es ≡ 4) ds planes sizes in
     let rest = code_of_three (max n (reach ds)) (max m (reach ds)) planes (omega arith) (reach_within 4 n ds high long) (omega arith) (reach_within 4 m ds high' long) below in
-    ap (λ (bs : List Bool). bs ++ code_from (max n (reach ds)) planes) (plane_of_three n ds low high long ∙ sym (plane_of_three m ds low' high' long))
-    ∙ ap (λ (bs : List Bool). plane_code m ds ++ bs) rest
-
--- so the ones reach as far, as a code sees it
-pub code_as_good : (m n : ℕ) (planes : List (List Bool)) → IsAsGood m n → m ≤ 4 → n ≤ 4 → AreOfSize 4 planes → code_from m planes ≡ code_from n planes
-code_as_good m n planes same high high' sizes = search (rules, code_of_three, cases_lt)
+    cc (plane_of_three n ds low high long, plane_of_three m ds low' high' long)
 
 -- what a budget keeps of them
 kept_of_planes : (n r : ℕ) (planes : List (List Bool)) → 3 ≤ n → n ≤ 4 → AreOfSize 4 planes → kept_planes_from r n planes ≡ kept_planes_from r 4 planes

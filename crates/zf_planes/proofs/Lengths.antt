@@ -68,9 +68,8 @@ length-code_words-le prec size planes within enough =
 -- ---- the ones of a word
 
 digit_of : (k : ℕ) → k < 2 → k ≡ cond (eqb k 1) 1 0
-digit_of zero small = refl
-digit_of (suc zero) small = refl
 digit_of (suc (suc k)) small = absurd (omega arith)
+digit_of k small = refl
 
 field_ones : (n v : ℕ) → v < 2 ^ n → number_ones v ≡ ones (field n v)
 field_ones zero v small = omega (arith, ones_le_self v)
@@ -85,9 +84,8 @@ pub part_ones : (size at n w : ℕ) (ws : List ℕ) → w ≡ get_or ws (at / 64
     → number_ones (bit_and (w / 2 ^ (at % 64)) (18446744073709551615 / 2 ^ (64 - n))) ≡ ones (take n (drop at (digits_held size ws)))
 part_ones size at n w ws is long same within =
     let v = w / 2 ^ (at % 64) in
-    ap number_ones (masked v n (omega arith))
-    ∙ field_ones n (v % 2 ^ n) (mod_below v (2 ^ n) (pow_pos n))
-    ∙ ap ones (field-mod n v ∙ field_in_word size at n w ws is long same within)
+    cc (masked v n (omega arith), field_ones n (v % 2 ^ n) (mod_below v (2 ^ n) (pow_pos n)), field-mod n v,
+        field_in_word size at n w ws is long same within)
 
 -- and those behind them
 pub ones_split : (at n : ℕ) (ds : List Bool) → ones (drop at ds) ≡ ones (take n (drop at ds)) + ones (drop (at + n) ds)

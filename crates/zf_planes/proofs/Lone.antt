@@ -50,13 +50,8 @@ lone_field (suc m) (suc k) f within =
     let first : is_odd v ≡ f 0 = ap is_odd twice ∙ is_odd-digit_value (f 0) (2 * r) in
     let second : is_odd (v / 2) ≡ false = ap is_odd half ∙ is_odd-digit_value false r in
     let rest : v / 4 ≡ r = omega arith in
-    ap (λ n. field n v) two
-    ∙ field-add 2 (2 * m) v
-    ∙ ap (λ b. b ∷ is_odd (v / 2) ∷ field (2 * m) (v / 4)) first
-    ∙ ap (λ b. f 0 ∷ b ∷ field (2 * m) (v / 4)) second
-    ∙ ap (λ n. f 0 ∷ false ∷ field (2 * m) n) rest
-    ∙ ap (λ (bs : List Bool). f 0 ∷ false ∷ bs) (lone_field m k next (omega arith))
-    ∙ ap (λ (ds : List Bool). f 0 ∷ false ∷ lone_code ds) (map-from f next 1 m false (λ i here. let place : 1 + i ≡ suc i = omega arith in ap f place))
+    cc (field-add 2 (2 * m) v, lone_field m k next (omega arith),
+        map-from f next 1 m false (λ i here. let place : 1 + i ≡ suc i = omega arith in ap f place))
 
 -- and behind the group bit of the first one
 pub lone_bits : (m k : ℕ) (f : ℕ → Bool) → m ≤ k → field (1 + 2 * m) (1 + 2 * spread 4 k f) ≡ true ∷ lone_code (map f (upto m))
@@ -107,10 +102,7 @@ lone_top m a b c d fewer within word =
     each zero k none = refl
     each (suc n) k none =
         let here = none k (omega arith) in
-        ap (λ x. (top_digit a k ∷ x ∷ top_digit c k ∷ top_digit d k ∷ []) ∷ map (λ i. top_digit a i ∷ top_digit b i ∷ top_digit c i ∷ top_digit d i ∷ []) (count_from (suc k) n)) here.0
-        ∙ ap (λ x. (top_digit a k ∷ false ∷ x ∷ top_digit d k ∷ []) ∷ map (λ i. top_digit a i ∷ top_digit b i ∷ top_digit c i ∷ top_digit d i ∷ []) (count_from (suc k) n)) here.1.0
-        ∙ ap (λ x. (top_digit a k ∷ false ∷ false ∷ x ∷ []) ∷ map (λ i. top_digit a i ∷ top_digit b i ∷ top_digit c i ∷ top_digit d i ∷ []) (count_from (suc k) n)) here.1.1
-        ∙ ap (λ (ps : List (List Bool)). (top_digit a k ∷ false ∷ false ∷ false ∷ []) ∷ ps) (each n (suc k) (λ i less. none i (omega arith)))
+        cc (here.0, here.1.0, here.1.1, each n (suc k) (λ i less. none i (omega arith)))
 
 -- planes that begin with such ones
 pub lone_first : (planes m : ℕ) (words : List ℕ) → 0 < m → m ≤ planes → planes ≤ 64 → top_digit (get_or words 0 0) 0 ≡ true → top_planes m words ≡ lone_planes (map (top_digit (get_or words 0 0)) (upto m))
@@ -120,7 +112,5 @@ lone_first planes (suc m) words some within most first lone =
     let ds = map (top_digit (get_or words 0 0)) (upto (suc m)) in
     let rest = top_planes (planes - suc m) (map (below (suc m)) words) in
     let code = lone_from_none ds first in
-    ap (code_from 0) (top_planes-split planes (suc m) words within most ∙ ap (λ (ps : List (List Bool)). ps ++ rest) lone)
-    ∙ code_from-append 0 (lone_planes ds) rest
-    ∙ ap (λ (bs : List Bool). bs ++ code_from (max 0 (reach_of_all (lone_planes ds))) rest) code.0
-    ∙ ap (λ n. (true ∷ lone_code ds) ++ code_from n rest) code.1
+    cc (top_planes-split planes (suc m) words within most, code_from-append 0 (lone_planes ds) rest, code.0,
+        code.1)

@@ -25,9 +25,8 @@ narrow_tail ds k = by (has_one ds) refl
   where
     by : (t : Bool) → has_one ds ≡ t → tail (ds ++ replicate (suc k) false) ≡ tail (ds ++ false ∷ [])
     by true one =
-        tail-some (ds ++ replicate (suc k) false) (has_one-zeros_behind ds (suc k) ∙ one)
-        ∙ ap (λ (bs : List Bool). true ∷ bs) (run_zeros_behind ds k one)
-        ∙ sym (tail-some (ds ++ false ∷ []) (has_one-zeros_behind ds 1 ∙ one))
+        cc (tail-some (ds ++ replicate (suc k) false) (has_one-zeros_behind ds (suc k) ∙ one),
+            run_zeros_behind ds k one, tail-some (ds ++ false ∷ []) (has_one-zeros_behind ds 1 ∙ one))
     by false none = tail_none ds k none ∙ sym (tail_none ds 0 none)
 
 narrow_plane : (n : ℕ) (ds : List Bool) (k : ℕ) → n ≤ length ds → plane_code n (ds ++ replicate (suc k) false) ≡ plane_code n (ds ++ false ∷ [])
@@ -45,9 +44,8 @@ narrow_code n size v three some low = search (rules, narrow_field, narrow_plane,
 
 pub narrow_reach : (size v : ℕ) → 3 < size → v < 8 → reach (field size v) ≡ reach (field 4 v)
 narrow_reach size v some low =
-    ap reach (narrow_field size v some low)
-    ∙ reach_behind (field 3 v) (suc (size - 4))
-    ∙ sym (ap reach (narrow_field 4 v (omega arith) low) ∙ reach_behind (field 3 v) 1)
+    cc (narrow_field size v some low, reach_behind (field 3 v) (suc (size - 4)),
+        narrow_field 4 v (omega arith) low, reach_behind (field 3 v) 1)
 
 -- ---- two planes of a word each
 
@@ -56,11 +54,8 @@ narrow_next : {A : Type 0} (words : A → List ℕ) (n prec size i v : ℕ) (pla
     → field size v ≡ digits_held size (words plane)
     → code_from n (drop i (take prec (planes_held size (map words planes)))) ≡ plane_code n (field 4 v) ++ code_from (max n (reach (field 4 v))) (drop (i + 1) (take prec (planes_held size (map words planes))))
 narrow_next words n prec size i v planes plane three some low is below within same =
-    let rest = drop (i + 1) (take prec (planes_held size (map words planes))) in
-    code_next words n prec size i planes plane is below within
-    ∙ ap (λ (ds : List Bool). plane_code n ds ++ code_from (max n (reach ds)) rest) (sym same)
-    ∙ ap (λ (bs : List Bool). bs ++ code_from (max n (reach (field size v))) rest) (narrow_code n size v three some low)
-    ∙ ap (λ k. plane_code n (field 4 v) ++ code_from (max n k) rest) (narrow_reach size v some low)
+    cc (code_next words n prec size i planes plane is below within, narrow_code n size v three some low,
+        narrow_reach size v some low)
 
 -- the next two, whose code is known
 pub narrow_two : {A : Type 0} (words : A → List ℕ) (n prec size i v w l bits a : ℕ) (planes : List A) (first second : A) → n < 3 → 3 < size → v < 8 → w < 8 → i + 1 < prec → prec ≤ length planes
@@ -78,9 +73,7 @@ narrow_two words n prec size i v w l bits a planes first second three some low l
     let above : a ≡ max m (reach (field 4 w)) = two.above ∙ ap (λ u. max (max n (reach (field 4 u))) (reach (field 4 ((v + 16 * w) / 16 % 16)))) v_is ∙ ap (λ u. max m (reach (field 4 u))) w_is in
     let bits_are : field l bits ≡ plane_code n (field 4 v) ++ plane_code m (field 4 w) =
     two.bits ∙ ap (λ u. plane_code n (field 4 u) ++ plane_code (max n (reach (field 4 u))) (field 4 ((v + 16 * w) / 16 % 16))) v_is ∙ ap (λ u. plane_code n (field 4 v) ++ plane_code m (field 4 u)) w_is in
-    narrow_next words n prec size i v planes first (omega arith) some low is (omega arith) within same
-    ∙ ap (λ (bs : List Bool). plane_code n (field 4 v) ++ bs) (narrow_next words m prec size (i + 1) w planes second reached some low' is' below within same')
-    ∙ sym (append_assoc (plane_code n (field 4 v)) (plane_code m (field 4 w)) (code_from (max m (reach (field 4 w))) (drop (i + 1 + 1) top)))
-    ∙ ap (λ (bs : List Bool). bs ++ code_from (max m (reach (field 4 w))) (drop (i + 1 + 1) top)) (sym bits_are)
-    ∙ ap (λ k. field l bits ++ code_from k (drop (i + 1 + 1) top)) (sym above)
-    ∙ ap (λ k. field l bits ++ code_from a (drop k top)) next
+    cc (narrow_next words n prec size i v planes first (omega arith) some low is (omega arith) within same,
+        narrow_next words m prec size (i + 1) w planes second reached some low' is' below within same',
+        append_assoc (plane_code n (field 4 v)) (plane_code m (field 4 w))
+            (code_from (max m (reach (field 4 w))) (drop (i + 1 + 1) top)))

@@ -1,9 +1,9 @@
 -- A reader that passes the bits of a code in parts, within a budget.
 use Rattle.std.proofs.Common.{rules}
-use Rattle.std.proofs.Common.{◌≡◌, ℕ, ◌+◌, ◌-◌, ◌≤◌, Bool, List, ◌++◌, length, take, drop, refl, sym, ap, ◌∙◌, arith, length-drop, length-take, take-append-drop}
+use Rattle.std.proofs.Common.{◌≡◌, ℕ, ◌+◌, ◌-◌, ◌≤◌, length, drop, refl, sym, ap, ◌∙◌, arith, length-drop}
 use Rattle.std.proofs.lemmas.List.{drop-drop}
-use Rattle.std.specs.Prelude.{Option, None, Some, IfNone, OnSome}
-use Rattle.zf_bits.specs.Reader.{Reader, rest, Reads}
+use Rattle.std.specs.Prelude.{Option, None, Some, IfNone}
+use Rattle.zf_bits.specs.Reader.{Reader, rest}
 use Rattle.zf_planes.specs.Decoding.{Takes, Lacks}
 
 -- of the bits that are needed, more are to come
@@ -43,26 +43,11 @@ pub if_none : {A : Type 0} {P : Type 0} (answer : Option A) → P → IfNone ans
 if_none None p = p
 if_none (Some x) p = tt
 
--- what follows of an answer with a value
-pub on_some : {A : Type 0} (answer : Option A) {P Q : Type 0} → OnSome answer P → (P → Q) → OnSome answer Q
-on_some None p next = tt
-on_some (Some x) p next = next p
-
 -- ---- two parts, of which the second gives the answer
 
 pub Takes-rest : {old now : Reader} {before after count : ℕ} → Takes old now before after count → rest now ≡ drop count (rest old)
 Takes-rest {old} {now} {before} {after} {count} takes =
     ap (λ n. drop n now.all) takes.place ∙ ap (drop (old.at + count)) takes.all ∙ sym (drop-drop count old.at old.all)
-
--- ---- at the end
-
--- what was passed is what came next
-pub Takes-reads : {old new : Reader} {before after count : ℕ} → Takes old new before after count → Reads old new (take count (rest old))
-Takes-reads {old} {new} {before} {after} {count} takes = record {
-  next = sym (take-append-drop count (rest old)) ∙ ap (λ (bs : List Bool). take count (rest old) ++ bs) (sym (Takes-rest takes));
-  place = omega (arith, takes.place, takes.enough, length-take count (rest old));
-  all = takes.all;
-}
 
 -- ---- what is said of an answer, carried on
 

@@ -25,11 +25,9 @@ IsPeeked v s = take (length (take 64 s)) (field 64 v) ≡ take 64 s
 pub peeked : (s : List Bool) (v count : ℕ) → IsPeeked v s → count ≤ 64 → count ≤ length s → field count v ≡ take count s
 peeked s v count e small within =
     let parts : count + (64 - count) ≡ 64 = omega arith in
-    sym (take-field count (64 - count) v)
-    ∙ ap (λ k. take count (field k v)) parts
-    ∙ sym (take-take count (length (take 64 s)) (field 64 v) (omega (arith, length-take 64 s)))
-    ∙ ap (take count) e
-    ∙ take-take count 64 s small
+    cc (take-field count (64 - count) v,
+        take-take count (length (take 64 s)) (field 64 v) (omega (arith, length-take 64 s)),
+        take-take count 64 s small)
 
 pub window_long : (s : List Bool) (v count : ℕ) → field count v ≡ take count s → count ≤ length s
 window_long s v count e = omega (arith, ap length e, length-field count v, length-take count s)
@@ -44,11 +42,7 @@ window_prefix s v count n e within =
 pub window_behind : (s : List Bool) (v count n : ℕ) → field count v ≡ take count s → n ≤ count → field (count - n) (v / 2 ^ n) ≡ take (count - n) (drop n s)
 window_behind s v count n e within =
     let parts : n + (count - n) ≡ count = omega arith in
-    sym (drop-field n (count - n) v)
-    ∙ ap (λ k. drop n (field k v)) parts
-    ∙ ap (drop n) e
-    ∙ ap (λ k. drop n (take k s)) (sym parts)
-    ∙ drop-take n (count - n) s
+    cc (drop-field n (count - n) v, drop-take n (count - n) s)
 
 pub window_passed : (s : List Bool) (left v count n : ℕ) → IsWindow left v count s → 0 < n → n ≤ count → IsWindow (left - n) (v / 2 ^ (n - 1) / 2) (count - n) (drop n s)
 window_passed s left v count n window some within =

@@ -1,11 +1,11 @@
 -- A plane in words whose digits are put in from its front on.
 use Rattle.std.proofs.Common.{rules}
-use Rattle.std.proofs.Common.{◌≡◌, ℕ, zero, suc, ◌+◌, ◌-◌, ◌*◌, ◌/◌, ◌%◌, ◌^◌, ◌<◌, ◌≤◌, ◌≢◌, ⊎_elim, Bool, true, false, eqb, List, [], ◌∷◌, ◌++◌, length, get_or, set, take, drop, replicate, get_or-set_same, get_or-set_other, ext_get_or, sym, ap, ◌∙◌, arith, length-set, length-append, length-take, append_assoc}
+use Rattle.std.proofs.Common.{◌≡◌, ℕ, zero, suc, ◌+◌, ◌-◌, ◌*◌, ◌/◌, ◌%◌, ◌^◌, ◌<◌, ◌≤◌, ◌≢◌, ⊎_elim, Bool, true, false, List, [], ◌∷◌, ◌++◌, length, get_or, set, take, drop, replicate, get_or-set_same, get_or-set_other, ext_get_or, sym, ap, ◌∙◌, arith, length-set, length-append, length-take, append_assoc}
 use Rattle.std.specs.Int.{w64}
 use Rattle.std.specs.Int.Bits.{bit_or}
 use Rattle.std.proofs.Math.Seq.{take-add}
 use Rattle.std.proofs.lemmas.Bool.{cases_eq}
-use Rattle.std.proofs.lemmas.List.{take_at, drop_at, drop-drop, take-replicate, drop-replicate, length-replicate, replicate-append-replicate, append-nil}
+use Rattle.std.proofs.lemmas.List.{take_at, drop_at, drop-drop, take-replicate, drop-replicate, length-replicate, replicate-append-replicate, append-nil, take_more_set}
 use Rattle.std.proofs.lemmas.Nat.Bits.{bit_at_set_same, bit_at_set_other}
 use Rattle.zf_spec.specs.Numbers.{is_odd, field, word_bits}
 use Rattle.zf_spec.specs.Planes.{reach}
@@ -13,7 +13,7 @@ use Rattle.zf_spec.specs.HeldPlanes.{digits_held, IsClearFrom}
 use Rattle.zf_spec.proofs.WordBits.{length-word_bits, get_or-word_bits}
 use Rattle.zf_bits.proofs.Words.{words-set}
 use Rattle.zf_bits.proofs.Packed.{flat_map-field-replicate}
-use Rattle.zf_planes.proofs.Filling.{prefix_set, behind_set}
+use Rattle.zf_planes.proofs.Filling.{behind_set}
 use Rattle.zf_planes.proofs.Runs.{reach-push, reach-push_zero}
 
 -- ---- words with no bit from a rank on
@@ -28,11 +28,7 @@ clear_later n m ws order clear =
     let bits = word_bits ws in
     let place : n + (m - n) ≡ m = omega arith in
     let count : length bits - n - (m - n) ≡ length bits - m = omega arith in
-    ap (λ k. drop k bits) (sym place)
-    ∙ sym (drop-drop (m - n) n bits)
-    ∙ ap (drop (m - n)) clear
-    ∙ drop-replicate (m - n) (length bits - n) false
-    ∙ ap (λ k. replicate k false) count
+    cc (drop-drop (m - n) n bits, drop-replicate (m - n) (length bits - n) false)
 
 pub held_zeros : (size k : ℕ) → size ≤ 64 * k → digits_held size (replicate k 0) ≡ replicate size false
 unfolding digits_held
@@ -42,7 +38,6 @@ held_zeros size k within = ap (take size) (flat_map-field-replicate 64 k) ∙ ta
 pub held_behind : (n size : ℕ) (ws : List ℕ) → n ≤ size → size ≤ 64 * length ws → IsClearFrom n ws → digits_held size ws ≡ digits_held n ws ++ replicate (size - n) false
 unfolding digits_held IsClearFrom
 held_behind n size ws order within clear =
-    let bits = word_bits ws in
     let place : size ≡ n + (size - n) = omega arith in search (rules, take-add, take-replicate, length-word_bits)
 
 -- ---- a word is put in
@@ -61,10 +56,8 @@ word_filled ws at q n x s place small within word long clear =
     ap (λ k. drop k bits) next ∙ sym (drop-drop 64 at bits) ∙ ap (drop 64) clear ∙ drop-replicate 64 (length bits - at) false in
     let more = replicate (64 - n) false ++ drop (64 * suc q) bits in
     let whole : word_bits (set ws q x) ≡ (take at bits ++ s) ++ more =
-    words-set 64 q ws x within
-    ∙ ap (λ k. take k bits ++ (field 64 x ++ drop (64 * suc q) bits)) (sym place)
-    ∙ ap (λ (xs : List Bool). take at bits ++ (xs ++ drop (64 * suc q) bits)) word
-    ∙ regroup (take at bits) s (replicate (64 - n) false) (drop (64 * suc q) bits) in
+    cc (words-set 64 q ws x within,
+        regroup (take at bits) s (replicate (64 - n) false) (drop (64 * suc q) bits)) in
     let prefix : length (take at bits ++ s) ≡ at + n = omega (arith, length-append (take at bits) s, length-take at bits) in
     let same : 64 - n + (length bits - at - 64) ≡ length (word_bits (set ws q x)) - (at + n) = omega (arith, length-word_bits (set ws q x), length-set ws q x) in
         search (rules, take_at, drop_at, replicate-append-replicate)
@@ -84,14 +77,11 @@ one_set ws r within =
     get_or-word_bits (set ws q x) j (omega arith)
     ∙ ⊎_elim
     (λ (here : j ≡ r).
-    ap (λ i. is_odd (get_or (set ws q x) (i / 64) 0 / 2 ^ (i % 64))) here
-    ∙ ap (λ u. is_odd (u / 2 ^ (r % 64))) (get_or-set_same ws q x 0 (omega arith))
-    ∙ ap (λ b. eqb b 1) (bit_at_set_same w64 v (r % 64) (omega arith))
-    ∙ sym (ap (λ i. get_or (set (word_bits ws) r true) i false) here ∙ get_or-set_same (word_bits ws) r true false (omega arith)))
+    cc (get_or-set_same ws q x 0 (omega arith), bit_at_set_same w64 v (r % 64) (omega arith),
+        get_or-set_same (word_bits ws) r true false (omega arith)))
     (λ (apart : j ≢ r).
-    other j apart (omega arith)
-    ∙ sym (get_or-word_bits ws j (omega arith))
-    ∙ sym (get_or-set_other (word_bits ws) r j true false apart))
+    cc (other j apart (omega arith), get_or-word_bits ws j (omega arith),
+        get_or-set_other (word_bits ws) r j true false apart))
     (cases_eq j r))
   where
     other : (j : ℕ) → j ≢ r → j < 64 * length ws
@@ -103,10 +93,8 @@ one_set ws r within =
         ⊎_elim
         (λ (same : j / 64 ≡ q).
         let bit : j % 64 ≢ r % 64 = λ (e : j % 64 ≡ r % 64). apart (omega arith) in
-        ap (λ i. is_odd (get_or (set ws q x) i 0 / 2 ^ (j % 64))) same
-        ∙ ap (λ u. is_odd (u / 2 ^ (j % 64))) (get_or-set_same ws q x 0 (omega arith))
-        ∙ ap (λ b. eqb b 1) (bit_at_set_other w64 v (r % 64) (omega arith) (j % 64) bit)
-        ∙ ap (λ i. is_odd (get_or ws i 0 / 2 ^ (j % 64))) (sym same))
+        cc (get_or-set_same ws q x 0 (omega arith),
+            bit_at_set_other w64 v (r % 64) (omega arith) (j % 64) bit))
         (λ (away : j / 64 ≢ q). ap (λ u. is_odd (u / 2 ^ (j % 64))) (get_or-set_other ws q (j / 64) x 0 away))
         (cases_eq (j / 64) q)
 
@@ -114,7 +102,8 @@ one_set ws r within =
 pub one_placed : (ws ws' : List ℕ) (n z : ℕ) → n + z < 64 * length ws → IsClearFrom n ws → word_bits ws' ≡ set (word_bits ws) (n + z) true
     → (digits_held (n + z + 1) ws' ≡ digits_held n ws ++ (replicate z false ++ true ∷ [])) × IsClearFrom (n + z + 1) ws'
 unfolding digits_held IsClearFrom
-one_placed ws ws' n z within clear is = search (rules, length-word_bits, prefix_set, behind_set)
+one_placed ws ws' n z within clear is =
+    search (rules, length-word_bits, take-replicate, take_more_set, take-add, append_assoc, behind_set)
 
 -- ---- how far the ones reach
 
@@ -125,6 +114,5 @@ reach_behind xs (suc k) =
 
 pub reach_one : (xs : List Bool) (z : ℕ) → reach (xs ++ (replicate z false ++ true ∷ [])) ≡ length xs + z + 1
 reach_one xs z =
-    ap reach (sym (append_assoc xs (replicate z false) (true ∷ [])))
-    ∙ reach-push (xs ++ replicate z false)
-    ∙ omega (arith, length-append xs (replicate z false), length-replicate z false)
+    grind (arith, append_assoc xs (replicate z false) (true ∷ []), reach-push (xs ++ replicate z false),
+        length-append xs (replicate z false), length-replicate z false)

@@ -1,7 +1,6 @@
 -- Planes that bring no new rank, and planes in one word that are written one after another.
 use Rattle.std.proofs.Common.{rules}
 use Rattle.std.proofs.Common.{◌≡◌, ℕ, ◌+◌, ◌-◌, ◌/◌, ◌^◌, ◌<◌, ◌≤◌, max, Bool, List, ◌++◌, length, map, take, drop, get_or, arith}
-use Rattle.std.proofs.Math.Nat.{pow-le-pow_right}
 use Rattle.zf_bits.specs.Writer.{Writer}
 use Rattle.zf_spec.specs.Numbers.{field}
 use Rattle.zf_spec.specs.Planes.{plane_code, code_from, reach}
@@ -23,9 +22,6 @@ whole_code n size v all = rw all (plane_whole size v)
 
 pub plain_code : (n size v : ℕ) → n ≤ size → (n ≡ size → ⊥) → v / 2 ^ n ≡ 0 → plane_code n (field size v) ≡ field (n + 1) v
 plain_code n size v within other none = plane_without size n v (omega arith) none
-
-pub plain_small : (n v : ℕ) → v / 2 ^ n ≡ 0 → v < 2 ^ (n + 1)
-plain_small n v none = search (rules, pow-le-pow_right)
 
 -- behind bits that are not written yet comes the next plane, of which the digits are at hand
 pub next_word : {A : Type 0} {old now : Writer} {budget left : ℕ} {whole : List Bool} (words : A → List ℕ) (above prec size i len bits digits : ℕ) (planes : List A) (plane : A)

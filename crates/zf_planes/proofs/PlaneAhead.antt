@@ -1,6 +1,6 @@
 -- What the decoder makes of one plane: its first digits as they are, and then a tail.
 use Rattle.std.proofs.Common.{rules}
-use Rattle.std.proofs.Common.{◌≡◌, ℕ, suc, zero, ◌+◌, ◌-◌, ◌<◌, ◌≤◌, ◌⊎◌, inl, inr, ⊎_elim, min, Bool, true, false, List, [], ◌∷◌, ◌++◌, length, take, drop, replicate, refl, sym, ap, ◌∙◌, arith, drop_at, append-nil, take-append-drop}
+use Rattle.std.proofs.Common.{◌≡◌, ℕ, suc, zero, ◌+◌, ◌-◌, ◌≤◌, ⊎_elim, min, Bool, true, false, List, [], ◌∷◌, ◌++◌, length, take, drop, replicate, refl, sym, ap, ◌∙◌, arith, drop_at, append-nil, take-append-drop}
 use Rattle.std.proofs.lemmas.Bool.{false≢true, cases_lt}
 use Rattle.std.proofs.lemmas.List.{length-take, take-take, length-drop, drop-take, drop_all, take-append-le}
 use Rattle.zf_spec.specs.Planes.{has_one, code_from_run, tail, plane_code}
@@ -24,10 +24,9 @@ kept_run_fits : (d : Bool) (ds : List Bool) (r : ℕ) → has_one (d ∷ ds) ≡
 kept_run_fits true [] zero one fits = refl
 kept_run_fits true [] (suc r) one fits = refl
 kept_run_fits false [] r one fits = absurd (false≢true one)
-kept_run_fits true (e ∷ ds) zero one fits = absurd (omega arith)
-kept_run_fits false (e ∷ ds) zero one fits = absurd (omega arith)
 kept_run_fits true (e ∷ ds) (suc r) one fits = ap (λ es. true ∷ es) (kept_group_fits r e ds (λ k. kept_run_fits e ds k) (omega arith))
 kept_run_fits false (e ∷ ds) (suc r) one fits = ap (λ es. false ∷ es) (kept_run_fits e ds r one (omega arith))
+kept_run_fits d ds r one fits = absurd (omega arith)
 
 kept_tail_fits : (r : ℕ) (ds : List Bool) → length (tail ds) ≤ r → kept_tail r ds ≡ ds
 kept_tail_fits r [] fits = kept_tail-zeros r [] refl
@@ -66,9 +65,8 @@ take-first_bits (suc q) (suc n) (b ∷ t) within = ap (λ ds. b ∷ ds) (take-fi
 
 first_bits-take : (q r : ℕ) (s : List Bool) → q ≤ r → q ≤ length s → first_bits q (take r s) ≡ take q s
 first_bits-take zero r s low within = refl
-first_bits-take (suc q) zero s low within = absurd (omega arith)
-first_bits-take (suc q) (suc r) [] low within = absurd (omega arith)
 first_bits-take (suc q) (suc r) (b ∷ s) low within = ap (λ ds. b ∷ ds) (first_bits-take q r s (omega arith) (omega arith))
+first_bits-take q r s low within = absurd (omega arith)
 
 -- as many of the first n bits as the budget has, and zeros
 prefix_padded : (r n : ℕ) (s : List Bool) → first_bits n (take r s) ≡ first_bits (min n r) (take r s) ++ replicate (n - min n r) false
@@ -78,10 +76,7 @@ prefix_padded r n s = ⊎_elim
     let q : min n r ≡ r = omega arith in
     let n' : n ≡ r + (n - r) = omega arith in
     rw q (ap (λ k. first_bits k (take r s)) n' ∙ first_zeros r (n - r) (take r s) (omega (arith, length-take r s))))
-    (cases_le n r)
-  where
-    cases_le : (a b : ℕ) → (a ≤ b) ⊎ (b ≤ a)
-    cases_le a b = ⊎_elim (λ (h : a < b). inl (omega arith)) (λ h. inr h) (cases_lt a b)
+    (cases_lt n r)
 
 -- where the bits are there
 pub prefix_read : (r n : ℕ) (s : List Bool) → min n r ≤ length s → first_bits n (take r s) ≡ take (min n r) s ++ replicate (n - min n r) false

@@ -52,7 +52,6 @@ unfolding planes_bits planes_ahead
 next_whole r p size n s within fits =
     let ds = plane_in size n (take r s) in
     let count = length (plane_code n ds) in
-    let above = max n (reach ds) in
     let r' : r ≡ count + (r - count) = omega arith in search (rules, drop-take, length-append, kept_whole)
 
 next_cut : (r p size n : ℕ) (s : List Bool) → 1 ≤ size → n ≤ size → r < length (plane_code n (plane_in size n (take r s))) → length (plane_ahead r size n s) ≡ size
@@ -102,7 +101,6 @@ pub zero_planes : (k r p size : ℕ) (s t : List Bool) → 1 ≤ size → k ≤ 
 zero_planes zero r p size s t some within below e = search rules
 zero_planes (suc k) r zero size s t some within below e = absurd (omega arith)
 zero_planes (suc k) r (suc p) size s t some within below e =
-    let zeros = replicate size false in
     let one = zero_plane r p size s (replicate k false ++ t) some (omega arith) e in
     let more = zero_planes k (r - 1) p size (replicate k false ++ t) t some (omega arith) (omega arith) refl in search rules
 
@@ -131,9 +129,7 @@ whole_planes (ds ∷ planes) r (suc p) size n len s some within sizes code there
     let one = whole_plane r n k ds s (omega arith) prefix (omega arith) (omega arith) in
     let is : plane_ahead r size n s ≡ ds = subst (λ m. plane_ahead r m n s ≡ ds) size_is one.1 in
     let bits : plane_bits r size n s ≡ k = subst (λ m. plane_bits r m n s ≡ k) size_is one.0 in
-    let next = next_plane r p size n s some within (ap length is ∙ size_is) in
-    let next_bits = rw (is, bits) at next.bits in
-    let next_digits = rw (is, bits) at next.digits in
+    let next = rw (is, bits) at (next_plane r p size n s some within (ap length is ∙ size_is)) in
     let rest = whole_planes planes (r - k) p size above (len - k) (drop k s) some (reach_within size n ds within size_is) (All-tail (λ es. length es ≡ size) ds planes sizes) behind (omega (arith, length-drop k s)) (omega arith) (omega arith) in
     let spent : r - k - (len - k) ≡ r - len = omega arith in
     let place : drop (len - k) (drop k s) ≡ drop len s = drop-drop (len - k) k s ∙ ap (λ m. drop m s) (sym parts) in

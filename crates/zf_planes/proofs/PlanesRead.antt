@@ -111,14 +111,10 @@ AreRead-lacks {start} {now} {new} {budget} {left} {prec} {size} {above} {i} read
 
 -- ---- no bit or no plane is left
 
--- the planes that are not read are zero
-all_planes : (i prec n size : ℕ) (held whole rest_ahead : List (List Bool)) → i ≤ prec → prec ≤ n → drop i held ≡ replicate (n - i) (replicate size false)
-    → whole ≡ take i held ++ rest_ahead → rest_ahead ≡ replicate (prec - i) (replicate size false) → held ≡ whole ++ replicate (n - prec) (replicate size false)
-all_planes i prec n size held whole rest_ahead within enough back is none = search (rules, take-append-drop, replicate-append-replicate, append_assoc)
-
 pub AreRead-over : {start now : Reader} {budget left prec size above i : ℕ} (planes : List (List ℕ)) → AreRead start now budget left prec size above i planes
     → 1 ≤ size → prec ≤ length planes → (left ≡ 0) ⊎ (prec - i ≡ 0) → ReadsTop budget prec size (rest start) planes left
-AreRead-over {start} {now} {budget} {left} {prec} {size} {above} {i} planes read some enough none = search (rules, planes_over, all_planes)
+AreRead-over {start} {now} {budget} {left} {prec} {size} {above} {i} planes read some enough none =
+    search (rules, planes_over, take-append-drop, replicate-append-replicate, append_assoc)
 
 -- ---- a plane that is known by the bits in sight
 

@@ -9,9 +9,8 @@ use Rattle.zf_spec.proofs.PlaneCode.{tail-zeros, tail-first, tail-last}
 -- ---- one digit more at the end
 
 has_one-push_zero : (ds : List Bool) → has_one (ds ++ false ∷ []) ≡ has_one ds
-has_one-push_zero [] = refl
-has_one-push_zero (true ∷ ds) = refl
 has_one-push_zero (false ∷ ds) = has_one-push_zero ds
+has_one-push_zero ds = refl
 
 pub reach-push : (ds : List Bool) → reach (ds ++ true ∷ []) ≡ length ds + 1
 reach-push [] = refl
@@ -47,11 +46,10 @@ has_one-drop zero (d ∷ ds) below = chosen (has_one (d ∷ ds)) 0 (suc (reach d
 has_one-drop (suc n) (d ∷ ds) below = has_one-drop n ds (below_rest (has_one (d ∷ ds)) n (reach ds) below)
 
 pub has_one-drop_none : (n : ℕ) (ds : List Bool) → reach ds ≤ n → has_one (drop n ds) ≡ false
-has_one-drop_none zero [] above = refl
-has_one-drop_none (suc n) [] above = refl
 has_one-drop_none zero (d ∷ ds) above = not_chosen (has_one (d ∷ ds)) (reach ds) above
 has_one-drop_none (suc n) (true ∷ ds) above = has_one-drop_none n ds (omega arith)
 has_one-drop_none (suc n) (false ∷ ds) above = has_one-drop_none n ds (above_rest ds n (has_one ds) refl above)
+has_one-drop_none n ds above = refl
 
 -- ---- the tail
 
@@ -74,8 +72,7 @@ run_digits j k (d ∷ rest) e =
     let all : k ≡ j + 1 = omega (arith, length-append zeros (true ∷ d ∷ rest), length-replicate j false) in
     let prefix : take (j + 1) (zeros ++ true ∷ d ∷ rest) ≡ zeros ++ true ∷ [] =
     ap (take (j + 1)) (sym (append_assoc zeros (true ∷ []) (d ∷ rest))) ∙ take_at (zeros ++ true ∷ []) (d ∷ rest) (j + 1) (length-append zeros (true ∷ []) ∙ ap (λ n. n + 1) (length-replicate j false)) in
-    tail-first j d rest
-    ∙ ap (λ (xs : List Bool). true ∷ xs) (sym (rw (all, prefix) (append_assoc zeros (true ∷ []) (tail (d ∷ rest)))))
+    search (rules, tail-first, append_assoc)
 
 -- the tail n digits into a plane: its run ends before m
 pub tail_run_at : (ds : List Bool) (n j m : ℕ) → j < length (drop n ds) → drop n ds ≡ replicate j false ++ true ∷ drop (j + 1) (drop n ds) → m ≡ min (n + j + 1) (length ds - 1)

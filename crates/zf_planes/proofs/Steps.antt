@@ -118,19 +118,16 @@ pub tail_over : (left m : ℕ) (s : List Bool) → (left ≡ 0) ⊎ (m ≡ 0) �
 tail_over left m s = search (rules, tail_bits-spent, tail_ahead-spent, tail_bits-none, tail_ahead-none)
 
 pub tail_end : (left m : ℕ) (s t : List Bool) → 0 < left → 0 < m → s ≡ false ∷ t → (tail_bits left m s ≡ 1) × (tail_ahead left m s ≡ replicate m false)
-tail_end zero m s t some digit e = absurd (omega arith)
-tail_end (suc r) zero s t some digit e = absurd (omega arith)
 tail_end (suc r) (suc m) s t some digit e = rw e (tail_bits-end r m t, tail_ahead-end r (suc m) t)
+tail_end left m s t some digit e = absurd (omega arith)
 
 pub tail_run : (left m : ℕ) (s t : List Bool) → 0 < left → 0 < m → s ≡ true ∷ t → (tail_bits left m s ≡ suc (run_bits (left - 1) m t)) × (tail_ahead left m s ≡ run_ahead (left - 1) m t)
-tail_run zero m s t some digit e = absurd (omega arith)
-tail_run (suc r) zero s t some digit e = absurd (omega arith)
 tail_run (suc r) (suc m) s t some digit e = let less : suc r - 1 ≡ r = omega arith in rw (e, less) (tail_bits-run r m t, tail_ahead-run r m t)
+tail_run left m s t some digit e = absurd (omega arith)
 
 pub tail_short : (left m : ℕ) (s : List Bool) → 0 < left → 0 < m → s ≡ [] → 1 ≤ tail_bits left m s
-tail_short zero m s some digit e = absurd (omega arith)
-tail_short (suc r) zero s some digit e = absurd (omega arith)
 tail_short (suc r) (suc m) s some digit e = rw e (tail_bits-short r m)
+tail_short left m s some digit e = absurd (omega arith)
 
 -- a run in which the one stands here with no bit of its own
 pub run_stands : (left m : ℕ) (s : List Bool) → 0 < m → (left ≡ 0) ⊎ (m ≡ 1) → (run_bits left m s ≡ tail_bits left (m - 1) s) × (run_ahead left m s ≡ true ∷ tail_ahead left (m - 1) s)
@@ -139,19 +136,13 @@ run_stands left (suc m) s digit here =
     search (rules, run_bits-spent, tail_bits-spent, run_ahead-spent, tail_ahead-spent, run_bits-last, tail_bits-none, run_ahead-last, tail_ahead-none)
 
 pub run_one : (left m : ℕ) (s t : List Bool) → 0 < left → 1 < m → s ≡ true ∷ t → (run_bits left m s ≡ suc (tail_bits (left - 1) (m - 1) t)) × (run_ahead left m s ≡ true ∷ tail_ahead (left - 1) (m - 1) t)
-run_one zero m s t some digits e = absurd (omega arith)
-run_one (suc r) zero s t some digits e = absurd (omega arith)
-run_one (suc r) (suc zero) s t some digits e = absurd (omega arith)
 run_one (suc r) (suc (suc m)) s t some digits e = search (rules, run_bits-one, run_ahead-one)
+run_one left m s t some digits e = absurd (omega arith)
 
 pub run_zero : (left m : ℕ) (s t : List Bool) → 0 < left → 1 < m → s ≡ false ∷ t → (run_bits left m s ≡ suc (run_bits (left - 1) (m - 1) t)) × (run_ahead left m s ≡ false ∷ run_ahead (left - 1) (m - 1) t)
-run_zero zero m s t some digits e = absurd (omega arith)
-run_zero (suc r) zero s t some digits e = absurd (omega arith)
-run_zero (suc r) (suc zero) s t some digits e = absurd (omega arith)
 run_zero (suc r) (suc (suc m)) s t some digits e = search (rules, run_bits-zero, run_ahead-zero)
+run_zero left m s t some digits e = absurd (omega arith)
 
 pub run_short : (left m : ℕ) (s : List Bool) → 0 < left → 1 < m → s ≡ [] → 1 ≤ run_bits left m s
-run_short zero m s some digits e = absurd (omega arith)
-run_short (suc r) zero s some digits e = absurd (omega arith)
-run_short (suc r) (suc zero) s some digits e = absurd (omega arith)
 run_short (suc r) (suc (suc m)) s some digits e = rw e (run_bits-short r m)
+run_short left m s some digits e = absurd (omega arith)

@@ -11,7 +11,7 @@ use Rattle.zf_bits.specs.Writer.{Writer}
 use Rattle.zf_planes.specs.Fours.{string_planes, IsAsGood}
 use Rattle.zf_planes.proofs.Doubled.{plane_whole}
 use Rattle.zf_planes.specs.Writes.{Remains}
-use Rattle.zf_planes.proofs.LastRank.{code_of_three, code_as_good}
+use Rattle.zf_planes.proofs.LastRank.{code_of_three}
 
 -- ---- the code of planes goes on behind bits that were put together
 
@@ -23,9 +23,7 @@ pub record GoesOn (n : ℕ) (planes : List (List Bool)) (bits : List Bool) (m : 
 pub GoesOn-more : {n m k : ℕ} {planes rest last : List (List Bool)} {prefix back : List Bool} (both : List Bool) → GoesOn n planes prefix m rest → GoesOn m rest back k last → both ≡ prefix ++ back
     → GoesOn n planes both k last
 GoesOn-more {n} {m} {k} {planes} {rest} {last} {prefix} {back} both first second joined = record {
-  code =
-      first.code ∙ ap (λ (bs : List Bool). prefix ++ bs) second.code ∙ sym (append_assoc prefix back (code_from k last))
-      ∙ ap (λ (bs : List Bool). bs ++ code_from k last) (sym joined);
+  code = cc (first.code, second.code, append_assoc prefix back (code_from k last));
   reached = first.reached ∙ second.reached;
 }
 
@@ -40,8 +38,6 @@ pub pair_of_string : (n k string next : ℕ) (bits : List Bool) → 1 < k
     → bits ≡ plane_code n (field 4 (string % 16)) ++ plane_code (max n (reach (field 4 (string % 16)))) (field 4 (string / 16 % 16))
     → next ≡ max (max n (reach (field 4 (string % 16)))) (reach (field 4 (string / 16 % 16)))
     → GoesOn n (string_planes k string) bits next (string_planes (k - 2) (string / 256))
-pair_of_string n zero string next bits some is reached = absurd (omega arith)
-pair_of_string n (suc zero) string next bits some is reached = absurd (omega arith)
 pair_of_string n (suc (suc k)) string next bits some is reached =
     let mid = max n (reach (field 4 (string % 16))) in
     let left : suc (suc k) - 2 ≡ k = omega arith in
@@ -49,6 +45,7 @@ pair_of_string n (suc (suc k)) string next bits some is reached =
     let first = plane_of_string n (suc k) string mid (plane_code n (field 4 (string % 16))) refl refl in
     let second = plane_of_string mid k (string / 16) next (plane_code mid (field 4 (string / 16 % 16))) refl reached in
     rw (left, below) (GoesOn-more bits first second is)
+pair_of_string n k string next bits some is reached = absurd (omega arith)
 
 -- the same of one plane
 pub next_of_string : (n k string next : ℕ) (bits : List Bool) → 0 < k → bits ≡ plane_code n (field 4 (string % 16)) → next ≡ max n (reach (field 4 (string % 16)))
@@ -94,10 +91,7 @@ whole_string (suc k) string =
     let far : max 4 (reach digits) ≡ 4 = omega (arith, reach-le digits, length-field 4 string) in
     let whole : plane_code 4 digits ≡ digits = plane_whole 4 string in
     let count : 4 * suc k ≡ 4 + 4 * k = omega arith in
-    ap (λ (bs : List Bool). bs ++ code_from (max 4 (reach digits)) (string_planes k (string / 16))) whole
-    ∙ ap (λ n. digits ++ code_from n (string_planes k (string / 16))) far
-    ∙ ap (λ (bs : List Bool). digits ++ bs) (whole_string k (string / 16))
-    ∙ sym (ap (λ n. field n string) count ∙ field-add 4 (4 * k) string)
+    cc (whole_string k (string / 16), field-add 4 (4 * k) string)
 
 pub own_string : (n k string : ℕ) → 3 ≤ n → n ≤ 4 → code_from n (string_planes k string) ≡ field (4 * k) string
 own_string n k string low high = code_of_three n 4 (string_planes k string) low high (omega arith) (omega arith) (four_digits k string) ∙ whole_string k string
@@ -116,4 +110,5 @@ Remains-none {old} {now} {budget} {left} {whole} rest rest' none remains = searc
 -- how far the ones reach above counts only while bits are left
 pub Remains-above : {old now : Writer} {budget left : ℕ} {whole : List Bool} (m n : ℕ) (planes : List (List Bool)) → (0 < left → IsAsGood m n) → m ≤ 4 → n ≤ 4 → AreOfSize 4 planes
     → Remains old now budget left whole (code_from n planes) → Remains old now budget left whole (code_from m planes)
-Remains-above {old} {now} {budget} {left} {whole} m n planes same high high' sizes remains = search (rules, code_as_good, Remains-none, cases_lt)
+Remains-above {old} {now} {budget} {left} {whole} m n planes same high high' sizes remains =
+    search (rules, code_of_three, cases_lt, Remains-none)

@@ -43,12 +43,8 @@ top_digit-below word m i within =
     let t = 63 - (m + i) in
     let parts : 64 ≡ j + m = omega arith in
     let place : 63 - i ≡ m + t = omega arith in
-    ap (λ k. is_odd (word * 2 ^ m % 2 ^ k / 2 ^ (63 - i))) parts
-    ∙ ap (λ v. is_odd (v / 2 ^ (63 - i))) (shl_in_word j m word)
-    ∙ ap (λ k. is_odd (word % 2 ^ j * 2 ^ m / 2 ^ k)) place
-    ∙ ap is_odd (sym (shr-shr (word % 2 ^ j * 2 ^ m) m t))
-    ∙ ap (λ v. is_odd (v / 2 ^ t)) (shl-shr (word % 2 ^ j) m)
-    ∙ odd_low word j t (omega arith)
+    cc (shl_in_word j m word, shr-shr (word % 2 ^ j * 2 ^ m) m t, shl-shr (word % 2 ^ j) m,
+        odd_low word j t (omega arith))
 
 -- ---- the top planes and those below them
 
@@ -73,11 +69,8 @@ top_planes-split k m words within most =
     let g : ℕ → List Bool = λ i. map (λ word. top_digit word i) (map (below m) words) in
     let parts : k ≡ m + (k - m) = omega arith in
     let from : 0 + m ≡ m = omega arith in
-    ap (λ n. map f (upto n)) parts
-    ∙ ap (map f) (count_from-add 0 m (k - m))
-    ∙ map-append f (upto m) (count_from (0 + m) (k - m))
-    ∙ ap (λ n. map f (upto m) ++ map f (count_from n (k - m))) from
-    ∙ ap (λ (ps : List (List Bool)). map f (upto m) ++ ps) (sym (map-from f g m (k - m) [] (λ i here. plane-below words m i (omega arith))))
+    cc (count_from-add 0 m (k - m), map-append f (upto m) (count_from (0 + m) (k - m)),
+        map-from f g m (k - m) [] (λ i here. plane-below words m i (omega arith)))
 
 pub length-top_planes : (k : ℕ) (words : List ℕ) → length (top_planes k words) ≡ k
 unfolding top_planes
@@ -106,12 +99,11 @@ planes-from w p z words small within few =
     (λ i here.
     let j = w - 1 - (z + i) in
     let place : j ≡ 63 - (m + i) = omega arith in
-    get_or-drop z (take p ps) i []
-    ∙ get_or-take p ps (z + i) [] (omega arith)
-    ∙ get_or-planes_of w cs (z + i) (omega arith)
-    ∙ map-map (λ (ds : List Bool). get_or ds j false) (field w) words
-    ∙ map_each (λ word. get_or (field w word) j false) (λ word. top_digit word (m + i)) words (λ word. get_or-field w word j false (omega arith) ∙ ap (λ n. is_odd (word / 2 ^ n)) place)
-    ∙ plane-below words m i (omega arith)))
+    cc (get_or-drop z (take p ps) i [], get_or-take p ps (z + i) [] (omega arith),
+        get_or-planes_of w cs (z + i) (omega arith),
+        map-map (λ (ds : List Bool). get_or ds j false) (field w) words,
+        map_each (λ word. get_or (field w word) j false) (λ word. top_digit word (m + i)) words
+            (λ word. cc (get_or-field w word j false (omega arith))), plane-below words m i (omega arith))))
 
 -- ---- digits apart
 
@@ -173,20 +165,15 @@ spread_of_entries word prefix back small is_prefix is_back =
 
 -- ---- four words as a string
 
-spread-next : (k : ℕ) (f : ℕ → Bool) → spread 16 (suc k) f ≡ digit_value (f 0) + 16 * spread 16 k (λ i. f (suc i))
-unfolding spread
-spread-next k f = refl
-
 fours-next : (k v : ℕ) (ds : List Bool) (r : ℕ) → length ds ≡ 4 → v ≡ number ds + 16 * r → number ds < 16 → string_planes (suc k) v ≡ ds ∷ string_planes k r
 unfolding string_planes
 fours-next k v ds r four is small =
     let low : v % 16 ≡ number ds = omega arith in
     let high : v / 16 ≡ r = omega arith in
-    ap (λ (bs : List Bool). bs ∷ string_planes k (v / 16)) (sym (field-mod 4 v) ∙ ap (field 4) low ∙ field-number 4 ds four)
-    ∙ ap (λ n. ds ∷ string_planes k n) high
+    cc (field-mod 4 v, field-number 4 ds four)
 
 string-is : (k : ℕ) (f g h e : ℕ → Bool) → string_planes k (spread 16 k f + 2 * spread 16 k g + 4 * spread 16 k h + 8 * spread 16 k e) ≡ map (λ i. f i ∷ g i ∷ h i ∷ e i ∷ []) (upto k)
-unfolding string_planes
+unfolding string_planes spread
 string-is zero f g h e = refl
 string-is (suc k) f g h e =
     let next = λ (d : ℕ → Bool) (i : ℕ). d (suc i) in
@@ -194,11 +181,10 @@ string-is (suc k) f g h e =
     let row' : ℕ → List Bool = λ i. f (suc i) ∷ g (suc i) ∷ h (suc i) ∷ e (suc i) ∷ [] in
     let r = spread 16 k (next f) + 2 * spread 16 k (next g) + 4 * spread 16 k (next h) + 8 * spread 16 k (next e) in
     let small : number (row 0) < 16 = omega (arith, digit_value_le (f 0), digit_value_le (g 0), digit_value_le (h 0), digit_value_le (e 0)) in
-    let sum : spread 16 (suc k) f + 2 * spread 16 (suc k) g + 4 * spread 16 (suc k) h + 8 * spread 16 (suc k) e ≡ number (row 0) + 16 * r =
-    omega (arith, spread-next k f, spread-next k g, spread-next k h, spread-next k e) in
-    fours-next k _ (row 0) r refl sum small
-    ∙ ap (λ (ps : List (List Bool)). row 0 ∷ ps) (string-is k (next f) (next g) (next h) (next e))
-    ∙ ap (λ (ps : List (List Bool)). row 0 ∷ ps) (map-from row row' 1 k [] (λ i here. let place : 1 + i ≡ suc i = omega arith in ap row place))
+    let sum : spread 16 (suc k) f + 2 * spread 16 (suc k) g + 4 * spread 16 (suc k) h + 8 * spread 16 (suc k) e
+        ≡ number (row 0) + 16 * r = omega arith in
+    cc (fours-next k _ (row 0) r refl sum small, string-is k (next f) (next g) (next h) (next e),
+        map-from row row' 1 k [] (λ i here. let place : 1 + i ≡ suc i = omega arith in ap row place))
 
 pub string_of_words : (k : ℕ) (words : List ℕ) → length words ≡ 4
     → string_planes k (spread 16 k (top_digit (get_or words 0 0)) + 2 * spread 16 k (top_digit (get_or words 1 0)) + 4 * spread 16 k (top_digit (get_or words 2 0)) + 8 * spread 16 k (top_digit (get_or words 3 0))) ≡ top_planes k words
@@ -213,10 +199,8 @@ string-split planes count string words most is same = ⊎_elim
     let all : count ≡ planes = omega arith in
     let parts : 16 ≡ planes + (16 - planes) = omega arith in
     let first : string_planes planes string ≡ top_planes planes words =
-    sym (take-fours planes (16 - planes) string)
-    ∙ ap (λ n. take planes (string_planes n string)) (sym parts)
-    ∙ ap (take planes) (same ∙ top_planes-split 16 planes words (omega arith) (omega arith))
-    ∙ take_at (top_planes planes words) (top_planes (16 - planes) (map (below planes) words)) planes (length-top_planes planes words) in
+    cc (take-fours planes (16 - planes) string, top_planes-split 16 planes words (omega arith) (omega arith),
+        take_at (top_planes planes words) (top_planes (16 - planes) (map (below planes) words)) planes (length-top_planes planes words)) in
     let none : top_planes (planes - count) (map (below 16) words) ≡ [] = no_top_planes (planes - count) (map (below 16) words) (omega arith) in
     sym (ap (λ (ps : List (List Bool)). string_planes count string ++ ps) none ∙ append-nil (string_planes count string) ∙ ap (λ n. string_planes n string) all ∙ first))
     (search (rules, top_planes-split))
@@ -239,9 +223,8 @@ remains_all out budget w p z words four small within few zeros room =
     let most = length-code-le 4 top sizes in
     let first : take z top ≡ replicate z (replicate 4 false) = take-take z p ps few ∙ zeros in
     Remains-same (Remains-start out budget (code top) (omega (arith, room, most, long)))
-    (ap code (sym (take-append-drop z top) ∙ ap (λ (qs : List (List Bool)). qs ++ drop z top) first)
-    ∙ zero_code z 4 (drop z top) (omega arith)
-    ∙ ap (λ (qs : List (List Bool)). replicate z false ++ code_from 0 qs) (planes-from w p z words small within few))
+    (cc (take-append-drop z top, zero_code z 4 (drop z top) (omega arith),
+        planes-from w p z words small within few))
 
 -- once the zeros of the first z planes are written, that of the others remains
 pub zeros_written : {new : Writer} (out : Writer) (budget w p z count : ℕ) (words : List ℕ) → length words ≡ 4 → w ≤ 64 → p ≤ w → z ≤ p → take z (planes_of w (map (field w) words)) ≡ replicate z (replicate 4 false)

@@ -41,17 +41,6 @@ pub code_next : {A : Type 0} (words : A → List ℕ) (above prec size i : ℕ) 
     ≡ plane_code above (digits_held size (words plane)) ++ code_from (max above (reach (digits_held size (words plane)))) (drop (i + 1) (take prec (planes_held size (map words planes))))
 code_next words above prec size i planes plane is below within = search (rules, length-map, get_or-map, drop-top_held)
 
--- the digits of the i-th plane
-pub held_at : {A : Type 0} (words : A → List ℕ) (size i : ℕ) (planes : List A) (plane : A) → plane ≡ get_or planes (length planes - 1 - i) plane → i < length planes
-    → get_or (planes_held size (map words planes)) i [] ≡ digits_held size (words plane)
-held_at words size i planes plane is below = search (rules, length-map, get_or-planes_held, get_or-map)
-
--- the code from the i-th plane on begins with that of the plane
-pub code_held : (above prec size i : ℕ) (all : List (List ℕ)) → i < prec → prec ≤ length all
-    → code_from above (drop i (take prec (planes_held size all)))
-    ≡ plane_code above (get_or (planes_held size all) i []) ++ code_from (max above (reach (get_or (planes_held size all) i []))) (drop (i + 1) (take prec (planes_held size all)))
-code_held above prec size i all below within = search (rules, drop-top_held, get_or-planes_held)
-
 -- planes of four words are those of their words by number
 pub arrays_as_words : (planes : List (List ℕ)) → ((i : ℕ) → i < length planes → length (get_or planes i []) ≡ 4)
     → map (λ words. get_or words 0 0 ∷ get_or words 1 0 ∷ get_or words 2 0 ∷ get_or words 3 0 ∷ []) planes ≡ planes

@@ -51,10 +51,8 @@ entry_to_9 most bits e some nine eight is =
     let prefix : i / 256 + 1 ≡ most = omega arith in
     let low : i % 256 ≡ bits = omega arith in
     let whole : test_tail most bits e && test_some e ≡ true =
-    ap (λ k. test_tail k bits e && test_some e) (sym prefix)
-    ∙ ap (λ k. test_tail (i / 256 + 1) k e && test_some e) (sym low)
-    ∙ ap (λ x. test_tail (i / 256 + 1) (i % 256) x && test_some x) is
-    ∙ each_below-true (λ j. test_tail (j / 256 + 1) (j % 256) (get_or TAILS j 0) && test_some (get_or TAILS j 0)) 2304 i test_tails (omega arith) in
+    cc (
+        each_below-true (λ j. test_tail (j / 256 + 1) (j % 256) (get_or TAILS j 0) && test_some (get_or TAILS j 0)) 2304 i test_tails (omega arith)) in
     let parts = and_parts (test_tail most bits e) (test_some e) whole in search (rules, ltb-true, same_digits, and_parts, same_digits-true, eqb-true)
 
 -- more digits make no difference, where they are zeros
@@ -67,9 +65,8 @@ tail_of_nine most digits nine some eight =
 
 reach_of_nine : (most digits : ℕ) → 9 ≤ most → digits < 256 → reach (field most digits) ≡ reach (field 9 digits)
 reach_of_nine most digits nine eight =
-    ap reach (eight_of most digits nine eight)
-    ∙ reach_behind (field 8 digits) (suc (most - 9))
-    ∙ sym (ap reach (eight_of 9 digits (omega arith) eight) ∙ reach_behind (field 8 digits) (suc (9 - 9)))
+    cc (eight_of most digits nine eight, reach_behind (field 8 digits) (suc (most - 9)),
+        eight_of 9 digits (omega arith) eight, reach_behind (field 8 digits) (suc (9 - 9)))
 
 pub tail_of_entry : (most bits e : ℕ) → 0 < most → bits < 256 → e ≡ get_or TAILS (256 * (min most 9 - 1) + bits) 0 → IsEntry most bits e
 tail_of_entry most bits e some eight is = ⊎_elim

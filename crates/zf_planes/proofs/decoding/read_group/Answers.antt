@@ -49,12 +49,11 @@ returns-clause-read c =
     let now = c.args.cursor.now in
     let group = behind_group now.bits now.count c.args.most now.window c.requires.there c.requires.one c.requires.some c.pass-2.ensures.taken in
     let first = c.pass-2.ensures.taken in
-    let run = rw c.another-place.ensures at c.in_ok-run.ensures.read.taken in
-    let bits = rw c.another-place.ensures at c.in_ok-run.ensures.read.bits in
-    let digits = rw c.another-place.ensures at c.in_ok-run.ensures.read.digits in
+    let read = rw c.another-place.ensures at c.in_ok-run.ensures.read in
+    let run = read.taken in
     record {
-      within = c.in_ok-run.ensures.read.within;
+      within = read.within;
       taken = rw (c.new.ensures.left, c.new.ensures.reader) (Takes-sum _ _ first (omega (arith, first.spent, run.spent)) run);
-      bits = rw (c.new.ensures.left, c.new.ensures.reader) (omega (arith, group.0, bits, first.spent, run.spent));
-      digits = rw (c.new.ensures.left, c.new.ensures.reader) (group.1 ∙ digits);
+      bits = rw (c.new.ensures.left, c.new.ensures.reader) (omega (arith, group.0, read.bits, first.spent, run.spent));
+      digits = rw (c.new.ensures.left, c.new.ensures.reader) (group.1 ∙ read.digits);
     }

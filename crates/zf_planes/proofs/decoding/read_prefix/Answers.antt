@@ -35,7 +35,6 @@ loop-at-preserved g c =
     let q = at / 64 in
     let before = c.loop-at.invariant in
     let old = g.P.Plane.words c.loop-at.plane in
-    let new = g.P.Plane.words c.set_word.new.self in
     let s = rest c.args.cursor.now.reader in
     let ok = c.in_ok-digits.ensures in
     let now = rest c.loop-at.cursor.reader in

@@ -41,29 +41,25 @@ loop-n-preserved g c =
     let n = c.loop-n.n in
     let z = c.in_ok-n.field-0 in
     let before = c.loop-n.invariant in
-    let ok = c.in_ok-n.ensures.read in
+    let ok = rw (c.sees.ensures.left, c.sees.ensures.reader) at c.in_ok-n.ensures.read in
     let left' = c.read_group.new.cursor.left in
     let old = g.P.Plane.words c.loop-n.plane in
     let new = g.P.Plane.words c.set_one.new.plane in
     let s' = rest c.read_group.new.cursor.reader in
     let m = c.args.size - n in
-    let taken = rw (c.sees.ensures.left, c.sees.ensures.reader) at ok.taken in
-    let bits = rw (c.sees.ensures.left, c.sees.ensures.reader) at ok.bits in
-    let digits = rw (c.sees.ensures.left, c.sees.ensures.reader) at ok.digits in
     let enough : n + z < 64 * length old = omega (arith, ok.within, before.within, c.requires.words, g.met.P.Plane.long c.loop-n.plane) in
     let placed = one_placed old new n z enough before.clear c.set_one.ensures in
     let long = length-digits_held n old (omega arith) in
     let fewer : m - z - 1 ≡ c.args.size - (n + z + 1) = omega arith in
-    let bits' = rw fewer at bits in
-    let digits' = rw fewer at digits in
+    let bits' = rw fewer at ok.bits in
+    let digits' = rw fewer at ok.digits in
     let reached = ap reach placed.0 ∙ reach_one (digits_held n old) z in
     record {
-      passes = Passes-part (tail_bits left' (c.args.size - (n + z + 1)) s') before.passes bits' taken;
+      passes = Passes-part (tail_bits left' (c.args.size - (n + z + 1)) s') before.passes bits' ok.taken;
       digits =
-          before.digits
-          ∙ ap (λ (ds : List Bool). digits_held n old ++ ds) digits'
-          ∙ regroup (digits_held n old) (replicate z false) (tail_ahead left' (c.args.size - (n + z + 1)) s')
-          ∙ ap (λ (ds : List Bool). ds ++ tail_ahead left' (c.args.size - (n + z + 1)) s') (sym placed.0);
+          cc (before.digits,
+              regroup (digits_held n old) (replicate z false) (tail_ahead left' (c.args.size - (n + z + 1)) s'),
+              placed.0);
       clear = placed.1;
       within = omega (arith, ok.within, before.within);
       above = omega (arith, before.above, reached, long);

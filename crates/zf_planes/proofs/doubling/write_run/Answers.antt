@@ -27,9 +27,7 @@ joined_on most digits k v l w j x some within remains two joined =
     let run = run_goes_on most digits some within in
     let rest = code_from_run (field (most - 8) (digits / 256)) in
     Remains-same remains
-    (ap (λ (bs : List Bool). field k v ++ bs) (run.code ∙ ap (λ (bs : List Bool). bs ++ rest) (sym two))
-    ∙ sym (append_assoc (field k v) (field l w) rest)
-    ∙ ap (λ (bs : List Bool). bs ++ rest) (sym joined))
+    (cc (run.code, append_assoc (field k v) (field l w) rest))
 
 pub write_part-left-requires-clause-fits : goal.write_part-left-requires-clause-fits
 write_part-left-requires-clause-fits c =

@@ -1,5 +1,5 @@
 use Rattle.std.proofs.Common.{rules}
-use Rattle.std.proofs.Common.{◌≡◌, ℕ, ◌+◌, ◌-◌, ◌*◌, ◌/◌, ◌%◌, ◌^◌, ◌<◌, ◌≤◌, min, Bool, true, List, [], ◌∷◌, ◌++◌, length, take, sym, ap, ◌∙◌, arith, append_assoc, length-append}
+use Rattle.std.proofs.Common.{◌≡◌, ℕ, ◌+◌, ◌-◌, ◌*◌, ◌/◌, ◌%◌, ◌^◌, ◌<◌, ◌≤◌, min, Bool, true, List, [], ◌∷◌, ◌++◌, length, take, ap, arith, append_assoc, length-append}
 use Rattle.std.proofs.lemmas.Nat.{one_shl}
 use Rattle.zf_spec.specs.Numbers.{field}
 use Rattle.zf_spec.specs.Planes.{code_from_run, plane_code}
@@ -25,10 +25,8 @@ joined : (size n v k a j b m x : ℕ) → n < size → size ≤ 64 → 0 < v / 2
     → field m x ++ code_from_run (field (size - n) (v / 2 ^ n)) ≡ field k a ++ plane_code n (field size v)
 joined size n v k a j b m x within narrow some small first second =
     let run = code_from_run (field (size - n) (v / 2 ^ n)) in
-    ap (λ (bs : List Bool). bs ++ run) (second ∙ ap (λ (bs : List Bool). bs ++ true ∷ []) (first ∙ ap (λ (bs : List Bool). field k a ++ bs) (low_digits n v (omega arith))))
-    ∙ append_assoc (field k a ++ field n v) (true ∷ []) run
-    ∙ append_assoc (field k a) (field n v) (true ∷ run)
-    ∙ ap (λ (bs : List Bool). field k a ++ bs) (sym (plane_with size n v (omega arith) some small))
+    cc (low_digits n v (omega arith), append_assoc (field k a ++ field n v) (true ∷ []) run,
+        append_assoc (field k a) (field n v) (true ∷ run), plane_with size n v (omega arith) some small)
 
 pub write_run-requires-clause-within : goal.write_run-requires-clause-within
 write_run-requires-clause-within c = rest_small c.args.size c.args.n c.args.digits (omega (arith, c.requires.in_plane)) c.requires.digits

@@ -1,6 +1,5 @@
 use Rattle.std.proofs.Common.{rules}
 use Rattle.std.proofs.Common.{◌≡◌, ℕ, suc, ◌-◌, sym, subst, arith}
-use Rattle.zf_bits.specs.Reader.{rest}
 use Rattle.zf_planes.specs.Lanes.{ReadsSome}
 use Rattle.zf_planes.proofs.Passing.{if_none}
 use Rattle.zf_planes.proofs.PlanesAhead.{plane_bits-le}
@@ -52,8 +51,6 @@ returns-then-some-cursor-clause-read c =
 
 pub returns-in_err-one-clause-short : goal.returns-in_err-one-clause-short
 returns-in_err-one-clause-short c =
-    let left = c.args.cursor.now.left in
-    let s = rest c.args.cursor.now.reader in
     let planes : c.args.most ≡ suc (c.args.most - 1) = omega (arith, c.requires.some) in search (rules, plane_bits-le, if_none)
 
 one-read : (c : goal.In_ok-one)

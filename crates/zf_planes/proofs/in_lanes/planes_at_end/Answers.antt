@@ -1,5 +1,5 @@
 use Rattle.std.proofs.Common.{rules}
-use Rattle.std.proofs.Common.{◌≡◌, ℕ, ◌*◌, ◌/◌, ◌%◌, ◌^◌, ◌<◌, ◌≤◌, min, cond, sym, ap, ◌∙◌, arith}
+use Rattle.std.proofs.Common.{◌≡◌, ℕ, ◌*◌, ◌/◌, ◌%◌, ◌^◌, ◌<◌, min, cond, sym, ap, ◌∙◌, arith}
 use Rattle.std.proofs.Math.Nat.{mod-lt}
 use Rattle.std.proofs.lemmas.Nat.{one_shl, pow_pos}
 use Rattle.std.proofs.lemmas.Bool.{lt-ltb}
@@ -10,15 +10,11 @@ use Rattle.zf_planes.proofs.LaneTables.{less_entry, end_entry, last_of_entry}
 use Rattle.zf_planes.proofs.in_lanes.planes_at_end.Goals.{After-min, then-entry-ge33554432, else-entry-ge33554432}
 use Rattle.zf_planes.proofs.in_lanes.planes_at_end.Goals as goal
 
--- where zeros make the ones reach to the last rank, it is the less of two, and else the first one
-less_of_two : (e zeros one : ℕ) → 33554432 ≤ zeros → e ≡ min zeros one → e ≡ less_entry zeros one
-less_of_two e zeros one great is = search (rules, nat_tests)
-
 first_of_two : (e zeros one : ℕ) → zeros < 33554432 → e ≡ zeros → e ≡ less_entry zeros one
 first_of_two e zeros one small is = is ∙ sym (ap (λ b. cond b zeros (min zeros one)) (lt-ltb zeros 33554432 small))
 
 entry_is : (c : After-min) → c.if-entry-ge33554432.entry ≡ end_entry c.args.n (1 * 2 ^ c.args.left % 2 ^ 64) (c.args.bits % (1 * 2 ^ c.args.left % 2 ^ 64))
-entry_is c = search (rules, then-entry-ge33554432, less_of_two, less_entry, else-entry-ge33554432, first_of_two)
+entry_is c = search (rules, then-entry-ge33554432, nat_tests, less_entry, else-entry-ge33554432, first_of_two)
 
 -- what the entry says
 entry : (c : After-min) → AreAtEnd c.args.n c.args.left c.args.bits (c.if-entry-ge33554432.entry / 1048576 % 8) (lanes_apart (c.if-entry-ge33554432.entry % 65536)) (min (c.if-entry-ge33554432.entry / 65536 % 16) c.args.left)
@@ -28,7 +24,6 @@ entry c =
     let power : 1 * 2 ^ left % 2 ^ 64 ≡ 2 ^ left = one_shl left 64 (omega arith) in
     let found = last_of_entry c.args.n left (c.args.bits % 2 ^ left) c.if-entry-ge33554432.entry c.requires.in_plane c.requires.some c.requires.few (mod-lt c.args.bits (pow_pos left))
     (entry_is c ∙ ap (λ (p : ℕ). end_entry c.args.n p (c.args.bits % p)) power) in
-    let count = c.if-entry-ge33554432.entry / 1048576 % 8 in
     let same = sym (field-mod left c.args.bits) in search rules
 
 pub returns : goal.returns

@@ -1,11 +1,10 @@
 use Rattle.std.proofs.Common.{rules}
 use Rattle.std.proofs.Common.{◌≡◌, ℕ, ◌+◌, ◌-◌, ◌<◌, max, List, length, map, take, get_or}
-use Rattle.std.proofs.lemmas.List.{length-map}
+use Rattle.std.proofs.lemmas.List.{length-map, get_or-map}
 use Rattle.zf_spec.specs.Planes.{code, reach, plane_code, reach_of_all}
 use Rattle.zf_spec.specs.HeldPlanes.{planes_held, digits_held}
-use Rattle.zf_spec.proofs.HeldPlanes.{length-planes_held}
-use Rattle.zf_planes.proofs.Unpacking.{held_at}
-use Rattle.zf_planes.proofs.Tops.{code-more, reach_of_all-more}
+use Rattle.zf_spec.proofs.HeldPlanes.{length-planes_held, get_or-planes_held}
+use Rattle.zf_planes.proofs.Tops.{reach_of_all-more, code_from-more}
 use Rattle.zf_planes.proofs.measuring.planes_within.Goals as goal
 
 -- with the next plane the code has as many bits more as that plane's, and its ones reach as far as those of both
@@ -13,7 +12,8 @@ step : {A : Type 0} (words : A → List ℕ) (above size i : ℕ) (planes : List
     → above ≡ reach_of_all (take i (planes_held size (map words planes)))
     → (length (code (take (i + 1) (planes_held size (map words planes)))) ≡ length (code (take i (planes_held size (map words planes)))) + length (plane_code above (digits_held size (words plane))))
     × (reach_of_all (take (i + 1) (planes_held size (map words planes))) ≡ max above (reach (digits_held size (words plane))))
-step words above size i planes plane is below far = search (rules, length-planes_held, length-map, held_at, code-more, reach_of_all-more)
+step words above size i planes plane is below far =
+    search (rules, length-planes_held, length-map, get_or-planes_held, get_or-map, code_from-more, reach_of_all-more)
 
 pub returns-then-left-len-clause-no_more : goal.returns-then-left-len-clause-no_more
 returns-then-left-len-clause-no_more g c below = search (rules, step)

@@ -2,9 +2,8 @@ use Rattle.std.proofs.Common.{rules}
 use Rattle.zf_planes.proofs.Passing.{Takes-rest}
 use Rattle.std.proofs.Common.{◌≡◌, ℕ, suc, ◌+◌, ◌-◌, ◌<◌, ◌≤◌, length, map, drop, ap, ◌∙◌, arith, length-set}
 use Rattle.std.proofs.lemmas.List.{length-map, drop-drop}
-use Rattle.zf_spec.specs.HeldPlanes.{planes_held}
 use Rattle.zf_bits.specs.Reader.{rest}
-use Rattle.zf_planes.specs.Decoding.{planes_ahead, Takes}
+use Rattle.zf_planes.specs.Decoding.{Takes}
 use Rattle.zf_planes.proofs.Gathering.{written}
 use Rattle.zf_planes.proofs.Peeking.{window_long, window_passed, Takes-skip}
 use Rattle.zf_planes.proofs.PlanesRead.{next_known, one_more}
@@ -29,7 +28,6 @@ loop-i-preserved g c =
     let p = c.args.to - (i + 1) in
     let plane = c.set_word.new.self in
     let planes = map g.P.Plane.words c.loop-i.planes in
-    let held = planes_held size planes in
     let small : len ≤ count = omega (arith, same.ensures.len, c.if-n-count.true) in
     let last : len - 1 ≡ n = omega (arith, same.ensures.len) in
     let passed' : passed + len ≡ ahead.count - (count - len) = omega (arith, before.fewer, small) in
@@ -41,7 +39,6 @@ loop-i-preserved g c =
     let next_digits = rw (left', place) at known.digits in
     let put = written size g.P.Plane.word_count digits (g.P.Plane.words c.zero-plane.result) (g.P.Plane.words plane) (omega arith) c.requires.words (omega (arith, c.requires.words, c.requires.in_plane)) c.zero-plane.ensures c.set_word.ensures same.ensures.read.small in
     let within : i < length planes = omega (arith, length-map c.loop-i.planes g.P.Plane.words, before.long, c.requires.planes, c.loop-i-test.true) in
-    let below = planes_ahead (ahead.left - (ahead.count - (count - len))) p size n (drop (ahead.count - (count - len)) s) in
     let set = set_words g.P.Plane.words c.loop-i.planes i plane in
     let some : 0 < len = omega (arith, same.ensures.len) in
     let window = rw (last, left', place) at (window_passed (drop passed s) left bits count len before.window some small) in search (rules, one_more, top_behind, length-set)
@@ -62,5 +59,4 @@ returns-clause-read g c =
     let taken = Takes-skip now.left passed (omega (arith, now.window.within)) (omega (arith, window_long (rest now.reader) now.bits now.count now.window.bits)) c.skip.ensures in
     let Taken : ℕ → Type 0 = λ k. Takes now.reader c.skip.new.self now.left (now.left - passed) k in
     let count : passed ≡ now.left - (now.left - passed) = omega (arith, now.window.within) in
-    let before = c.loop-i.invariant in
     let behind = Takes-rest taken in search rules

@@ -1,8 +1,8 @@
 use Rattle.std.proofs.Common.{rules}
-use Rattle.std.proofs.Common.{◌≡◌, ◌+◌, ◌<◌, max, Bool, List, ◌++◌, map, take, drop, sym, ap, ◌∙◌, arith, append_assoc}
+use Rattle.std.proofs.Common.{◌≡◌, ◌+◌, ◌<◌, Bool, List, ◌++◌, map, take, drop, sym, ap, ◌∙◌, arith, append_assoc}
 use Rattle.std.proofs.lemmas.Nat.{le_or_l, le_or_r}
 use Rattle.zf_spec.specs.Numbers.{field}
-use Rattle.zf_spec.specs.Planes.{plane_code, code_from, reach}
+use Rattle.zf_spec.specs.Planes.{code_from}
 use Rattle.zf_spec.specs.HeldPlanes.{planes_held}
 use Rattle.zf_planes.proofs.Unpacking.{code_next}
 use Rattle.zf_planes.proofs.Narrow.{narrow_two}
@@ -44,20 +44,15 @@ loop-digits-preserved g c =
     let more = c.plain_plane in
     let joined = c.join-part-in-loop-digits in
     let plane = c.index-planes-planes-in-loop-digits.result in
-    let ds = field size c.first_word-digits.result in
     let rest = drop (c.loop-digits.i + 1) (take c.args.prec (planes_held size (map words c.args.planes.now))) in
     let three : c.loop-i.above ≡ 3 = c.loop-digits-test.true in
     let back : code_from 3 (drop c.loop-digits.i (take c.args.prec (planes_held size (map words c.args.planes.now)))) ≡ field more.result.len more.result.bits ++ code_from 3 rest =
-    code_next words 3 c.args.prec size c.loop-digits.i c.args.planes.now plane c.index-planes-planes-in-loop-digits.is c.if-i-prec.true c.requires.planes
-    ∙ ap (λ (es : List Bool). plane_code 3 es ++ code_from (max 3 (reach es)) rest) (sym c.first_word-digits.ensures.digits)
-    ∙ ap (λ (bs : List Bool). bs ++ code_from (max 3 (reach ds)) rest) more.ensures.code
-    ∙ ap (λ n. field more.result.len more.result.bits ++ code_from n rest) more.ensures.same in
+    cc (
+        code_next words 3 c.args.prec size c.loop-digits.i c.args.planes.now plane c.index-planes-planes-in-loop-digits.is c.if-i-prec.true c.requires.planes,
+        c.first_word-digits.ensures.digits, more.ensures.code, more.ensures.same) in
     record {
-      code =
-          c.loop-digits.invariant.code
-          ∙ ap (λ (bs : List Bool). field part.len part.bits ++ bs) (rw three back)
-          ∙ sym (append_assoc (field part.len part.bits) (field more.result.len more.result.bits) (code_from c.loop-i.above rest))
-          ∙ ap (λ (bs : List Bool). bs ++ code_from c.loop-i.above rest) (sym joined.ensures.bits);
+      code = cc (c.loop-digits.invariant.code, back, three, joined.ensures.bits,
+          append_assoc (field part.len part.bits) (field more.result.len more.result.bits) (code_from 3 rest));
       place = omega (arith, c.if-i-prec.true);
       small = joined.ensures.small more.ensures.small;
       in_word = omega (arith, joined.ensures.len, c.if-part-le60.true, more.ensures.shorter c.requires.some);

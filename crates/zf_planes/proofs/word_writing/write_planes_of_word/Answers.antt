@@ -19,21 +19,16 @@ use Rattle.zf_planes.proofs.word_writing.write_planes_of_word.Goals.{then-loop-i
 pub write_part-left-requires-clause-fits : goal.write_part-left-requires-clause-fits
 write_part-left-requires-clause-fits g c = omega (arith, Remains-fits (field c.loop-i.part.len c.loop-i.part.bits) _ c.loop-i.invariant.remains, length-field c.loop-i.part.len c.loop-i.part.bits)
 
--- a plane that brings no new rank, and the code of those below it
-plain_next : (n len bits : ℕ) (ds : List Bool) (planes : List (List Bool)) → plane_code n ds ≡ field len bits → max n (reach ds) ≡ n → plane_code n ds ++ code_from (max n (reach ds)) planes ≡ field len bits ++ code_from n planes
-plain_next n len bits ds planes code same = ap (λ (bs : List Bool). bs ++ code_from (max n (reach ds)) planes) code ∙ ap (λ k. field len bits ++ code_from k planes) same
-
 pub loop-i-preserved-then-part-more-gt64 : goal.loop-i-preserved-then-part-more-gt64
 loop-i-preserved-then-part-more-gt64 g c =
     let part = c.loop-i.part in
     let more = c.plain_plane-more in
-    let ds = field c.args.size c.first_word-digits.result in
     let next = next_word g.P.Plane.words c.loop-i.above c.args.prec c.args.size c.loop-i.i part.len part.bits c.first_word-digits.result c.args.planes.now c.index-planes-planes.result c.loop-i.invariant.remains
     c.index-planes-planes.is c.loop-i-test.true c.requires.planes c.first_word-digits.ensures.digits in
     let written = Remains-more (field part.len part.bits) _ next c.write_part-left.ensures.bits in
     let spent : c.loop-i.left - length (field part.len part.bits) ≡ c.write_part-left.result = omega (arith, c.write_part-left.ensures.left, length-field part.len part.bits) in
     record {
-      remains = Remains-same (rw spent at written) (plain_next c.loop-i.above more.result.len more.result.bits ds _ more.ensures.code more.ensures.same);
+      remains = Remains-same (rw spent at written) (cc (more.ensures.code, more.ensures.same));
       above = c.loop-i.invariant.above;
       place = omega (arith, c.loop-i-test.true);
       small = more.ensures.small;
@@ -44,16 +39,13 @@ pub loop-i-preserved-else-part-more-gt64 : goal.loop-i-preserved-else-part-more-
 loop-i-preserved-else-part-more-gt64 g c =
     let part = c.loop-i.part in
     let more = c.plain_plane-more in
-    let ds = field c.args.size c.first_word-digits.result in
     let rest = drop (c.loop-i.i + 1) (take c.args.prec (planes_held c.args.size (map g.P.Plane.words c.args.planes.now))) in
     let next = next_word g.P.Plane.words c.loop-i.above c.args.prec c.args.size c.loop-i.i part.len part.bits c.first_word-digits.result c.args.planes.now c.index-planes-planes.result c.loop-i.invariant.remains
     c.index-planes-planes.is c.loop-i-test.true c.requires.planes c.first_word-digits.ensures.digits in
     record {
-      remains =
-          Remains-same next
-          (ap (λ (bs : List Bool). field part.len part.bits ++ bs) (plain_next c.loop-i.above more.result.len more.result.bits ds rest more.ensures.code more.ensures.same)
-          ∙ sym (append_assoc (field part.len part.bits) (field more.result.len more.result.bits) (code_from c.loop-i.above rest))
-          ∙ ap (λ (bs : List Bool). bs ++ code_from c.loop-i.above rest) (sym c.join-part.ensures.bits));
+      remains = Remains-same next (cc (more.ensures.code, more.ensures.same, c.join-part.ensures.bits,
+          append_assoc (field part.len part.bits) (field more.result.len more.result.bits)
+              (code_from c.loop-i.above rest)));
       above = c.loop-i.invariant.above;
       place = omega (arith, c.loop-i-test.true);
       small = c.join-part.ensures.small more.ensures.small;
@@ -88,7 +80,6 @@ pub loop-i-preserved : goal.loop-i-preserved
 loop-i-preserved g c =
     let part = c.loop-i.part in
     let ds = field c.args.size c.first_word-digits.result in
-    let new = c.write_with-left.new.part in
     let top : c.max-above.result ≡ max c.loop-i.above c.reach_in-end.result = omega (arith, c.max-above.ensures) in
     let reached : max c.loop-i.above (reach ds) ≡ c.max-above.result = omega (arith, ap reach c.first_word-digits.ensures.digits, c.reach_in-end.ensures.value, top) in
     record {
@@ -178,11 +169,8 @@ loop-i-3-preserved g c =
     c.index-planes-planes-in-loop-i-3.is c.loop-i-3-test.true c.requires.planes c.first_word-bits.ensures.digits in
     let all : max size (reach (field size v)) ≡ size = omega (arith, reach-le (field size v), length-field size v) in
     record {
-      remains =
-          Remains-same next
-          (ap (λ (bs : List Bool). field now.whole.len now.whole.bits ++ bs) (plain_next size size v (field size v) rest (whole_code size size v refl) all)
-          ∙ sym (append_assoc (field now.whole.len now.whole.bits) (field size v) (code_from size rest))
-          ∙ ap (λ (bs : List Bool). bs ++ code_from size rest) (sym joined.ensures.bits));
+      remains = Remains-same next (cc (whole_code size size v refl, all, joined.ensures.bits,
+          append_assoc (field now.whole.len now.whole.bits) (field size v) (code_from size rest)));
       place = omega (arith, c.loop-i-3-test.true);
       small = joined.ensures.small c.first_word-bits.ensures.small;
       in_word = omega (arith, joined.ensures.len, c.if-whole-size-le64.true);

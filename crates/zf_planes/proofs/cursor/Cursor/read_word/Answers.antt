@@ -1,5 +1,5 @@
 use Rattle.std.proofs.Common.{rules}
-use Rattle.std.proofs.Common.{◌≡◌, ℕ, ◌+◌, ◌-◌, ◌/◌, ◌%◌, ◌^◌, ◌≤◌, Bool, false, List, ◌++◌, replicate, ap, ◌∙◌, arith}
+use Rattle.std.proofs.Common.{◌≡◌, ℕ, ◌+◌, ◌-◌, ◌/◌, ◌%◌, ◌^◌, ◌≤◌, false, ◌++◌, replicate, ap, arith}
 use Rattle.std.proofs.lemmas.Nat.{mod_below, pow_pos}
 use Rattle.std.proofs.Math.Nat.{div-eq_of_lt}
 use Rattle.zf_spec.specs.Numbers.{field}
@@ -14,11 +14,7 @@ low_field v n small =
     let parts : 64 ≡ n + (64 - n) = omega arith in
     let low = v % 2 ^ n in
     let none : low / 2 ^ n ≡ 0 = div-eq_of_lt (mod_below v (2 ^ n) (pow_pos n)) in
-    ap (λ k. field k low) parts
-    ∙ field-add n (64 - n) low
-    ∙ ap (λ (bs : List Bool). bs ++ field (64 - n) (low / 2 ^ n)) (field-mod n v)
-    ∙ ap (λ u. field n v ++ field (64 - n) u) none
-    ∙ ap (λ (bs : List Bool). field n v ++ bs) (field-zero (64 - n))
+    cc (field-add n (64 - n) low, field-mod n v, field-zero (64 - n))
 
 -- ---- there are fewer
 
