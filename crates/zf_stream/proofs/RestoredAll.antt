@@ -31,9 +31,6 @@ if_err_of (Err e) P f = f e refl
 
 module _ (h : Header) {src0 mid now out0 out : Option (List ℕ)} {w0 w1 w2 : Window} (done : Restores h (rows_of h.shape) src0 mid out0 out w0 w1) (refill : Refills mid now w1 w2) (ended : KnowsEnd w2 now)
     (enough : w2.ended ≡ false → 64 ≤ length (left_of w2)) where
-  all_bytes : List ℕ
-  all_bytes = done.bytes ++ refill.bytes
-
   -- the codes of all blocks were read
   codes_all : read_codes h 0 (blocks h.shape) (stream_from w0 (done.bytes ++ refill.bytes)) ≡ Ok (blocks_of h.shape done.values, left_of w2)
   codes_all =
