@@ -69,8 +69,7 @@ prefix_of_text h bytes bits rest {out0} {out} some is spills =
     sym (append_assoc (to_bits spills.bytes) spills.left rest) ∙ ap (λ (bs : List Bool). bs ++ rest) spills.parts ∙ is in
     let text : spills.bytes ++ to_bytes (spills.left ++ rest) ≡ stream_text h bytes =
     sym (to_bytes-prefix spills.bytes (spills.left ++ rest) spills.small) ∙ ap to_bytes parts ∙ sym (stream_text-bits h bytes some) in
-    let P : List ℕ → Type 0 = λ bs. AppendsPrefix out0 out bs in
-    subst P text (AppendsPrefix-more out0 out spills.bytes (to_bytes (spills.left ++ rest)) spills.written)
+    rw text at (AppendsPrefix-more out0 out spills.bytes (to_bytes (spills.left ++ rest)) spills.written)
 
 -- the codes of some rows are a prefix of those of all
 pub codes_behind : (h : Header) (rows : ℕ) (bytes more : List ℕ) → IsSlab h.shape 0 rows → length bytes ≡ rows_len h rows
@@ -142,9 +141,7 @@ module _ (h : Header) {src now out0 out1 : Option (List ℕ)} {gives : List ℕ 
   fill_same = search (rules, length-append, length-to_bits)
 
   filled : Flows out0 out1 (with_fill (stream_bits h done.bytes)) (left ++ fill left)
-  filled =
-      let P : List Bool → Type 0 = λ bs. Flows out0 out1 (stream_bits h done.bytes ++ bs) (left ++ fill left) in
-      subst P fill_same (Flows-more (fill left) done.flows)
+  filled = rw (← fill_same) (Flows-more (fill left) done.flows)
 
   -- the last words were not written
   prefix_of_all : {out2 : Option (List ℕ)} → Spills out1 out2 (left ++ fill left) → AppendsPrefix out0 out2 (stream_text h done.bytes)

@@ -34,8 +34,7 @@ module _ (h : Header) {src0 mid now out0 out : Option (List ℕ)} {w0 w1 w2 : Wi
   -- the codes of all blocks were read
   codes_all : read_codes h 0 (blocks h.shape) (stream_from w0 (done.bytes ++ refill.bytes)) ≡ Ok (blocks_of h.shape done.values, left_of w2)
   codes_all =
-      let P : ℕ → Type 0 = λ n. read_codes h 0 n (stream_from w0 (done.bytes ++ refill.bytes)) ≡ Ok (map (block_of h.shape done.values) (upto n), left_of w2) in
-      subst P (all_blocks h.shape done.whole.some_axis) (codes_refilled h _ w0 done.bytes _ done.codes refill)
+      rw (all_blocks h.shape done.whole.some_axis) at (codes_refilled h _ w0 done.bytes _ done.codes refill)
 
   -- what is answered where more bytes follow
   answer_with : (more : List ℕ) → answer_of_codes h w0.reader.at (stream_from w0 ((done.bytes ++ refill.bytes) ++ more)) ≡ values_or_fault done.values (fill_answer h w2.reader.at (left_of w2 ++ to_bits more))

@@ -95,15 +95,12 @@ pub codes_of_rows-next : (h : Header) (c rows : ℕ) (bytes raw : List ℕ) → 
     ≡ codes_of_rows h (4 * c) bytes ++ flat_map (λ c. c) (codes (width_of h.ty) (with_rows rows h.shape) (coding h.mode) (values_from (width_of h.ty) (row_len h.shape * rows) raw))
 codes_of_rows-next h c rows bytes raw slab long as_long =
     let w = width_of h.ty in
-    let g = row_len (grid h.shape) in
     let b = first_block h.shape c in
     let n = blocks (with_rows rows h.shape) in
     let f = code_of_block h (bytes ++ raw) in
     let joined : List (List Bool) → List Bool = λ cs. flat_map (λ c. c) cs in
-    let rounded : (4 * c + rows + 3) / 4 ≡ c + (rows + 3) / 4 = omega arith in
     let down : (4 * c + 3) / 4 ≡ c = omega arith in
-    let count : first_block h.shape ((4 * c + rows + 3) / 4) ≡ b + n =
-    ap (λ k. g * k) rounded ∙ mul-add g c ((rows + 3) / 4) ∙ ap (λ k. b + k) (sym (blocks-with_rows rows h.shape slab.some_axis)) in
+    let count : first_block h.shape ((4 * c + rows + 3) / 4) ≡ b + n = grind (arith, mul-add, blocks-with_rows) in
     let prefix : IsSlab h.shape 0 (4 * c) = record { some_axis = slab.some_axis; within = omega (arith, slab.within); whole = inl (omega arith) } in
     ap (λ k. joined (map f (upto k))) count ∙ joined-prefix f b n
     ∙ ap (λ (bs : List Bool). bs ++ joined (map f (count_from b n)))

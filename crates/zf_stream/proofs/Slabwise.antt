@@ -128,16 +128,12 @@ module _ (h : Header) (row here : ℕ) (next : IsNext h row here) (whole : IsSla
         })
         broken
 
-    same_before : (before : ℕ) (e : StreamFault) → before ≡ rows_len h row → BreaksSlab (part_of h here) before mid now (Gives b c) out1 out2 left e → BreaksSlab (part_of h here) (length done.bytes) mid now (Gives b c) out1 out2 left e
-    same_before before e is broken = let P : ℕ → Type 0 = λ n. BreaksSlab (part_of h here) n mid now (Gives b c) out1 out2 left e in subst P (is ∙ sym done.long) broken
-
     pub slab_refused : (before : ℕ) (e : StreamFault) → before ≡ rows_len h row → BreaksSlab (part_of h here) before mid now (Gives b c) out1 out2 left e → RefusesRaw (compress_answer h) (raw_len h) src0 now e
     slab_refused before e is broken =
-        let same = same_before before e is broken in
         ⊎_elim
         (λ lacks. raw_refused h src0 mid now done.bytes done.taken _ (within_all done.bytes done.long) e lacks.0)
         (λ failed. write_refused h src0 now e failed.0)
-        same
+        (rw (is ∙ sym done.long) at broken)
 
 -- ---- the sizes of a slab
 

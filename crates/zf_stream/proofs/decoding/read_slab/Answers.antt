@@ -21,28 +21,23 @@ use Rattle.zf_stream.proofs.Failing.{Reads-ok}
 use Rattle.zf_stream.proofs.decoding.read_slab.Goals as goal
 
 pub loop-b-init : goal.loop-b-init
-loop-b-init g c =
-    let P : List ℤ → Type 0 = λ vs. Stores c.args.part.now.shape [] vs in
-    record {
-      bytes = [];
-      goes = Goes-none _ _;
-      found = [];
-      count = refl;
-      codes = ap (λ (s : List Bool). Ok ([], s)) (append-nil (left_of c.args.room.now.window));
-      stores = subst P (sym (ap (map g.T.Lane.value) c.clear.ensures.items)) (stores_none c.args.part.now.shape);
-      stays = record { rows = refl; longest = refl; held = refl; values = omega (arith, c.clear.ensures.capacity) };
-      ended = c.requires.room.ended;
-      source = Reads-none _;
-    }
+loop-b-init g c = record {
+  bytes = [];
+  goes = Goes-none _ _;
+  found = [];
+  count = refl;
+  codes = ap (λ (s : List Bool). Ok ([], s)) (append-nil (left_of c.args.room.now.window));
+  stores = rw c.clear.ensures.items (stores_none c.args.part.now.shape);
+  stays = record { rows = refl; longest = refl; held = refl; values = omega (arith, c.clear.ensures.capacity) };
+  ended = c.requires.room.ended;
+  source = Reads-none _;
+}
 
 pub returns-in_err-reach-clause-err : goal.returns-in_err-reach-clause-err
 returns-in_err-reach-clause-err g c =
-    let from = g.S.Source.contents c.args.src.now in
-    let to = g.S.Source.contents c.reach.new.src in
-    let more = c.in_err-reach.ensures.taken in
-    let Lacks : StreamFault → Type 0 = λ e. LacksSlab c.args.part.now c.args.first from to c.args.room.now.window e in
     let p = err_from_is_err_and c.from_residual.result c.from_residual.ensures.1 in
-    rw (p.1, p.2) (subst Lacks (sym c.in_err-reach.ensures.source.fault) (_, Takes-append _ _ _ _ _ c.loop-b.invariant.goes.taken more.1))
+    rw (p.1, p.2, c.in_err-reach.ensures.source.fault)
+    (_, Takes-append _ _ _ _ _ c.loop-b.invariant.goes.taken c.in_err-reach.ensures.taken.1)
 
 -- a source that is not at its end would have given enough
 at_end : (ended : Bool) (Enough End : Type 0) → (ended ≡ false → Enough) → ¬ Enough → (ended ≡ true → End) → End

@@ -5,7 +5,7 @@ use Rattle.std.proofs.lemmas.List.Elements.{All-from_get_or}
 use Rattle.std.proofs.lemmas.Grind.{flat_map-append}
 use Rattle.std.specs.Int.{w64, to_le_bytes}
 use Rattle.zf_dev.specs.Sink.{Appends, AppendsPrefix}
-use Rattle.zf_stream.proofs.Piecewise.{part_written, part_failed}
+use Rattle.zf_stream.proofs.Piecewise.{piece_is, part_written, part_failed}
 use Rattle.zf_stream.specs.Flows.{bytes_in}
 use Rattle.zf_stream.proofs.OnErrors.{on_err}
 use Rattle.zf_dev.proofs.Devices.{Writes-more}
@@ -13,28 +13,20 @@ use Rattle.zf_stream.proofs.Failing.{WritesOnly-ok}
 use Rattle.std.proofs.lemmas.Result.{err_from_is_err_and}
 use Rattle.zf_stream.proofs.writing.write_words.Goals as goal
 
--- what a piece was filled with
-filled : (put piece words : List ℕ) (at n : ℕ) → put ≡ bytes_in (take (at + n - at) (drop at words))
-    → length put ≡ length (take (8 * n) piece) → 8 * n ≤ length piece
-    → take (8 * n) (put ++ drop (8 * n) piece) ≡ bytes_in (take n (drop at words))
-filled put piece words at n is long within =
-    let all = take_at put (drop (8 * n) piece) (8 * n) (long ∙ length-take-le (8 * n) piece within) in
-    all ∙ is ∙ ap (λ j. bytes_in (take j (drop at words))) (omega arith)
-
 joined : (xs ys : List ℕ) → bytes_in (xs ++ ys) ≡ bytes_in xs ++ bytes_in ys
 joined = flat_map-append (to_le_bytes w64)
 
 pub returns-in_err-write_bytes-clause-err : goal.returns-in_err-write_bytes-clause-err
 returns-in_err-write_bytes-clause-err g c =
     let fits : 8 * c.min-n.result ≤ length c.loop-at.piece = omega (arith, c.min-n.ensures, c.loop-at.auto.piece) in
-    let same = filled _ c.loop-at.piece _ c.loop-at.at c.min-n.result c.put_bytes.ensures c.put_bytes.auto.bytes fits in
+    let same = piece_is bytes_in joined _ c.loop-at.at _ _ c.loop-at.piece _ c.put_bytes.ensures c.put_bytes.auto.bytes fits in
     let failed = rw same at c.in_err-write_bytes.ensures.err in
     on_err c.from_residual.result _ (part_failed bytes_in joined _ _ _ _ _ _ c.loop-at.invariant.written failed)
 
 pub loop-at-preserved : goal.loop-at-preserved
 loop-at-preserved g c =
     let fits : 8 * c.min-n.result ≤ length c.loop-at.piece = omega (arith, c.min-n.ensures, c.loop-at.auto.piece) in
-    let same = filled _ c.loop-at.piece _ c.loop-at.at c.min-n.result c.put_bytes.ensures c.put_bytes.auto.bytes fits in
+    let same = piece_is bytes_in joined _ c.loop-at.at _ _ c.loop-at.piece _ c.put_bytes.ensures c.put_bytes.auto.bytes fits in
     let written = rw same at c.in_ok-write_bytes.ensures.ok in
     record {
       within = omega (arith, c.loop-at-test.true, c.min-n.ensures);
