@@ -141,11 +141,9 @@ four_copied {X} source old from to a b c d there room e f g h = search (rules, p
 pub row_copied : {X : Type 0} (f : X → ℤ) (from to : ℕ) (source old new : List X) → from + 4 ≤ length source → to + 4 ≤ length old
     → new ≡ take to old ++ (take 4 (drop from source) ++ drop (to + 4) old) → IsRowCopied from to (map f source) (map f old) (map f new)
 row_copied f from to source old new there room is =
-    subst (IsRowCopied from to (map f source) (map f old)) (sym (ap (map f) is ∙ parts))
-    (copied_row from to (map f source) (map f old) (omega (arith, length-map source f)) (omega (arith, length-map old f)))
-  where
-    parts : map f (take to old ++ (take 4 (drop from source) ++ drop (to + 4) old)) ≡ take to (map f old) ++ (take 4 (drop from (map f source)) ++ drop (to + 4) (map f old))
-    parts = simp (map-append, take-map, drop-map)
+    let moved : take to (map f old) ++ (take 4 (drop from (map f source)) ++ drop (to + 4) (map f old)) ≡ map f new =
+        rw is (simp (map-append, take-map, drop-map)) in
+    rw (← moved) (copied_row from to (map f source) (map f old) (omega (arith, length-map source f)) (omega (arith, length-map old f)))
 
 -- ---- gathering
 

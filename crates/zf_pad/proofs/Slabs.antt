@@ -207,9 +207,8 @@ pub layout_of_slab : (ns : List ℕ) (rows : ℕ) (layout : Layout) → 1 ≤ le
 layout_of_slab ns rows layout some four few whole p at =
     let dims = length-with_rows rows ns in
     let ps = used_axes (length ns) p in
-    let Inside : ℕ → Type 0 = λ k. is_inside (with_rows rows ns) (used_axes k p) ≡ true in
-    let Unused : ℕ → Type 0 = λ k. p ≡ with_unused 0 (used_axes k p) in
-    let position : IsPosition ns p = record { inside = inside_more ns ps rows few (subst Inside dims at.inside); unused = subst Unused dims at.unused } in
+    let inside = rw dims at at.inside in
+    let position : IsPosition ns p = record { inside = inside_more ns ps rows few inside; unused = rw dims at at.unused } in
     let none : row_len ns * 0 + raster (with_rows rows ns) ps ≡ raster (with_rows rows ns) ps = omega arith in
     whole p position ∙ ap (raster ns) (sym (rows_on-none ps)) ∙ raster-rows_on ns ps 0 rows some (length-used_axes (length ns) p four) ∙ none
     ∙ ap (λ k. raster (with_rows rows ns) (used_axes k p)) (sym dims)

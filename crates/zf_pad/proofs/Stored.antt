@@ -58,8 +58,6 @@ ends_within : (n : ℕ) (ns : List ℕ) (b : ℕ) → 0 < (n + 3) / 4 → suc (b
 ends_within n ns b some lt =
     let g = (n + 3) / 4 in
     let c = b % g in
-    let q = b / g in
-    let size = product (extent_of ns q) in
     let whole : min 4 (n - 4 * c) ≡ 4 = omega (arith, lt) in
     record {
       next = search (rules, next_mod, next_div);
