@@ -1,6 +1,6 @@
 -- A slab of an array is an array of its own.
 use Rattle.std.proofs.Common.{rules}
-use Rattle.std.proofs.Common.{◌≡◌, refl, sym, ap, subst, ◌∙◌, ℕ, zero, suc, ◌+◌, ◌-◌, ◌*◌, ◌/◌, ◌%◌, ◌^◌, ◌<◌, ◌≤◌, min, Bool, true, false, cond, ltb, ℤ, pos, List, [], ◌∷◌, length, get_or, drop, mul_assoc, mod-eq_of_lt, arith}
+use Rattle.std.proofs.Common.{◌≡◌, refl, sym, ap, ◌∙◌, ℕ, zero, suc, ◌+◌, ◌-◌, ◌*◌, ◌/◌, ◌%◌, ◌^◌, ◌<◌, ◌≤◌, min, true, cond, ltb, ℤ, pos, List, [], ◌∷◌, length, get_or, drop, mul_assoc, mod-eq_of_lt, arith}
 use Rattle.std.proofs.Math.Nat.{add-mul-mod_self_left, add-mul-div_left, mul-add, mul-le-mul_left}
 use Rattle.std.specs.List.{AllByRecursion}
 use Rattle.std.proofs.lemmas.Bool.{and_parts, and_from, ltb-true, lt-ltb, false≢true}
@@ -13,7 +13,7 @@ use Rattle.zf_base.specs.Places.{IsAt}
 use Rattle.zf_base.proofs.Boxes.{raster-lt, is_inside-coordinates}
 use Rattle.zf_base.proofs.Places.{IsAt-inside}
 use Rattle.zf_base.specs.declared.position.Extent.{Extent}
-use Rattle.zf_base.specs.Positions.{used_axes, with_unused, IsPosition}
+use Rattle.zf_base.specs.Positions.{used_axes, IsPosition}
 use Rattle.zf_base.proofs.Extents.{length-used_axes}
 use Rattle.zf_spec.specs.Codes.{existing_values}
 use Rattle.zf_pad.specs.declared.layout.Layout.{Layout}

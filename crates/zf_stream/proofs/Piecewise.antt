@@ -1,5 +1,5 @@
 -- Bytes that are written part by part: those of elements, of which so many were written before.
-use Rattle.std.proofs.Common.{◌≡◌, ℕ, ◌+◌, ◌-◌, ◌≤◌, length, arith, List, ◌++◌, take, drop, Option, sym, ap, subst, ◌∙◌, take-append-drop}
+use Rattle.std.proofs.Common.{◌≡◌, ℕ, ◌+◌, ◌-◌, ◌≤◌, length, arith, List, ◌++◌, take, drop, Option, sym, ap, ◌∙◌, take-append-drop}
 use Rattle.std.proofs.Math.Seq.{take-add}
 use Rattle.std.proofs.lemmas.List.{take_at, length-take-le}
 use Rattle.zf_dev.specs.Sink.{Appends, AppendsPrefix}

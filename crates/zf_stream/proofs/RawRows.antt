@@ -1,6 +1,6 @@
 -- Raw values that are read row by row: what is refused, and what is said of it.
 use Rattle.std.proofs.Common.{rules}
-use Rattle.std.proofs.Common.{◌≡◌, refl, sym, ap, subst, ℕ, ◌+◌, ◌<◌, ◌≤◌, ◌⊎◌, inl, inr, ⊎_elim, cond, ltb, lt-ltb, le-ltb, List, [], ◌∷◌, ◌++◌, length, Option, Some, None, Ok, Err, length-append, arith}
+use Rattle.std.proofs.Common.{◌≡◌, refl, ap, ℕ, ◌+◌, ◌<◌, ◌≤◌, inr, cond, ltb, lt-ltb, le-ltb, List, [], ◌∷◌, ◌++◌, length, Option, Some, None, Ok, Err, length-append, arith}
 use Rattle.zf_dev.specs.Source.{Takes, TakesSome}
 use Rattle.zf_dev.proofs.Taking.{Takes-append}
 use Rattle.zf_header.specs.declared.header.Header.{Header}

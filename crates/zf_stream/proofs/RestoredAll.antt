@@ -1,9 +1,9 @@
 -- The end of an array that is restored slab by slab: the fill, and what follows.
 use Rattle.std.proofs.Common.{rules}
-use Rattle.std.proofs.Common.{◌≡◌, refl, sym, ap, subst, ◌∙◌, ℕ, ◌+◌, ◌-◌, ◌*◌, ◌%◌, ◌≤◌, Bool, true, false, List, [], ◌++◌, map, length, Option, Result, Ok, Err, length-append, arith}
+use Rattle.std.proofs.Common.{◌≡◌, refl, sym, ap, ◌∙◌, ℕ, ◌+◌, ◌-◌, ◌*◌, ◌%◌, ◌≤◌, Bool, true, false, List, [], ◌++◌, length, Option, Result, Ok, Err, length-append, arith}
 use Rattle.std.proofs.lemmas.List.{append-nil}
 use Rattle.std.specs.Prelude.{OnOk, IfErr}
-use Rattle.zf_spec.specs.Grid.{blocks, upto, block_of, blocks_of}
+use Rattle.zf_spec.specs.Grid.{blocks, blocks_of}
 use Rattle.zf_spec.specs.Stream.{to_bits}
 use Rattle.zf_pad.specs.Slabs.{rows_of}
 use Rattle.zf_pad.proofs.Slabs.{product-rows}

@@ -1,6 +1,6 @@
 -- The room that an array is compressed in, and the one that a stream is restored in, as they are used.
 use Rattle.std.proofs.Common.{rules}
-use Rattle.std.proofs.Common.{◌≡◌, refl, sym, ◌∙◌, ℕ, ◌≤◌, List, length, Option, arith}
+use Rattle.std.proofs.Common.{◌≡◌, sym, ◌∙◌, ℕ, ◌≤◌, List, length, Option, arith}
 use Rattle.std.specs.Int.{Width}
 use Rattle.std.specs.declared.cmp.PartialEq.{Ghosts as PartialEq}
 use Rattle.zf_base.specs.declared.lane.Lane.{Ghosts as Lane}

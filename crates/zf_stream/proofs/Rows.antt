@@ -1,12 +1,12 @@
 -- The codes of an array, row by row.
 use Rattle.std.proofs.Common.{rules}
-use Rattle.std.proofs.Common.{◌≡◌, refl, sym, ap, ◌∙◌, ℕ, zero, suc, ◌+◌, ◌-◌, ◌*◌, ◌/◌, ◌<◌, ◌≤◌, inl, Bool, ℤ, List, [], ◌∷◌, ◌++◌, map, length, take, drop, length-append, take_at, drop_at, arith}
+use Rattle.std.proofs.Common.{◌≡◌, sym, ap, ◌∙◌, ℕ, zero, suc, ◌+◌, ◌-◌, ◌*◌, ◌/◌, ◌<◌, ◌≤◌, inl, Bool, ℤ, List, [], ◌++◌, map, length, take, drop, length-append, take_at, drop_at, arith}
 use Rattle.std.proofs.lemmas.List.{nil_from_length, append-nil, length-map, take-append-le, drop-append-le, length-drop, get_or-map}
 use Rattle.std.proofs.Math.Nat.{mul-add}
 use Rattle.std.specs.List.{flat_map}
-use Rattle.std.specs.Int.{Width, byte_len, from_le_bytes, cast_signed}
-use Rattle.zf_spec.specs.Grid.{product, grid, blocks, upto, count_from, extent_of, block_of}
-use Rattle.zf_spec.specs.Stream.{first_bytes, values_from, block_code, codes}
+use Rattle.std.specs.Int.{Width, byte_len}
+use Rattle.zf_spec.specs.Grid.{product, blocks, upto, count_from, extent_of, block_of}
+use Rattle.zf_spec.specs.Stream.{values_from, block_code, codes}
 use Rattle.zf_spec.proofs.Counting.{map-upto_same, from_places, length-count_from, get_or-count_from}
 use Rattle.zf_spec.proofs.RawValues.{length-values_from}
 use Rattle.zf_base.specs.Widths.{width_of}

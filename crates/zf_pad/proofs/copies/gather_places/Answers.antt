@@ -1,7 +1,7 @@
-use Rattle.std.proofs.Common.{◌+◌, ◌<◌, true, false, pos, length, get_or, map, sym, ap, subst, ◌∙◌, arith}
+use Rattle.std.proofs.Common.{◌<◌, true, false, pos, length, get_or, map, ap, ◌∙◌, arith}
 use Rattle.std.proofs.lemmas.List.{length-map, map-set}
 use Rattle.zf_base.proofs.Values.{number_at}
-use Rattle.zf_pad.proofs.Copying.{IsGatheredTo, exists_here, index_here, gathered_none, gathered_more, gathered_skip, gathered_all}
+use Rattle.zf_pad.proofs.Copying.{exists_here, index_here, gathered_none, gathered_more, gathered_skip, gathered_all}
 use Rattle.zf_pad.proofs.Existing.{first_place, first_index}
 use Rattle.zf_pad.proofs.copies.gather_places.Goals as goal
 use Rattle.zf_pad.proofs.copies.gather_places.Goals.{then-is_inside, else-is_inside}

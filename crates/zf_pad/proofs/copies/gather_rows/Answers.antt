@@ -1,5 +1,5 @@
-use Rattle.std.proofs.Common.{◌+◌, ◌*◌, true, false, length, map, sym, ap, subst, ◌∙◌, arith}
-use Rattle.zf_pad.proofs.Copying.{IsGatheredTo, exists_here, index_here, row_within, whole_rows, gathered_none, gathered_row, row_copied, gathered_skip_row, gathered_all}
+use Rattle.std.proofs.Common.{◌*◌, true, false, length, map, ◌∙◌, arith}
+use Rattle.zf_pad.proofs.Copying.{exists_here, index_here, row_within, whole_rows, gathered_none, gathered_row, row_copied, gathered_skip_row, gathered_all}
 use Rattle.zf_pad.proofs.Existing.{first_place, first_index}
 use Rattle.zf_pad.proofs.copies.gather_rows.Goals as goal
 use Rattle.zf_pad.proofs.copies.gather_rows.Goals.{then-is_inside, else-is_inside}

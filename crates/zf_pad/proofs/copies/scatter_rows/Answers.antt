@@ -1,5 +1,5 @@
-use Rattle.std.proofs.Common.{◌+◌, ◌*◌, true, false, length, map, sym, ap, subst, ◌∙◌, arith}
-use Rattle.zf_pad.proofs.Copying.{IsScatteredTo, exists_here, index_here, row_within, whole_rows, scattered_none, scattered_row, row_copied, scattered_skip_row, scattered_all}
+use Rattle.std.proofs.Common.{◌*◌, true, false, length, map, ◌∙◌, arith}
+use Rattle.zf_pad.proofs.Copying.{exists_here, index_here, row_within, whole_rows, scattered_none, scattered_row, row_copied, scattered_skip_row, scattered_all}
 use Rattle.zf_pad.proofs.Existing.{first_place, first_index}
 use Rattle.zf_pad.proofs.copies.scatter_rows.Goals as goal
 use Rattle.zf_pad.proofs.copies.scatter_rows.Goals.{then-is_inside, else-is_inside}

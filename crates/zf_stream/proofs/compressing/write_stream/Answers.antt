@@ -1,11 +1,7 @@
 use Rattle.std.proofs.lemmas.Grind.{common_steps}
-use Rattle.std.proofs.Common.{Bool, List, subst, ◌∙◌, arith}
-use Rattle.std.specs.Prelude.{OnOk, OnErr}
+use Rattle.std.proofs.Common.{◌∙◌, arith}
 use Rattle.std.proofs.lemmas.Result.{err_from_is_err_and}
-use Rattle.zf_pad.specs.Slabs.{rows_of}
 use Rattle.zf_dev.proofs.Taking.{Takes-none}
-use Rattle.zf_header.specs.HeaderBits.{header_bits}
-use Rattle.zf_stream.specs.Flows.{Flows, Spills}
 use Rattle.zf_stream.proofs.Endings.{stopped, at_end}
 use Rattle.zf_stream.proofs.RawRows.{write_refused, more_refused, some_more}
 use Rattle.zf_stream.proofs.Slabwise.{Stops-none, rows_len-all}

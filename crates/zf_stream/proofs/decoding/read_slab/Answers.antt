@@ -1,17 +1,16 @@
 use Rattle.std.proofs.Common.{rules}
-use Rattle.std.proofs.Common.{◌≡◌, ◌^◌, ◌<◌, Bool, true, false, ℤ, List, [], ◌∷◌, ◌++◌, map, None, Ok, length-append, refl, sym, ap, subst, ◌∙◌, arith}
+use Rattle.std.proofs.Common.{◌≡◌, ◌^◌, ◌<◌, Bool, true, false, List, [], ◌∷◌, ◌++◌, None, Ok, length-append, refl, sym, ap, ◌∙◌, arith}
 use Rattle.std.proofs.lemmas.List.{append-nil, length-map}
 use Rattle.std.proofs.lemmas.Result.{err_from_is_err_and}
 use Rattle.zf_spec.specs.Grid.{blocks, extent_of}
 use Rattle.zf_spec.specs.Codes.{existing_values}
-use Rattle.zf_pad.proofs.Stored.{stored_before, Stores, stores_none, stores_more, blocks_stored, all_stored, stored_within}
+use Rattle.zf_pad.proofs.Stored.{stored_before, stores_none, stores_more, blocks_stored, all_stored, stored_within}
 use Rattle.zf_base.specs.Widths.{width_of}
 use Rattle.zf_base.proofs.Extents.{length-extent_of}
 use Rattle.zf_dev.proofs.Taking.{Takes-append}
-use Rattle.zf_parse.specs.declared.fault.StreamFault.{StreamFault}
 use Rattle.zf_parse.specs.Parsing.{read_code}
 use Rattle.zf_stream.specs.Windows.{left_of}
-use Rattle.zf_stream.specs.Restoring.{stream_from, LacksSlab}
+use Rattle.zf_stream.specs.Restoring.{stream_from}
 use Rattle.zf_parse.proofs.Enough.{enough_for_one}
 use Rattle.zf_parse.proofs.Joining.{read_codes-next, read_codes-cut}
 use Rattle.zf_stream.proofs.Windows.{Goes-none, Goes-next, Goes-read, codes_refilled}

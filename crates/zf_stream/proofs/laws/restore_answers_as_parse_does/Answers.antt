@@ -1,4 +1,4 @@
-use Rattle.std.proofs.Common.{◌≡◌, ◌↔◌, refl, ap, Result, Ok, Err}
+use Rattle.std.proofs.Common.{◌≡◌, ◌↔◌, refl, Result, Ok, Err}
 use Rattle.std.specs.Prelude.{IsOk}
 use Rattle.zf_parse.specs.declared.fault.StreamFault.{StreamFault}
 use Rattle.zf_parse.specs.Parsing.{Said, parse}

@@ -1,11 +1,10 @@
 use Rattle.std.proofs.Common.{rules, min}
 use Rattle.std.proofs.lemmas.Grind.{common_steps}
-use Rattle.std.proofs.Common.{◌≡◌, ℕ, ◌+◌, ◌-◌, ◌*◌, ◌/◌, ◌≤◌, ℤ, List, ◌++◌, map, length, take, drop, ap, subst, ◌∙◌, arith}
-use Rattle.std.proofs.lemmas.List.{take_at, length-take, map-append}
+use Rattle.std.proofs.Common.{◌≡◌, ℕ, ◌*◌, ◌/◌, ◌≤◌, ℤ, List, ◌++◌, map, ap, ◌∙◌, arith}
+use Rattle.std.proofs.lemmas.List.{map-append}
 use Rattle.std.proofs.Math.Nat.{div-mul-le_self, mul-le-mul_right}
 use Rattle.std.specs.Int.{Width}
 use Rattle.zf_spec.specs.Stream.{raw}
-use Rattle.zf_dev.specs.Sink.{Appends, AppendsPrefix}
 use Rattle.zf_stream.proofs.Piecewise.{piece_is, part_written, part_failed}
 use Rattle.zf_stream.proofs.OnErrors.{on_err}
 use Rattle.zf_stream.proofs.RawValues.{raw-append}

@@ -1,5 +1,5 @@
 use Rattle.std.proofs.Common.{rules}
-use Rattle.std.proofs.Common.{◌≡◌, ℕ, ◌-◌, ◌*◌, ◌/◌, ◌%◌, ◌<◌, ◌^◌, Bool, List, Option, ◌++◌, length, take, drop, All, ap, subst, ◌∙◌, take-append-drop, length-append}
+use Rattle.std.proofs.Common.{◌≡◌, ℕ, ◌-◌, ◌*◌, ◌/◌, ◌%◌, ◌<◌, ◌^◌, Bool, List, Option, ◌++◌, length, take, drop, All, take-append-drop, length-append}
 use Rattle.std.proofs.lemmas.List.{take-append-le, drop-append-le, length-drop, take_at}
 use Rattle.std.specs.Int.{div_ceil}
 use Rattle.zf_spec.specs.Numbers.{field, number, word_bits}

@@ -1,5 +1,5 @@
 use Rattle.std.proofs.lemmas.Grind.{common_steps}
-use Rattle.std.proofs.Common.{◌≡◌, ℕ, ◌+◌, ◌*◌, ◌/◌, ◌<◌, ◌≤◌, List, Bool, ◌++◌, length, take, drop, sym, ap, subst, ◌∙◌, length-append, arith, rules}
+use Rattle.std.proofs.Common.{◌≡◌, ℕ, ◌+◌, ◌*◌, ◌/◌, ◌<◌, ◌≤◌, List, Bool, ◌++◌, length, take, drop, sym, ap, ◌∙◌, length-append, arith, rules}
 use Rattle.std.proofs.lemmas.Bool.{ltb-false}
 use Rattle.std.proofs.lemmas.List.{with_items_is, places, length-take-le, take-append-le}
 use Rattle.std.specs.Vec.{with_items}
@@ -7,7 +7,6 @@ use Rattle.zf_spec.specs.Numbers.{word_bits}
 use Rattle.zf_spec.specs.Stream.{to_bits}
 use Rattle.zf_spec.proofs.Bytes.{length-to_bits}
 use Rattle.zf_bits.proofs.Reading.{length-reader_of}
-use Rattle.zf_dev.specs.Source.{Takes}
 use Rattle.zf_stream.specs.Windows.{left_of}
 use Rattle.zf_stream.proofs.Windows.{Refills-put}
 use Rattle.zf_stream.proofs.window.Window.append.Goals as goal
