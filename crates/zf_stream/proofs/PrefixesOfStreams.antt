@@ -155,7 +155,7 @@ module _ (h : Header) {src now out0 out1 : Option (List ℕ)} {gives : List ℕ 
   given_at_end {out2} spills =
       let count = mul_comm (byte_len (width_of h.ty)) (product h.shape) in
       let long : product h.shape * byte_len (width_of h.ty) ≤ length done.bytes =
-          omega (arith, done.long, rows_len-all h done.whole.some_axis, count) in
+      omega (arith, done.long, rows_len-all h done.whole.some_axis, count) in
       let given : gives (done.bytes ++ []) = rw (append-nil done.bytes) done.given in
       record {
         bytes = done.bytes;
@@ -170,7 +170,7 @@ module _ (h : Header) {src now out0 out1 : Option (List ℕ)} {gives : List ℕ 
       let all = Flows-next filled flows in
       let bits = stream_bits h done.bytes in
       let none : length last ≡ 0 =
-          omega (arith, ap length all.parts, length-append {A = Bool}, length-to_bits, all.words, fill_whole bits, few) in
+      omega (arith, ap length all.parts, length-append {A = Bool}, length-to_bits, all.words, fill_whole bits, few) in
       let same = append-nil (to_bits all.bytes) in
       let parts : to_bits all.bytes ≡ with_fill bits = cc (nil_from_length last none, all.parts) in
       let text = sym (to_bytes-to_bits all.bytes all.small) ∙ ap to_bytes parts in

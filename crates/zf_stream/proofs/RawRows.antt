@@ -22,7 +22,7 @@ long_answer wanted bytes many = search (rules, le-ltb, lt-ltb)
 pub good_answer : (wanted : ℕ) (bytes : List ℕ) → length bytes ≡ wanted → length_answer wanted bytes ≡ Ok tt
 good_answer wanted bytes same = search (rules, le-ltb)
 
--- what was taken though
+-- what was taken where the source ended, or it failed
 pub some_taken : (before wanted : ℕ) (old new : Option (List ℕ)) (e : StreamFault) → LacksRaw before wanted old new e → TakesSome old new
 some_taken before wanted old new (faults.RawShort n) lacks = (lacks.bytes, lacks.taken)
 some_taken before wanted old new faults.Read lacks = lacks

@@ -30,7 +30,7 @@ pub restored_behind : (h : Header) (len : ℕ) (prefix : List ℕ) → BeginsWit
     → RestoredBehind prefix r src now out0 out
 restored_behind h len prefix begun w all at r src now out0 out done left refused =
     let unwritten = IfErr-weaker r (Refuses h src now w) (λ e. IsBeforeWriting e → out ≡ out0)
-        (λ e refuses before. absurd (refused_later h src now w e refuses before)) refused in
+    (λ e refuses before. absurd (refused_later h src now w e refuses before)) refused in
     search (rules, answers, IfErr-weaker, can_refuse, on_ok_weaker, finishes_behind, after_err, leaves_prefix)
 
 -- said of all of the source

@@ -97,7 +97,7 @@ module _ (h : Header) (row here : ℕ) (next : IsNext h row here) (whole : IsSla
         let given = Gives-append done.bytes slab.raw done.given slab.given in
         let flows = Flows-next (Flows-more (slab_codes (part_of h here) slab.raw) done.flows) slab.flows in
         let all : Flows out0 out2 (bits ++ codes_of_rows h (row + here) (done.bytes ++ slab.raw)) last =
-            rw (codes_next done.bytes slab.raw done.long as_long) (rw append_assoc at flows) in
+        rw (codes_next done.bytes slab.raw done.long as_long) (rw append_assoc at flows) in
         search (rules, next_whole, length-append, rows_len-add)
 
     -- or it was not
