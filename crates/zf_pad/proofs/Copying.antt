@@ -142,7 +142,7 @@ pub row_copied : {X : Type 0} (f : X → ℤ) (from to : ℕ) (source old new : 
     → new ≡ take to old ++ (take 4 (drop from source) ++ drop (to + 4) old) → IsRowCopied from to (map f source) (map f old) (map f new)
 row_copied f from to source old new there room is =
     let moved : take to (map f old) ++ (take 4 (drop from (map f source)) ++ drop (to + 4) (map f old)) ≡ map f new =
-        rw is (simp (map-append, take-map, drop-map)) in
+    rw is (simp (map-append, take-map, drop-map)) in
     rw (← moved) (copied_row from to (map f source) (map f old) (omega (arith, length-map source f)) (omega (arith, length-map old f)))
 
 -- ---- gathering

@@ -196,7 +196,7 @@ rest_copied {X} f from to count source old new there room is =
     let parts : map f new ≡ take to us ++ rest = ap (map f) is ∙ simp (map-append, take-map, drop-map) in
     let prefix : length (take to us) ≡ to = length-take-le to us (omega (arith, length-map old f, room)) in
     let some : length (take count (drop from vs)) ≡ count = length-take-le count (drop from vs) (omega (arith, length-drop from vs, length-map source f, there)) in
-        search (rules, get_or-append, get_or-take, get_or-append_right, get_or-drop)
+    search (rules, get_or-append, get_or-take, get_or-append_right, get_or-drop)
 
 -- what stands before a place stays where values are put behind it
 pub front_stays : {X : Type 0} (to at : ℕ) (old rest new : List X) → to ≤ at → at ≤ length old → new ≡ take at old ++ rest → take to new ≡ take to old

@@ -34,20 +34,20 @@ module _ (layout : Layout) (e : Extent) (d n m slices slice y start : ℕ) (coun
 pub overflow_mul-y : goal.overflow_mul-y
 overflow_mul-y g c =
     let start = c.index-first.ensures ∙ index_here _ _ c.args.e.now _ _ c.counted_from-from_origin.ensures c.indices.ensures in
-    omega (arith, ends _ _ _ _ _ _ _ _ _ c.requires.slices c.requires.few c.requires.whole c.requires.fits
-    c.loop-slice-test.true c.loop-y-test.true start)
+    let last = ends _ _ _ _ _ _ _ _ _ c.requires.slices c.requires.few c.requires.whole c.requires.fits c.loop-slice-test.true c.loop-y-test.true start in
+    omega (arith, last)
 
 pub overflow_add-first : goal.overflow_add-first
 overflow_add-first g c =
     let start = c.index-first.ensures ∙ index_here _ _ c.args.e.now _ _ c.counted_from-from_origin.ensures c.indices.ensures in
-    omega (arith, ends _ _ _ _ _ _ _ _ _ c.requires.slices c.requires.few c.requires.whole c.requires.fits
-    c.loop-slice-test.true c.loop-y-test.true start)
+    let last = ends _ _ _ _ _ _ _ _ _ c.requires.slices c.requires.few c.requires.whole c.requires.fits c.loop-slice-test.true c.loop-y-test.true start in
+    omega (arith, last)
 
 pub copy_row-requires-clause-there : goal.copy_row-requires-clause-there
 copy_row-requires-clause-there g c =
     let start = c.index-first.ensures ∙ index_here _ _ c.args.e.now _ _ c.counted_from-from_origin.ensures c.indices.ensures in
-    omega (arith, ends _ _ _ _ _ _ _ _ _ c.requires.slices c.requires.few c.requires.whole c.requires.fits
-    c.loop-slice-test.true c.loop-y-test.true start)
+    let last = ends _ _ _ _ _ _ _ _ _ c.requires.slices c.requires.few c.requires.whole c.requires.fits c.loop-slice-test.true c.loop-y-test.true start in
+    omega (arith, last)
 
 pub loop-y-preserved : goal.loop-y-preserved
 loop-y-preserved g c =
