@@ -2,6 +2,7 @@
 use Rattle.std.proofs.Common.{rules}
 use Rattle.std.proofs.Common.{◌≡◌, refl, sym, ap, subst, ◌∙◌, ℕ, zero, suc, ◌+◌, ◌-◌, ◌*◌, ◌/◌, ◌%◌, ◌^◌, ◌<◌, ◌≤◌, min, nat_lt, true, ℤ, pos, List, [], ◌∷◌, ◌++◌, length, get_or, take, drop, replicate, ext_get_or, length-drop, pow-suc, arith}
 use Rattle.std.proofs.lemmas.List.{get_or-take, get_or-drop, length-take-le, take-append-drop}
+use Rattle.std.proofs.Math.Nat.{pow-le-pow_right}
 use Rattle.zf_spec.specs.Grid.{product, grid, blocks, coordinates, raster, is_inside, fours, indices, extents, extent_of}
 use Rattle.zf_spec.proofs.Raster.{raster-coordinates, coordinates-raster, product-fours, length-fours}
 use Rattle.zf_base.specs.declared.position.Extent.{Extent}
@@ -124,18 +125,10 @@ module _ (first : ℕ) (layout : Layout) (e : Extent) (h : IsBox first layout e)
           values = λ p lt inside.
               let small : p < 4 ^ d = subst (λ k. p < 4 ^ k) same lt in
               let exists : is_inside es (indices d p) ≡ true = ap (λ k. is_inside es (indices k p)) (sym same) ∙ inside in
-              let at : HasPlace e p = record { in_block = in_four d p dims small; inside = has_place d e dims extent p small ∙ exists } in
+              let at : HasPlace e p = record { in_block = omega (arith, small, pow-le-pow_right {n = 4} (omega arith) dims); inside = has_place d e dims extent p small ∙ exists } in
               get_or-drop first new (raster es (indices (length es) p)) (pos 0)
               ∙ ap (λ k. get_or new (first + raster es (indices k p)) (pos 0)) same
               ∙ ap (λ k. get_or new (first + k) (pos 0)) (sym (number_of_place d e dims extent p small))
               ∙ ap (λ i. get_or new i (pos 0)) (sym (index_in_box p))
               ∙ put.existing p at;
         }
-      where
-        in_four : (d p : ℕ) → d ≤ 4 → p < 4 ^ d → p < 4 ^ 4
-        in_four zero p few lt = omega arith
-        in_four (suc zero) p few lt = omega arith
-        in_four (suc (suc zero)) p few lt = omega arith
-        in_four (suc (suc (suc zero))) p few lt = omega arith
-        in_four (suc (suc (suc (suc zero)))) p few lt = omega arith
-        in_four (suc (suc (suc (suc (suc d))))) p few lt = absurd (omega arith)

@@ -1,7 +1,8 @@
 -- The blocks of an array of raw values: what a gather takes, and what a scatter leaves.
 use Rattle.std.proofs.Common.{rules}
-use Rattle.std.proofs.Common.{◌≡◌, ◌≢◌, ℕ, zero, suc, ◌+◌, ◌*◌, ◌/◌, ◌^◌, ◌<◌, ◌≤◌, Bool, true, false, cond, ℤ, pos, List, [], ◌∷◌, length, get_or, map, All, refl, ap, sym, subst, ◌∙◌, arith, ext_get_or}
+use Rattle.std.proofs.Common.{◌≡◌, ◌≢◌, ℕ, ◌+◌, ◌*◌, ◌/◌, ◌^◌, ◌<◌, ◌≤◌, Bool, true, false, cond, ℤ, pos, List, [], ◌∷◌, length, get_or, map, All, refl, ap, sym, subst, ◌∙◌, arith, ext_get_or}
 use Rattle.std.proofs.lemmas.List.{length-map}
+use Rattle.std.proofs.Math.Nat.{pow-le-pow_right}
 use Rattle.zf_spec.specs.Grid.{IsShape, product, grid, blocks, places, coordinates, raster, is_inside, indices, extents, extent_of, position_in, value_at, block_of}
 use Rattle.zf_spec.specs.Padding.{pad}
 use Rattle.zf_spec.specs.Codes.{existing_values}
@@ -126,16 +127,8 @@ module _ (ns : List ℕ) (b : ℕ) (layout : Layout) (e : Extent) (h : IsRasterB
       let at = at_place p lt inside in
       same p at ∙ ap (λ i. get_or values i (pos 0)) (index_is p at)))
     where
-      small : (k : ℕ) → k ≤ 4 → 4 ^ k ≤ 256
-      small zero h = omega arith
-      small (suc zero) h = omega arith
-      small (suc (suc zero)) h = omega arith
-      small (suc (suc (suc zero))) h = omega arith
-      small (suc (suc (suc (suc zero)))) h = omega arith
-      small (suc (suc (suc (suc (suc k))))) h = absurd (omega arith)
-
       at_place : (p : ℕ) → p < 4 ^ length ns → is_inside (extent_of ns b) (indices (length ns) p) ≡ true → HasPlace e p
-      at_place p lt inside = record { in_block = omega (arith, small (length ns) h.shape.four_at_most); inside = inside_by p lt ∙ inside }
+      at_place p lt inside = record { in_block = omega (arith, lt, pow-le-pow_right {n = 4} (omega arith) h.shape.four_at_most); inside = inside_by p lt ∙ inside }
 
   -- what is gathered is the block of the array
   pub gathered_block : (values old new : List ℤ) → IsGathered layout e values old new → existing_values (extent_of ns b) new ≡ block_of ns values b

@@ -115,21 +115,14 @@ copied_row from to source old there room =
 -- four values that are put one after another
 put_four : {X : Type 0} (old : List X) (to : ℕ) (a b c d : X) → to + 4 ≤ length old
     → set (set (set (set old to a) (suc to) b) (suc (suc to)) c) (suc (suc (suc to))) d ≡ take to old ++ a ∷ b ∷ c ∷ d ∷ drop (suc (suc (suc (suc to)))) old
-put_four [] to a b c d room = absurd (omega arith)
-put_four (x ∷ []) zero a b c d room = absurd (omega arith)
-put_four (x ∷ y ∷ []) zero a b c d room = absurd (omega arith)
-put_four (x ∷ y ∷ z ∷ []) zero a b c d room = absurd (omega arith)
 put_four (x ∷ y ∷ z ∷ w ∷ old) zero a b c d room = refl
 put_four {X} (x ∷ old) (suc to) a b c d room = ap (λ (l : List X). x ∷ l) (put_four old to a b c d (omega arith))
+put_four old to a b c d room = absurd (omega arith)
 
 -- and that were taken beside one another
 take_four : {X : Type 0} (source : List X) (from : ℕ) (a b c d : X) → from + 4 ≤ length source
     → a ≡ get_or source from a → b ≡ get_or source (from + 1) b → c ≡ get_or source (from + 2) c → d ≡ get_or source (from + 3) d
     → take 4 (drop from source) ≡ a ∷ b ∷ c ∷ d ∷ []
-take_four [] from a b c d there e f g h = absurd (omega arith)
-take_four (x ∷ []) zero a b c d there e f g h = absurd (omega arith)
-take_four (x ∷ y ∷ []) zero a b c d there e f g h = absurd (omega arith)
-take_four (x ∷ y ∷ z ∷ []) zero a b c d there e f g h = absurd (omega arith)
 take_four (x ∷ y ∷ z ∷ w ∷ source) zero a b c d there e f g h = cc
 take_four (x ∷ source) (suc from) a b c d there e f g h =
     let one : suc from + 1 ≡ suc (from + 1) = omega arith in
@@ -137,6 +130,7 @@ take_four (x ∷ source) (suc from) a b c d there e f g h =
     let three : suc from + 3 ≡ suc (from + 3) = omega arith in
     take_four source from a b c d (omega arith) e
     (f ∙ ap (λ i. get_or (x ∷ source) i b) one) (g ∙ ap (λ i. get_or (x ∷ source) i c) two) (h ∙ ap (λ i. get_or (x ∷ source) i d) three)
+take_four source from a b c d there e f g h = absurd (omega arith)
 
 pub four_copied : {X : Type 0} (source old : List X) (from to : ℕ) (a b c d : X) → from + 4 ≤ length source → to + 4 ≤ length old
     → a ≡ get_or source from a → b ≡ get_or source (from + 1) b → c ≡ get_or source (from + 2) c → d ≡ get_or source (from + 3) d
@@ -147,11 +141,9 @@ four_copied {X} source old from to a b c d there room e f g h = search (rules, p
 pub row_copied : {X : Type 0} (f : X → ℤ) (from to : ℕ) (source old new : List X) → from + 4 ≤ length source → to + 4 ≤ length old
     → new ≡ take to old ++ (take 4 (drop from source) ++ drop (to + 4) old) → IsRowCopied from to (map f source) (map f old) (map f new)
 row_copied f from to source old new there room is =
-    subst (IsRowCopied from to (map f source) (map f old)) (sym (ap (map f) is ∙ parts))
-    (copied_row from to (map f source) (map f old) (omega (arith, length-map source f)) (omega (arith, length-map old f)))
-  where
-    parts : map f (take to old ++ (take 4 (drop from source) ++ drop (to + 4) old)) ≡ take to (map f old) ++ (take 4 (drop from (map f source)) ++ drop (to + 4) (map f old))
-    parts = simp (map-append, take-map, drop-map)
+    let moved : take to (map f old) ++ (take 4 (drop from (map f source)) ++ drop (to + 4) (map f old)) ≡ map f new =
+    rw is (simp (map-append, take-map, drop-map)) in
+    rw (← moved) (copied_row from to (map f source) (map f old) (omega (arith, length-map source f)) (omega (arith, length-map old f)))
 
 -- ---- gathering
 
@@ -173,10 +165,12 @@ module _ (layout : Layout) (e : Extent) (values old : List ℤ) where
   unfolding IsGatheredTo
   gathered_skip now n none h = written_skip (exists e) (λ p. p) (λ p. get_or values (index_at layout e p) (pos 0)) old now n none h
 
-  pub gathered_skip_row : (now : List ℤ) (r : ℕ) → e.size.x ≡ 4 → exists e (4 * r) ≡ false → IsGatheredTo now (4 * r) → IsGatheredTo now (4 * r + 4)
+  pub gathered_skip_row : (now : List ℤ) (r : ℕ) → e.size.x ≡ 4 → exists e (4 * r) ≡ false → IsGatheredTo now (4 * r) → IsGatheredTo now (4 * (r + 1))
   unfolding IsGatheredTo
   gathered_skip_row now r four none h =
-      written_skip_all (exists e) (λ p. p) (λ p. get_or values (index_at layout e p) (pos 0)) old now (4 * r) 4 (λ k lt. row_exists e r k false lt four none) h
+      let none_of = λ (k : ℕ) (lt : k < 4). row_exists e r k false lt four none in
+      subst (IsWritten (exists e) (λ p. p) (λ p. get_or values (index_at layout e p) (pos 0)) old now) (omega arith)
+      (written_skip_all (exists e) (λ p. p) (λ p. get_or values (index_at layout e p) (pos 0)) old now _ 4 none_of h)
 
   pub gathered_row : (now new : List ℤ) (r first : ℕ) → HasWholeRows layout e → exists e (4 * r) ≡ true → first ≡ index_at layout e (4 * r)
       → IsRowCopied first (4 * r) values now new → IsGatheredTo now (4 * r) → IsGatheredTo new (4 * (r + 1))
@@ -214,10 +208,12 @@ module _ (layout : Layout) (e : Extent) (block old : List ℤ) where
   unfolding IsScatteredTo
   scattered_skip now n none h = written_skip (exists e) (index_at layout e) (λ p. get_or block p (pos 0)) old now n none h
 
-  pub scattered_skip_row : (now : List ℤ) (r : ℕ) → e.size.x ≡ 4 → exists e (4 * r) ≡ false → IsScatteredTo now (4 * r) → IsScatteredTo now (4 * r + 4)
+  pub scattered_skip_row : (now : List ℤ) (r : ℕ) → e.size.x ≡ 4 → exists e (4 * r) ≡ false → IsScatteredTo now (4 * r) → IsScatteredTo now (4 * (r + 1))
   unfolding IsScatteredTo
   scattered_skip_row now r four none h =
-      written_skip_all (exists e) (index_at layout e) (λ p. get_or block p (pos 0)) old now (4 * r) 4 (λ k lt. row_exists e r k false lt four none) h
+      let none_of = λ (k : ℕ) (lt : k < 4). row_exists e r k false lt four none in
+      subst (IsWritten (exists e) (index_at layout e) (λ p. get_or block p (pos 0)) old now) (omega arith)
+      (written_skip_all (exists e) (index_at layout e) (λ p. get_or block p (pos 0)) old now (4 * r) 4 none_of h)
 
   pub scattered_row : (now new : List ℤ) (r first : ℕ) → IsOneToOne layout e → 4 * r + 3 < 256 → HasWholeRows layout e → exists e (4 * r) ≡ true
       → first ≡ index_at layout e (4 * r) → IsRowCopied (4 * r) first block now new → IsScatteredTo now (4 * r) → IsScatteredTo new (4 * (r + 1))

@@ -15,24 +15,21 @@ use Rattle.zf_pad.proofs.Existing.{place_below}
 
 -- each block begins before the end
 pub line_inside : (ns : List ℕ) (b : ℕ) → length ns ≡ 1 → b < blocks ns → 4 * b < get_or ns 0 1
-line_inside [] b one lt = absurd (omega arith)
 line_inside (n ∷ []) b one lt = omega arith
-line_inside (n ∷ m ∷ ns) b one lt = absurd (omega arith)
+line_inside ns b one lt = absurd (omega arith)
 
 -- a block is told by its place along the line
 place_on_line : (ns : List ℕ) (b p : ℕ) (layout : Layout) (e : Extent) → length ns ≡ 1 → IsExtent 1 e → IsRasterBlock ns b layout e → HasPlace e p → (p < 4) × (index_at layout e p ≡ e.origin.x + p)
-place_on_line [] b p layout e one extent h at = absurd (omega arith)
 place_on_line (n ∷ []) b p layout e one extent h at =
     let small : p < 4 = place_below 1 e (omega arith) extent p at in
     let begins = ap (λ (o : Pos). o.x) h.origin in
     (small, omega (arith, index_by_raster (n ∷ []) b layout e h p at, begins))
-place_on_line (n ∷ m ∷ ns) b p layout e one extent h at = absurd (omega arith)
+place_on_line ns b p layout e one extent h at = absurd (omega arith)
 
 -- a whole one ends before the end
 pub whole_within : (ns : List ℕ) (b : ℕ) (layout : Layout) (e : Extent) → length ns ≡ 1 → IsRasterBlock ns b layout e → e.size.x ≡ 4 → e.origin.x + 4 ≤ product ns
-whole_within [] b layout e one h four = absurd (omega arith)
 whole_within (n ∷ []) b layout e one h four = search rules
-whole_within (n ∷ m ∷ ns) b layout e one h four = absurd (omega arith)
+whole_within ns b layout e one h four = absurd (omega arith)
 
 -- four values that are taken from its begin on are the block
 pub line_taken : (ns : List ℕ) (b : ℕ) (layout : Layout) (e : Extent) (values block : List ℤ) → length ns ≡ 1 → IsExtent 1 e → IsRasterBlock ns b layout e → block ≡ take 4 (drop e.origin.x values) → existing_values (extent_of ns b) block ≡ block_of ns values b

@@ -1,6 +1,6 @@
 -- A slab of an array is an array of its own.
 use Rattle.std.proofs.Common.{rules}
-use Rattle.std.proofs.Common.{◌≡◌, refl, sym, ap, subst, ◌∙◌, ℕ, zero, suc, ◌+◌, ◌-◌, ◌*◌, ◌/◌, ◌%◌, ◌^◌, ◌<◌, ◌≤◌, min, Bool, true, false, cond, ltb, ℤ, pos, List, [], ◌∷◌, length, get_or, drop, mul_assoc, mod-eq_of_lt, arith}
+use Rattle.std.proofs.Common.{◌≡◌, refl, sym, ap, ◌∙◌, ℕ, zero, suc, ◌+◌, ◌-◌, ◌*◌, ◌/◌, ◌%◌, ◌^◌, ◌<◌, ◌≤◌, min, true, cond, ltb, ℤ, pos, List, [], ◌∷◌, length, get_or, drop, mul_assoc, mod-eq_of_lt, arith}
 use Rattle.std.proofs.Math.Nat.{add-mul-mod_self_left, add-mul-div_left, mul-add, mul-le-mul_left}
 use Rattle.std.specs.List.{AllByRecursion}
 use Rattle.std.proofs.lemmas.Bool.{and_parts, and_from, ltb-true, lt-ltb, false≢true}
@@ -13,13 +13,13 @@ use Rattle.zf_base.specs.Places.{IsAt}
 use Rattle.zf_base.proofs.Boxes.{raster-lt, is_inside-coordinates}
 use Rattle.zf_base.proofs.Places.{IsAt-inside}
 use Rattle.zf_base.specs.declared.position.Extent.{Extent}
-use Rattle.zf_base.specs.Positions.{used_axes, with_unused, IsPosition}
+use Rattle.zf_base.specs.Positions.{used_axes, IsPosition}
 use Rattle.zf_base.proofs.Extents.{length-used_axes}
 use Rattle.zf_spec.specs.Codes.{existing_values}
 use Rattle.zf_pad.specs.declared.layout.Layout.{Layout}
 use Rattle.zf_pad.specs.Rasters.{IsRaster, IsRasterBlock}
 use Rattle.zf_pad.specs.Copies.{IsGathered}
-use Rattle.zf_pad.proofs.Blocks.{gathered_block}
+use Rattle.zf_pad.proofs.Blocks.{cond_same, gathered_block}
 use Rattle.zf_pad.specs.Slabs.{rows_of, row_len, with_rows, rows_on, IsSlab, slab_of, first_block}
 
 -- ---- sizes
@@ -85,44 +85,33 @@ coordinates-rows_on (n ∷ m ∷ ns) first rows i some within lt =
     headed p r m (l ∷ ns) rows k = refl
 
 pub raster-rows_on : (ns ps : List ℕ) (first rows : ℕ) → 1 ≤ length ns → length ps ≡ length ns → raster ns (rows_on first ps) ≡ row_len ns * first + raster (with_rows rows ns) ps
-raster-rows_on [] ps first rows some long = absurd (omega arith)
-raster-rows_on (n ∷ []) [] first rows some long = absurd (omega arith)
 raster-rows_on (n ∷ []) (p ∷ []) first rows some long = omega arith
-raster-rows_on (n ∷ []) (p ∷ q ∷ ps) first rows some long = absurd (omega arith)
-raster-rows_on (n ∷ m ∷ ns) [] first rows some long = absurd (omega arith)
-raster-rows_on (n ∷ m ∷ ns) (p ∷ []) first rows some long = absurd (omega arith)
 raster-rows_on (n ∷ m ∷ ns) (p ∷ q ∷ ps) first rows some long =
     let r = row_len (m ∷ ns) in
     let behind = raster (with_rows rows (m ∷ ns)) (q ∷ ps) in
     ap (λ k. p + n * k) (raster-rows_on (m ∷ ns) (q ∷ ps) first rows (omega arith) (omega arith))
     ∙ omega (arith, mul-add n (r * first) behind, mul_assoc n r first)
+raster-rows_on ns ps first rows some long = absurd (omega arith)
 
 -- what exists of a block so many rows of blocks on
 extents-rows_on : (ns cs : List ℕ) (c rows : ℕ) → IsSlab ns c rows → length cs ≡ length ns → is_inside (grid (with_rows rows ns)) cs ≡ true
     → extents ns (rows_on c cs) ≡ extents (with_rows rows ns) cs
 extents-rows_on [] cs c rows slab long inside = absurd (omega (arith, slab.some_axis))
-extents-rows_on (n ∷ []) [] c rows slab long inside = absurd (omega arith)
 extents-rows_on (n ∷ []) (k ∷ []) c rows slab long inside = search (rules, and_parts, ltb-true)
-extents-rows_on (n ∷ []) (k ∷ l ∷ cs) c rows slab long inside = absurd (omega arith)
-extents-rows_on (n ∷ m ∷ ns) [] c rows slab long inside = absurd (omega arith)
-extents-rows_on (n ∷ m ∷ ns) (k ∷ []) c rows slab long inside = absurd (omega arith)
 extents-rows_on (n ∷ m ∷ ns) (k ∷ l ∷ cs) c rows slab long inside =
     let parts = and_parts (ltb k ((n + 3) / 4)) (is_inside (grid (with_rows rows (m ∷ ns))) (l ∷ cs)) inside in
     let smaller : IsSlab (m ∷ ns) c rows = record { some_axis = omega arith; within = slab.within; whole = slab.whole } in
     ap (λ es. min 4 (n - 4 * k) ∷ es) (extents-rows_on (m ∷ ns) (l ∷ cs) c rows smaller (omega arith) parts.1)
+extents-rows_on ns cs c rows slab long inside = absurd (omega arith)
 
 position_in-rows_on : (cs is : List ℕ) (c : ℕ) → length is ≡ length cs → position_in (rows_on c cs) is ≡ rows_on (4 * c) (position_in cs is)
 position_in-rows_on [] is c long = refl
-position_in-rows_on (k ∷ []) [] c long = absurd (omega arith)
 position_in-rows_on (k ∷ []) (i ∷ []) c long = let same : 4 * (c + k) + i ≡ 4 * c + (4 * k + i) = omega arith in ap (λ p. p ∷ []) same
-position_in-rows_on (k ∷ []) (i ∷ j ∷ is) c long = absurd (omega arith)
-position_in-rows_on (k ∷ l ∷ cs) [] c long = absurd (omega arith)
-position_in-rows_on (k ∷ l ∷ cs) (i ∷ []) c long = absurd (omega arith)
-position_in-rows_on (k ∷ l ∷ cs) (i ∷ j ∷ is) c long =
-    ap (λ ps. (4 * k + i) ∷ ps) (position_in-rows_on (l ∷ cs) (j ∷ is) c (omega arith)) ∙ headed cs is
-  where
-    headed : (cs is : List ℕ) → (4 * k + i) ∷ rows_on (4 * c) (position_in (l ∷ cs) (j ∷ is)) ≡ rows_on (4 * c) (position_in (k ∷ l ∷ cs) (i ∷ j ∷ is))
-    headed cs is = refl
+position_in-rows_on (k ∷ l ∷ []) (i ∷ j ∷ is) c long =
+    ap (λ ps. (4 * k + i) ∷ ps) (position_in-rows_on (l ∷ []) (j ∷ is) c (omega arith))
+position_in-rows_on (k ∷ l ∷ m ∷ cs) (i ∷ j ∷ is) c long =
+    ap (λ ps. (4 * k + i) ∷ ps) (position_in-rows_on (l ∷ m ∷ cs) (j ∷ is) c (omega arith))
+position_in-rows_on cs is c long = absurd (omega arith)
 
 length-position_in : (cs is : List ℕ) → length is ≡ length cs → length (position_in cs is) ≡ length cs
 length-position_in [] is long = refl
@@ -169,7 +158,7 @@ module _ (ns : List ℕ) (c rows : ℕ) (slab : IsSlab ns c rows) (j : ℕ) (lt 
       let Value : ℕ → ℤ = λ k.
       cond (is_inside (extents (with_rows rows ns) cs) (indices k p)) (get_or (slab_of ns values c rows) (raster (with_rows rows ns) (position_in cs (indices k p))) (pos 0)) (pos 0) in
       ap (λ es. cond (is_inside es at) (get_or values (raster ns (position_in (rows_on c cs) at)) (pos 0)) (pos 0)) extents_same
-      ∙ chosen (is_inside (extents (with_rows rows ns) cs) at)
+      ∙ cond_same (is_inside (extents (with_rows rows ns) cs) at)
       (get_or values (raster ns (position_in (rows_on c cs) at)) (pos 0)) (get_or (slab_of ns values c rows) (raster (with_rows rows ns) here) (pos 0))
       (λ inside.
       let exists : is_inside (extent_of (with_rows rows ns) j) (indices (length (with_rows rows ns)) p) ≡ true = ap (λ k. is_inside (extents (with_rows rows ns) cs) (indices k p)) dims ∙ inside in
@@ -185,10 +174,6 @@ module _ (ns : List ℕ) (c rows : ℕ) (slab : IsSlab ns c rows) (j : ℕ) (lt 
       ap (λ i. get_or values i (pos 0)) same_index ∙ sym (get_or-drop start values (raster (with_rows rows ns) here) (pos 0))
       ∙ sym (get_or-take many (drop start values) (raster (with_rows rows ns) here) (pos 0) fits))
       ∙ ap Value (sym dims)
-    where
-      chosen : (t : Bool) (u v : ℤ) → (t ≡ true → u ≡ v) → cond t u (pos 0) ≡ cond t v (pos 0)
-      chosen true u v h = h refl
-      chosen false u v h = refl
 
   -- and which is the block of the slab
   pub block_of-slab : (values : List ℤ) → block_of ns values (first_block ns c + j) ≡ block_of (with_rows rows ns) (slab_of ns values c rows) j
@@ -212,20 +197,18 @@ rows_on-none (p ∷ q ∷ ps) = ap (λ qs. p ∷ qs) (rows_on-none (q ∷ ps))
 -- a position in the slab is one in an array of more rows
 inside_more : (ns ps : List ℕ) (rows : ℕ) → rows ≤ rows_of ns → is_inside (with_rows rows ns) ps ≡ true → is_inside ns ps ≡ true
 inside_more [] ps rows few inside = refl
-inside_more (n ∷ []) [] rows few inside = absurd (false≢true inside)
 inside_more (n ∷ []) (p ∷ ps) rows few inside = search (rules, and_parts, ltb-true, and_from, lt-ltb)
-inside_more (n ∷ m ∷ ns) [] rows few inside = absurd (false≢true inside)
 inside_more (n ∷ m ∷ ns) (p ∷ ps) rows few inside =
     let parts = and_parts (ltb p n) (is_inside (with_rows rows (m ∷ ns)) ps) inside in
     and_from (ltb p n) (is_inside (m ∷ ns) ps) parts.0 (inside_more (m ∷ ns) ps rows few parts.1)
+inside_more ns ps rows few inside = absurd (false≢true inside)
 
 pub layout_of_slab : (ns : List ℕ) (rows : ℕ) (layout : Layout) → 1 ≤ length ns → length ns ≤ 4 → rows ≤ rows_of ns → IsRaster ns layout → IsRaster (with_rows rows ns) layout
 layout_of_slab ns rows layout some four few whole p at =
     let dims = length-with_rows rows ns in
     let ps = used_axes (length ns) p in
-    let Inside : ℕ → Type 0 = λ k. is_inside (with_rows rows ns) (used_axes k p) ≡ true in
-    let Unused : ℕ → Type 0 = λ k. p ≡ with_unused 0 (used_axes k p) in
-    let position : IsPosition ns p = record { inside = inside_more ns ps rows few (subst Inside dims at.inside); unused = subst Unused dims at.unused } in
+    let inside = rw dims at at.inside in
+    let position : IsPosition ns p = record { inside = inside_more ns ps rows few inside; unused = rw dims at at.unused } in
     let none : row_len ns * 0 + raster (with_rows rows ns) ps ≡ raster (with_rows rows ns) ps = omega arith in
     whole p position ∙ ap (raster ns) (sym (rows_on-none ps)) ∙ raster-rows_on ns ps 0 rows some (length-used_axes (length ns) p four) ∙ none
     ∙ ap (λ k. raster (with_rows rows ns) (used_axes k p)) (sym dims)
@@ -246,11 +229,7 @@ pub IsShape-with_rows : (rows : ℕ) (ns : List ℕ) → IsShape ns → 1 ≤ ro
 IsShape-with_rows rows ns shape some few =
     let dims = length-with_rows rows ns in
     let most = all_rows (λ n. n ≤ 2 ^ (48 / length ns)) ns shape.some_dimension shape.fields in
-    let Fields : ℕ → Type 0 = λ k. AllByRecursion (λ n. n ≤ 2 ^ (48 / k)) (with_rows rows ns) in
-    record {
-      some_dimension = omega (arith, dims, shape.some_dimension);
-      four_at_most = omega (arith, dims, shape.four_at_most);
-      not_zero = all_with_rows (λ n. 1 ≤ n) rows ns some shape.not_zero;
-      fields = subst Fields (sym dims) (all_with_rows (λ n. n ≤ 2 ^ (48 / length ns)) rows ns (omega (arith, most)) shape.fields);
-      not_too_large = omega (arith, product-with_rows rows ns shape.some_dimension, product-rows ns shape.some_dimension, mul-le-mul_left (row_len ns) few, shape.not_too_large);
-    }
+    let few_values = mul-le-mul_left (row_len ns) few in
+    let fields = all_with_rows (λ n. n ≤ 2 ^ (48 / length ns)) rows ns (omega (arith, most)) shape.fields in
+    let all : AllByRecursion (λ n. n ≤ 2 ^ (48 / length (with_rows rows ns))) (with_rows rows ns) = rw dims fields in
+    search (rules, all_with_rows, product-with_rows, product-rows)

@@ -58,8 +58,6 @@ ends_within : (n : ℕ) (ns : List ℕ) (b : ℕ) → 0 < (n + 3) / 4 → suc (b
 ends_within n ns b some lt =
     let g = (n + 3) / 4 in
     let c = b % g in
-    let q = b / g in
-    let size = product (extent_of ns q) in
     let whole : min 4 (n - 4 * c) ≡ 4 = omega (arith, lt) in
     record {
       next = search (rules, next_mod, next_div);
@@ -212,12 +210,11 @@ raster_value ns ps stored long inside = search (rules, get_or-map-upto, raster-l
 
 -- in one dimension they stand in raster order
 pub raster_of_one : (ns : List ℕ) (stored : List ℤ) → length ns ≡ 1 → product ns ≤ length stored → raster_of ns stored ≡ take (product ns) stored
-raster_of_one [] stored one within = absurd (omega arith)
 raster_of_one (n ∷ []) stored one within =
     let all = product (n ∷ []) in
     from_places (λ k. get_or stored (stored_index (n ∷ []) (k % n ∷ [])) (pos 0)) all (pos 0) (take all stored) (length-take-le all stored within)
     (search (rules, mod-eq_of_lt, get_or-take))
-raster_of_one (n ∷ m ∷ ns) stored one within = absurd (omega arith)
+raster_of_one ns stored one within = absurd (omega arith)
 
 -- they are the blocks of the values in raster order
 pub blocks_stored : (ns : List ℕ) (bs : List (List ℤ)) (stored : List ℤ) → length bs ≡ blocks ns → Stores ns bs stored → bs ≡ blocks_of ns (raster_of ns stored)

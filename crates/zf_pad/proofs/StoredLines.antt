@@ -20,12 +20,11 @@ use Rattle.zf_pad.specs.Stored.{start_at, stored_index, raster_of, line_len, oth
 start_at-append_ones : (ns cs : List ℕ) (k : ℕ) → length cs ≡ length ns → start_at (ns ++ replicate k 1) (cs ++ replicate k 0) ≡ start_at ns cs
 start_at-append_ones [] [] zero e = refl
 start_at-append_ones [] [] (suc k) e = omega (arith, start_at-append_ones [] [] k refl)
-start_at-append_ones [] (c ∷ cs) k e = absurd (omega arith)
-start_at-append_ones (n ∷ ns) [] k e = absurd (omega arith)
 start_at-append_ones (n ∷ ns) (c ∷ cs) k e =
     let long : length cs ≡ length ns = omega arith in
     ap (λ v. 4 * c * v + n * start_at (ns ++ replicate k 1) (cs ++ replicate k 0)) (ap product (extents-append_ones ns cs k long) ∙ product-append_ones (extents ns cs) k)
     ∙ ap (λ s. 4 * c * product (extents ns cs) + n * s) (start_at-append_ones ns cs k long)
+start_at-append_ones ns cs k e = absurd (omega arith)
 
 stored_index-append_ones : (ns ps : List ℕ) (k : ℕ) → length ps ≡ length ns → stored_index (ns ++ replicate k 1) (ps ++ replicate k 0) ≡ stored_index ns ps
 stored_index-append_ones ns ps k e = search (rules, length-map, length-extents, map-zeros, extents-append_ones, start_at-append_ones, raster-append_zeros)
@@ -66,11 +65,6 @@ module _ (n : ℕ) (ns ps : List ℕ) (first lines line x : ℕ) (h : IsLine ns 
   line_place : stored_index (n ∷ ns) (x ∷ ps) ≡ place_on n first lines line x
   line_place = search rules
 
-  -- with one axis more
-  pub line_along : (first' lines' line' : ℕ) → first' ≡ 4 * (x / 4) * lines + n * first → lines' ≡ min 4 (n - 4 * (x / 4)) * lines → line' ≡ x % 4 + min 4 (n - 4 * (x / 4)) * line
-      → IsLine (n ∷ ns) (x ∷ ps) first' lines' line'
-  line_along first' lines' line' first_is lines_are line_is = search rules
-
 -- the value with a raster number
 pub value_on_line : (ns : List ℕ) (stored : List ℤ) (k first lines line : ℕ) → length ns ≤ 4 → k < product ns → IsLine (other_sizes ns) (coordinates (other_sizes ns) (k / line_len ns)) first lines line
     → get_or (raster_of ns stored) k (pos 0) ≡ get_or stored (place_on (line_len ns) first lines line (k % line_len ns)) (pos 0)
@@ -109,10 +103,7 @@ module _ (n first lines line x all : ℕ) (begins : x % 4 ≡ 0) (below : line <
       let q : 4 * ((x + (4 * b + k)) / 4) ≡ x + 4 * b = omega (arith, begins, small) in
       let r : (x + (4 * b + k)) % 4 ≡ k = omega (arith, begins, small) in
       let e : min 4 (n - (x + 4 * b)) ≡ 4 = omega (arith, within) in
-      ap (λ c. c * lines + n * first + ((x + (4 * b + k)) % 4 + min 4 (n - c) * line)) q
-      ∙ ap (λ j. (x + 4 * b) * lines + n * first + (j + min 4 (n - (x + 4 * b)) * line)) r
-      ∙ ap (λ m. (x + 4 * b) * lines + n * first + (k + m * line)) e
-      ∙ omega arith
+      rw (q, r, e) (omega arith)
 
   pub block_within : (b : ℕ) → x + (4 * b + 4) ≤ n → n * first + x * lines + 4 * line + b * (4 * lines) + 4 ≤ all
   block_within b within = omega (arith, mul-le-mul_right lines within, below, fits)
@@ -123,10 +114,7 @@ module _ (n first lines line x all : ℕ) (begins : x % 4 ≡ 0) (below : line <
       let q : 4 * ((x + (4 * b + k)) / 4) ≡ x + 4 * b = omega (arith, begins, small, few) in
       let r : (x + (4 * b + k)) % 4 ≡ k = omega (arith, begins, small, few) in
       let e : min 4 (n - (x + 4 * b)) ≡ rest = omega (arith, is, few) in
-      ap (λ c. c * lines + n * first + ((x + (4 * b + k)) % 4 + min 4 (n - c) * line)) q
-      ∙ ap (λ j. (x + 4 * b) * lines + n * first + (j + min 4 (n - (x + 4 * b)) * line)) r
-      ∙ ap (λ m. (x + 4 * b) * lines + n * first + (k + m * line)) e
-      ∙ omega arith
+      rw (q, r, e) (omega arith)
 
   pub rest_within : (b rest : ℕ) → x + (4 * b + rest) ≤ n → n * first + x * lines + 4 * b * lines + rest * line + rest ≤ all
   rest_within b rest within =
@@ -208,7 +196,7 @@ rest_copied {X} f from to count source old new there room is =
     let parts : map f new ≡ take to us ++ rest = ap (map f) is ∙ simp (map-append, take-map, drop-map) in
     let prefix : length (take to us) ≡ to = length-take-le to us (omega (arith, length-map old f, room)) in
     let some : length (take count (drop from vs)) ≡ count = length-take-le count (drop from vs) (omega (arith, length-drop from vs, length-map source f, there)) in
-        search (rules, get_or-append, get_or-take, get_or-append_right, get_or-drop)
+    search (rules, get_or-append, get_or-take, get_or-append_right, get_or-drop)
 
 -- what stands before a place stays where values are put behind it
 pub front_stays : {X : Type 0} (to at : ℕ) (old rest new : List X) → to ≤ at → at ≤ length old → new ≡ take at old ++ rest → take to new ≡ take to old

@@ -1,10 +1,9 @@
 -- Calls that fail only where a device does, one after another.
-use Rattle.std.proofs.Common.{◌≡◌, Result, Ok, Err}
+use Rattle.std.proofs.Common.{◌≡◌, Ok, Err}
 use Rattle.zf_dev.specs.declared.source.Source.{Ghosts as Source}
 use Rattle.zf_dev.specs.declared.sink.Sink.{Ghosts as Sink}
 use Rattle.zf_dev.specs.Devices.{Reads, Writes}
-use Rattle.zf_dev.proofs.Devices.{Reads-by, Reads-then, Writes-by, Writes-then}
-use Rattle.zf_parse.specs.declared.fault.StreamFault.{StreamFault}
+use Rattle.zf_dev.proofs.Devices.{Reads-by, Writes-by}
 use Rattle.zf_parse.specs.declared.fault.StreamFault.TheVariants.{Read, Write}
 use Rattle.zf_stream.specs.Outcomes.{ReadsOnly, WritesOnly}
 
@@ -16,16 +15,9 @@ module _ {A T : Type 0} {S : Source A} where
   pub ReadsOnly-ok : {a b : A} (x : T) → Reads S ⊥ a b → ReadsOnly S (Ok x) a b
   ReadsOnly-ok {a} {b} x reads = record { fault = tt; device = Reads-ok x reads }
 
-  -- and then another one
-  pub ReadsOnly-then : {r : Result T StreamFault} {a b c : A} → Reads S ⊥ a b → ReadsOnly S r b c → ReadsOnly S r a c
-  ReadsOnly-then {r} {a} {b} {c} before reads = record { fault = reads.fault; device = Reads-then before reads.device }
-
 module _ {A T : Type 0} {O : Sink A} where
   pub Writes-ok : {a b : A} (x : T) → Writes O ⊥ a b → Writes O (Ok x ≡ Err Write) a b
   Writes-ok {a} {b} x writes = Writes-by writes (λ same. cc)
 
   pub WritesOnly-ok : {a b : A} (x : T) → Writes O ⊥ a b → WritesOnly O (Ok x) a b
   WritesOnly-ok {a} {b} x writes = record { fault = tt; device = Writes-ok x writes }
-
-  pub WritesOnly-then : {r : Result T StreamFault} {a b c : A} → Writes O ⊥ a b → WritesOnly O r b c → WritesOnly O r a c
-  WritesOnly-then {r} {a} {b} {c} before writes = record { fault = writes.fault; device = Writes-then before writes.device }

@@ -46,10 +46,6 @@ Answers-known r None src prefix answer first answers = tt
 Answers-known r (Some all) None prefix answer first answers = absurd first
 Answers-known r (Some all) (Some left) prefix answer first answers = search (rules, answers)
 
-pub Finishes-known : (known src : Option (List ℕ)) (prefix : List ℕ) {answer : List ℕ → Result (Unit {0}) StreamFault} {text : List ℕ → List ℕ} {now out0 out : Option (List ℕ)} → Takes known src prefix
-    → Finishes answer text (behind prefix src) now out0 out → Finishes answer text known now out0 out
-Finishes-known known src prefix {answer} {text} {now} first done = search (rules, Takes-known, good)
-
 -- ---- a window that holds them
 
 -- what is restored, for the one who has the header
@@ -117,11 +113,9 @@ header_is prefix h len begun = subst IsHeader (sym begun.header) (read_is_header
 
 -- some more was taken, and nothing written
 pub only_taken : (prefix : List ℕ) (src now out : Option (List ℕ)) {text : List ℕ → List ℕ} → TakesSome src now → LeavesPrefix text (behind prefix src) now out out
-only_taken prefix src now out {text} some = record {
-  bytes = prefix ++ some.0;
-  taken = Takes-behind prefix some.0 src now some.1;
-  written = AppendsPrefix-none out (text (prefix ++ some.0));
-}
+only_taken prefix src now out {text} some =
+    let bytes = prefix ++ some.0 in
+    record { bytes = bytes; taken = Takes-behind prefix some.0 src now some.1; written = AppendsPrefix-none out _ }
 
 -- nothing more was taken
 pub nothing_taken : (prefix : List ℕ) (src out : Option (List ℕ)) {text : List ℕ → List ℕ} → LeavesPrefix text (behind prefix src) src out out

@@ -17,11 +17,4 @@ good_of_prefix n (Some all) prefix within is none = sym (fault_first n all withi
 pub refusal_of_fault : (n : ℕ) (known : Option (List ℕ)) (prefix : List ℕ) (e : StreamFault) → 19 ≤ n → IsPrefix n known prefix → IsFaultOf prefix e → IsRefusal known restore_answer e
 refusal_of_fault n None prefix e within is fault = tt
 refusal_of_fault n (Some all) prefix (faults.Header f) within is fault = inl (parse_fault n all prefix f within is fault)
-refusal_of_fault n (Some all) prefix (faults.RawShort m) within is fault = absurd fault
-refusal_of_fault n (Some all) prefix faults.RawLong within is fault = absurd fault
-refusal_of_fault n (Some all) prefix (faults.Truncated m) within is fault = absurd fault
-refusal_of_fault n (Some all) prefix faults.Pad within is fault = absurd fault
-refusal_of_fault n (Some all) prefix faults.Trailing within is fault = absurd fault
-refusal_of_fault n (Some all) prefix faults.Read within is fault = absurd fault
-refusal_of_fault n (Some all) prefix faults.Write within is fault = absurd fault
-refusal_of_fault n (Some all) prefix faults.Memory within is fault = absurd fault
+refusal_of_fault n (Some all) prefix e within is fault = absurd fault

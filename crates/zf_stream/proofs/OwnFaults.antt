@@ -83,7 +83,7 @@ not_before e of before = of
 
 device_not_before : (e : StreamFault) → (e ≡ faults.Read) ⊎ (e ≡ faults.Write) → ¬ IsBeforeWriting e
 device_not_before e device before =
-    ⊎_elim (λ read. let no : IsBeforeWriting faults.Read = subst IsBeforeWriting read before in no) (λ write. let no : IsBeforeWriting faults.Write = subst IsBeforeWriting write before in no) device
+    ⊎_elim (λ read. subst IsBeforeWriting read before) (λ write. subst IsBeforeWriting write before) device
 
 pub refused_later : (h : Header) (src now : Option (List ℕ)) (w : Window) (e : StreamFault) → Refuses h src now w e → ¬ IsBeforeWriting e
 refused_later h src now w e refuses = search (rules, not_before, values_behind, of_codes, device_not_before)

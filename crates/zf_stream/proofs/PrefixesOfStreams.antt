@@ -1,7 +1,7 @@
 -- What was written of a stream: a prefix, or all of it.
 use Rattle.std.proofs.Common.{rules}
-use Rattle.std.proofs.Common.{◌≡◌, refl, sym, ap, subst, ◌∙◌, ℕ, suc, ◌+◌, ◌-◌, ◌*◌, ◌/◌, ◌<◌, ◌≤◌, Bool, List, [], ◌∷◌, ◌++◌, map, length, drop, All, Option, append_assoc, length-append, mul_comm, take_at, drop_at, arith}
-use Rattle.std.proofs.lemmas.List.{append-nil}
+use Rattle.std.proofs.Common.{◌≡◌, refl, sym, ap, ◌∙◌, ℕ, suc, ◌+◌, ◌-◌, ◌*◌, ◌/◌, ◌<◌, ◌≤◌, Bool, List, [], ◌∷◌, ◌++◌, map, length, drop, All, Option, append_assoc, length-append, mul_comm, take_at, drop_at, arith}
+use Rattle.std.proofs.lemmas.List.{nil_from_length, append-nil}
 use Rattle.std.proofs.lemmas.List.Elements.{All-head, All-tail}
 use Rattle.std.proofs.Math.Nat.{mul-le-mul_left, mod-eq_of_lt}
 use Rattle.std.specs.List.{flat_map}
@@ -69,8 +69,7 @@ prefix_of_text h bytes bits rest {out0} {out} some is spills =
     sym (append_assoc (to_bits spills.bytes) spills.left rest) ∙ ap (λ (bs : List Bool). bs ++ rest) spills.parts ∙ is in
     let text : spills.bytes ++ to_bytes (spills.left ++ rest) ≡ stream_text h bytes =
     sym (to_bytes-prefix spills.bytes (spills.left ++ rest) spills.small) ∙ ap to_bytes parts ∙ sym (stream_text-bits h bytes some) in
-    let P : List ℕ → Type 0 = λ bs. AppendsPrefix out0 out bs in
-    subst P text (AppendsPrefix-more out0 out spills.bytes (to_bytes (spills.left ++ rest)) spills.written)
+    rw text at (AppendsPrefix-more out0 out spills.bytes (to_bytes (spills.left ++ rest)) spills.written)
 
 -- the codes of some rows are a prefix of those of all
 pub codes_behind : (h : Header) (rows : ℕ) (bytes more : List ℕ) → IsSlab h.shape 0 rows → length bytes ≡ rows_len h rows
@@ -111,28 +110,15 @@ module _ (h : Header) {src0 now out0 out : Option (List ℕ)} {gives : List ℕ 
 
 -- behind what was written before
 pub Stops-behind : (h : Header) {src now out0 out1 out2 : Option (List ℕ)} {gives : List ℕ → Type 0} {bits left : List Bool} → Flows out0 out1 bits left → Stops h src now gives out1 out2 left → Stops h src now gives out0 out2 bits
-Stops-behind h {src} {now} {out0} {out1} {out2} {gives} {bits} {left} flows stops = record {
-  rows = stops.rows;
-  whole = stops.whole;
-  bytes = stops.bytes;
-  more = stops.more;
-  taken = stops.taken;
-  lost = stops.lost;
-  given = stops.given;
-  long = stops.long;
-  spills = Flows-spill (Flows-more (codes_of_rows h stops.rows stops.bytes) flows) stops.spills;
-}
+Stops-behind h {src} {now} {out0} {out1} {out2} {gives} {bits} {left} flows stops =
+    let spills = Flows-spill (Flows-more (codes_of_rows h stops.rows stops.bytes) flows) stops.spills in
+    search rules
 
 pub Compresses-behind : (h : Header) (rows : ℕ) {src now out0 out1 out2 : Option (List ℕ)} {gives : List ℕ → Type 0} {bits left last : List Bool} → Flows out0 out1 bits left → Compresses h rows src now gives out1 out2 left last
     → Compresses h rows src now gives out0 out2 bits last
-Compresses-behind h rows {src} {now} {out0} {out1} {out2} {gives} {bits} {left} {last} flows done = record {
-  whole = done.whole;
-  bytes = done.bytes;
-  taken = done.taken;
-  given = done.given;
-  long = done.long;
-  flows = Flows-next (Flows-more (codes_of_rows h rows done.bytes) flows) done.flows;
-}
+Compresses-behind h rows {src} {now} {out0} {out1} {out2} {gives} {bits} {left} {last} flows done =
+    let all = Flows-next (Flows-more (codes_of_rows h rows done.bytes) flows) done.flows in
+    search rules
 
 -- ---- the end
 
@@ -143,17 +129,11 @@ Compresses-read h rows {src} {mid} {now} {out0} {out} {a} {b} {c} {bits} {left} 
 
 pub Compresses-stop : (h : Header) (rows : ℕ) {src mid now out0 out : Option (List ℕ)} {a b c : List ℕ → Type 0} {bits left : List Bool} (more : List ℕ) → Compresses h rows src mid (Gives a b) out0 out bits left → Takes mid now more → GivesSome b c
     → Stops h src now (Gives a c) out0 out bits
-Compresses-stop h rows {src} {mid} {now} {out0} {out} {a} {b} {c} {bits} {left} more done taken lost = record {
-  rows = rows;
-  whole = done.whole;
-  bytes = done.bytes;
-  more = more;
-  taken = Takes-append src mid now done.bytes more done.taken taken;
-  lost = lost.0;
-  given = Gives-append done.bytes lost.0 done.given lost.1;
-  long = done.long;
-  spills = Spills-flows done.flows;
-}
+Compresses-stop h rows {src} {mid} {now} {out0} {out} {a} {b} {c} {bits} {left} more done taken lost =
+    let reads = Takes-append src mid now done.bytes more done.taken taken in
+    let given = Gives-append done.bytes lost.0 done.given lost.1 in
+    let spills = Spills-flows done.flows in
+    search rules
 
 -- the fill of what is left is that of all bits
 module _ (h : Header) {src now out0 out1 : Option (List ℕ)} {gives : List ℕ → Type 0} {left : List Bool} (done : Compresses h (rows_of h.shape) src now gives out0 out1 (header_bits h) left) where
@@ -161,9 +141,7 @@ module _ (h : Header) {src now out0 out1 : Option (List ℕ)} {gives : List ℕ 
   fill_same = search (rules, length-append, length-to_bits)
 
   filled : Flows out0 out1 (with_fill (stream_bits h done.bytes)) (left ++ fill left)
-  filled =
-      let P : List Bool → Type 0 = λ bs. Flows out0 out1 (stream_bits h done.bytes ++ bs) (left ++ fill left) in
-      subst P fill_same (Flows-more (fill left) done.flows)
+  filled = rw (← fill_same) (Flows-more (fill left) done.flows)
 
   -- the last words were not written
   prefix_of_all : {out2 : Option (List ℕ)} → Spills out1 out2 (left ++ fill left) → AppendsPrefix out0 out2 (stream_text h done.bytes)
@@ -175,26 +153,26 @@ module _ (h : Header) {src now out0 out1 : Option (List ℕ)} {gives : List ℕ 
   -- bytes behind those of the array are not looked at
   pub given_at_end : {out2 : Option (List ℕ)} → Spills out1 out2 (left ++ fill left) → WritesPrefix (stream_text h) gives out0 out2
   given_at_end {out2} spills =
-      let long : product h.shape * byte_len (width_of h.ty) ≤ length done.bytes = omega (arith, done.long, rows_len-all h done.whole.some_axis, mul_comm (byte_len (width_of h.ty)) (product h.shape)) in
-      let Of : List ℕ → Type 0 = λ bs. AppendsPrefix out0 out2 bs in
+      let count = mul_comm (byte_len (width_of h.ty)) (product h.shape) in
+      let long : product h.shape * byte_len (width_of h.ty) ≤ length done.bytes =
+      omega (arith, done.long, rows_len-all h done.whole.some_axis, count) in
+      let given : gives (done.bytes ++ []) = rw (append-nil done.bytes) done.given in
       record {
         bytes = done.bytes;
         lost = [];
-        given = subst gives (sym (append-nil done.bytes)) done.given;
-        written = λ rest. subst Of (sym (stream_text-more h done.bytes rest long)) (prefix_of_all spills);
+        given = given;
+        written = λ rest. rw (stream_text-more h done.bytes rest long) (prefix_of_all spills);
       }
 
   -- they were
   pub text_at_end : {out2 : Option (List ℕ)} {last : List Bool} → Flows out1 out2 (left ++ fill left) last → length last < 64 → Appends out0 out2 (stream_text h done.bytes)
   text_at_end {out2} {last} flows few =
       let all = Flows-next filled flows in
-      let parts = ap length all.parts in
-      let none : length last ≡ 0 = omega (arith, parts, length-append (to_bits all.bytes) last, length-to_bits all.bytes, all.words, fill_whole (stream_bits h done.bytes), length-append (stream_bits h done.bytes) (fill (stream_bits h done.bytes)), few) in
-      let empty : last ≡ [] = nothing last none in
-      let bits : to_bits all.bytes ≡ with_fill (stream_bits h done.bytes) = sym (append-nil (to_bits all.bytes)) ∙ ap (λ (bs : List Bool). to_bits all.bytes ++ bs) (sym empty) ∙ all.parts in
-      let P : List ℕ → Type 0 = λ bs. Appends out0 out2 bs in
-      subst P (sym (to_bytes-to_bits all.bytes all.small) ∙ ap to_bytes bits ∙ sym (stream_text-bits h done.bytes done.whole.some_axis)) all.written
-    where
-      nothing : (bs : List Bool) → length bs ≡ 0 → bs ≡ []
-      nothing [] e = refl
-      nothing (b ∷ bs) e = absurd (omega arith)
+      let bits = stream_bits h done.bytes in
+      let none : length last ≡ 0 =
+      omega (arith, ap length all.parts, length-append {A = Bool}, length-to_bits, all.words, fill_whole bits, few) in
+      let same = append-nil (to_bits all.bytes) in
+      let parts : to_bits all.bytes ≡ with_fill bits = cc (nil_from_length last none, all.parts) in
+      let text = sym (to_bytes-to_bits all.bytes all.small) ∙ ap to_bytes parts in
+      let is = text ∙ sym (stream_text-bits h done.bytes done.whole.some_axis) in
+      rw (← is) all.written

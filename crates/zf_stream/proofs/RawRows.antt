@@ -1,6 +1,6 @@
 -- Raw values that are read row by row: what is refused, and what is said of it.
 use Rattle.std.proofs.Common.{rules}
-use Rattle.std.proofs.Common.{◌≡◌, refl, sym, ap, subst, ℕ, ◌+◌, ◌<◌, ◌≤◌, ◌⊎◌, inl, inr, ⊎_elim, cond, ltb, lt-ltb, le-ltb, List, [], ◌∷◌, ◌++◌, length, Option, Some, None, Ok, Err, length-append, arith}
+use Rattle.std.proofs.Common.{◌≡◌, refl, ap, ℕ, ◌+◌, ◌<◌, ◌≤◌, inr, cond, ltb, lt-ltb, le-ltb, List, [], ◌∷◌, ◌++◌, length, Option, Some, None, Ok, Err, length-append, arith}
 use Rattle.zf_dev.specs.Source.{Takes, TakesSome}
 use Rattle.zf_dev.proofs.Taking.{Takes-append}
 use Rattle.zf_header.specs.declared.header.Header.{Header}
@@ -22,25 +22,16 @@ long_answer wanted bytes many = search (rules, le-ltb, lt-ltb)
 pub good_answer : (wanted : ℕ) (bytes : List ℕ) → length bytes ≡ wanted → length_answer wanted bytes ≡ Ok tt
 good_answer wanted bytes same = search (rules, le-ltb)
 
--- what was not read: the source ended, or it failed
-lacks_is : (before wanted : ℕ) (old new : Option (List ℕ)) (e : StreamFault) → LacksRaw before wanted old new e
-    → ((n : ℕ) × (e ≡ faults.RawShort n) × EndsShort before wanted old new n) ⊎ ((e ≡ faults.Read) × TakesSome old new)
-lacks_is before wanted old new (faults.RawShort n) lacks = inl (n, refl, lacks)
-lacks_is before wanted old new faults.Read lacks = inr (refl, lacks)
-lacks_is before wanted old new e lacks = absurd lacks
-
--- or what came behind all of it: a byte, or the source failed
-more_is : (mid now : Option (List ℕ)) (e : StreamFault) → GoesOn mid now e → ((byte : ℕ) × (e ≡ faults.RawLong) × Takes mid now (byte ∷ [])) ⊎ ((e ≡ faults.Read) × TakesSome mid now)
-more_is mid now faults.RawLong more = inl (more.0, refl, more.1)
-more_is mid now faults.Read more = inr (refl, more)
-more_is mid now e more = absurd more
-
--- what was taken though
+-- what was taken where the source ended, or it failed
 pub some_taken : (before wanted : ℕ) (old new : Option (List ℕ)) (e : StreamFault) → LacksRaw before wanted old new e → TakesSome old new
-some_taken before wanted old new e lacks = ⊎_elim (λ short. (short.2.bytes, short.2.taken)) (λ failed. failed.1) (lacks_is before wanted old new e lacks)
+some_taken before wanted old new (faults.RawShort n) lacks = (lacks.bytes, lacks.taken)
+some_taken before wanted old new faults.Read lacks = lacks
+some_taken before wanted old new e lacks = absurd lacks
 
 pub some_more : (mid now : Option (List ℕ)) (e : StreamFault) → GoesOn mid now e → TakesSome mid now
-some_more mid now e more = ⊎_elim (λ long. (long.0 ∷ [], long.2)) (λ failed. failed.1) (more_is mid now e more)
+some_more mid now faults.RawLong more = (more.0 ∷ [], more.1)
+some_more mid now faults.Read more = more
+some_more mid now e more = absurd more
 
 module _ (h : Header) (known now : Option (List ℕ)) where
   outside : (known : Option (List ℕ)) (e : StreamFault) → IsFromOutside e → IsRefusal known (compress_answer h) e
@@ -61,18 +52,14 @@ module _ (h : Header) (known mid now : Option (List ℕ)) (bytes : List ℕ) (ta
   short_refusal n (Some all) from lacks = search (rules, length-append, short_answer)
 
   pub raw_refused : (e : StreamFault) → LacksRaw (length bytes) wanted mid now e → RefusesRaw (compress_answer h) (raw_len h) known now e
-  raw_refused e lacks =
-      let P : StreamFault → Type 0 = λ f. RefusesRaw (compress_answer h) (raw_len h) known now f in
-      ⊎_elim
-      (λ short.
-      subst P (sym short.1) (record {
-        refused = short_refusal short.0 known taken short.2;
-        possible = CanRefuse-short (raw_len h) short.0 (omega (arith, short.2.count_is, short.2.few));
-        shows = short.2.ended;
-        unwanted = λ is. cc;
-      }))
-      (λ failed. read_refused h known now e failed.0)
-      (lacks_is (length bytes) wanted mid now e lacks)
+  raw_refused (faults.RawShort n) lacks = record {
+    refused = short_refusal n known taken lacks;
+    possible = CanRefuse-short (raw_len h) n (omega (arith, lacks.count_is, lacks.few));
+    shows = lacks.ended;
+    unwanted = λ is. cc;
+  }
+  raw_refused faults.Read lacks = read_refused h known now faults.Read refl
+  raw_refused e lacks = absurd lacks
 
 -- a byte behind those of the array
 module _ (h : Header) (known mid now : Option (List ℕ)) (bytes : List ℕ) (taken : Takes known mid bytes) (all : length bytes ≡ raw_len h) where
@@ -81,15 +68,13 @@ module _ (h : Header) (known mid now : Option (List ℕ)) (bytes : List ℕ) (ta
   long_refusal (Some input) mid now byte from next = search (rules, length-append, long_answer)
 
   pub more_refused : (e : StreamFault) → GoesOn mid now e → RefusesRaw (compress_answer h) (raw_len h) known now e
-  more_refused e more =
-      let P : StreamFault → Type 0 = λ f. RefusesRaw (compress_answer h) (raw_len h) known now f in
-      ⊎_elim
-      (λ long.
-      subst P (sym long.1) (record {
-        refused = long_refusal known mid now long.0 taken long.2;
+  more_refused faults.RawLong more =
+      let next = Takes-append known mid now bytes (more.0 ∷ []) taken more.1 in
+      record {
+        refused = long_refusal known mid now more.0 taken more.1;
         possible = CanRefuse-long (raw_len h);
-        shows = (bytes ++ long.0 ∷ [], omega (arith, length-append bytes (long.0 ∷ []), all), Takes-append known mid now bytes (long.0 ∷ []) taken long.2);
+        shows = (bytes ++ more.0 ∷ [], omega (arith, length-append bytes (more.0 ∷ []), all), next);
         unwanted = λ is. cc;
-      }))
-      (λ failed. read_refused h known now e failed.0)
-      (more_is mid now e more)
+      }
+  more_refused faults.Read more = read_refused h known now faults.Read refl
+  more_refused e more = absurd more

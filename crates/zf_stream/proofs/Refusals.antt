@@ -1,5 +1,6 @@
 -- Each refusal is that of some input, or comes from outside.
-use Rattle.std.proofs.Common.{◌≡◌, ℕ, ◌+◌, ◌<◌, ◌≤◌, cond, ltb, lt-ltb, le-ltb, List, length, replicate, Some, Ok, Err, sym, ap, ◌∙◌, inl, inr, ⊎_elim, arith}
+use Rattle.std.proofs.Common.{rules}
+use Rattle.std.proofs.Common.{◌≡◌, ℕ, ◌+◌, ◌<◌, ◌≤◌, cond, ltb, lt-ltb, le-ltb, List, length, replicate, Some, Ok, Err, sym, ap, ◌∙◌, inl, inr, ⊎_elim}
 use Rattle.std.proofs.lemmas.List.{take_all, length-replicate}
 use Rattle.zf_parse.specs.declared.fault.StreamFault.{StreamFault}
 use Rattle.zf_parse.specs.declared.fault.StreamFault.TheVariants as faults
@@ -20,11 +21,7 @@ CanRefuse-short wanted n short =
 pub CanRefuse-long : (wanted : ℕ) → CanRefuse (length_answer wanted) faults.RawLong
 CanRefuse-long wanted =
     let n = wanted + 1 in
-    inl (
-      replicate n 0,
-      zeros_answer wanted n ∙ ap (λ b. cond b (Err (faults.RawShort n)) (cond (ltb wanted n) (Err faults.RawLong) (Ok tt))) (le-ltb n wanted (omega arith))
-          ∙ ap (λ b. cond b (Err faults.RawLong) (Ok tt)) (lt-ltb wanted n (omega arith)),
-    )
+    inl (replicate n 0, search (rules, zeros_answer, le-ltb, lt-ltb))
 
 -- the fault of a header is that of its bytes
 pub CanRefuse-header : (n : ℕ) (prefix : List ℕ) (e : StreamFault) → 19 ≤ n → length prefix ≤ n → IsFaultOf prefix e → CanRefuse restore_answer e

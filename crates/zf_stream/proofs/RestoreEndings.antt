@@ -10,7 +10,7 @@ use Rattle.zf_parse.specs.declared.fault.StreamFault.{StreamFault}
 use Rattle.zf_parse.specs.declared.fault.StreamFault.TheVariants.{Read, Memory}
 use Rattle.zf_parse.specs.Parsing.{restore_answer, restored_text}
 use Rattle.zf_parse.specs.ReadStreams.{BeginsWithHeader, HasGoodHeader, IsFaultOf}
-use Rattle.zf_stream.specs.Outcomes.{Answers, LeavesPrefix, TakesFirst, Restored}
+use Rattle.zf_stream.specs.Outcomes.{IsBeforeWriting, Answers, LeavesPrefix, TakesFirst, Restored}
 use Rattle.zf_stream.specs.Windows.{Window}
 use Rattle.zf_stream.specs.Restoring.{RestoredBehind, RestoresAll, LeavesRows, Refuses}
 use Rattle.zf_stream.proofs.Answering.{answer_of_refusal, answer_of_memory, after_err, on_ok_weaker}
@@ -28,13 +28,10 @@ no_room prefix e src out memory = search (rules, answer_of_memory, nothing_taken
 pub restored_behind : (h : Header) (len : ℕ) (prefix : List ℕ) → BeginsWithHeader prefix h len → (w : Window) → w.reader.all ≡ to_bits prefix → w.reader.at ≡ len
     → (r : Result (Unit {0}) StreamFault) (src now out0 out : Option (List ℕ)) → OnOk r (RestoresAll h src now out0 out w) → OnErr r (LeavesRows h src now out0 out w) → IfErr r (Refuses h src now w)
     → RestoredBehind prefix r src now out0 out
-restored_behind h len prefix begun w all at r src now out0 out done left refused = record {
-  answer = answers h len prefix begun w all at r src now out0 out done refused;
-  possible = IfErr-weaker r (Refuses h src now w) _ (λ e refuses. can_refuse h len prefix begun w all at src now e refuses) refused;
-  ok = on_ok_weaker r done (λ all_done. finishes_behind h len prefix begun w all at all_done);
-  err = after_err r left (λ rows. leaves_prefix h len prefix begun w all at rows);
-  unwritten = IfErr-weaker r (Refuses h src now w) _ (λ e refuses before. absurd (refused_later h src now w e refuses before)) refused;
-}
+restored_behind h len prefix begun w all at r src now out0 out done left refused =
+    let unwritten = IfErr-weaker r (Refuses h src now w) (λ e. IsBeforeWriting e → out ≡ out0)
+    (λ e refuses before. absurd (refused_later h src now w e refuses before)) refused in
+    search (rules, answers, IfErr-weaker, can_refuse, on_ok_weaker, finishes_behind, after_err, leaves_prefix)
 
 -- said of all of the source
 pub restored_known : (prefix : List ℕ) (r : Result (Unit {0}) StreamFault) (known src now out0 out : Option (List ℕ)) → Takes known src prefix → HasGoodHeader known → RestoredBehind prefix r src now out0 out → Restored r known now out0 out
@@ -59,11 +56,9 @@ restored_unread e known now out is some = search (rules, answer_unread, nothing_
 
 -- there is no good header
 pub restored_header : (prefix : List ℕ) (e : StreamFault) (known now out : Option (List ℕ)) → TakesFirst 24 known now prefix → IsFaultOf prefix e → Restored (Err e) known now out out
-restored_header prefix e known now out first fault = record {
-  answer = answer_of_refusal (Err e) e known restore_answer refl (refusal_of_fault 24 known prefix e (omega arith) first.first fault);
-  possible = CanRefuse-header 24 prefix e (omega arith) first.within fault;
-  ok = tt;
-  err = nothing_written known now out (prefix, first.taken);
-  unwritten = λ _. refl;
-  memory = λ same. absurd (bad_memory prefix e fault (Err e) refl same);
-}
+restored_header prefix e known now out first fault =
+    let refusal = refusal_of_fault 24 known prefix e (omega arith) first.first fault in
+    let answer = answer_of_refusal (Err e) e known restore_answer refl refusal in
+    let possible = CanRefuse-header 24 prefix e (omega arith) first.within fault in
+    let memory = bad_memory {T = Unit {0}} prefix e fault (Err e) refl in
+    search (rules, nothing_written)

@@ -142,32 +142,25 @@ module _ (h : Header) (row here : ℕ) (next : IsNext h row here) {src0 mid out0
   pub slab_restored : {now out2 : Option (List ℕ)} {w2 : Window} (values : List ℤ) → ReadsSlab (part_of h here) mid now w1 w2 values → length values ≡ row_len h.shape * here → Appends out1 out2 (raw_bytes h values)
       → Restores h (row + here) src0 now out0 out2 w0 w2
   slab_restored {now} {out2} {w2} values slab as_long written =
-      let P : List ℕ → Type 0 = λ bs. Appends out0 out2 bs in
-      record {
-        whole = whole_next;
-        bytes = done.bytes ++ slab.bytes;
-        goes = Goes-next done.goes slab.goes;
-        values = done.values ++ values;
-        long = long_next values as_long;
-        codes = codes_read values slab as_long;
-        written = subst P (sym (raw-append (width_of h.ty) done.values values)) (Appends-append out0 out1 out2 (raw_bytes h done.values) (raw_bytes h values) done.written written);
-      }
+      let goes = Goes-next done.goes slab.goes in
+      let text = raw-append (width_of h.ty) done.values values in
+      let written = Appends-append out0 out1 out2 _ _ done.written written in
+      let all : Appends out0 out2 (raw_bytes h (done.values ++ values)) = rw text written in
+      let long = long_next values as_long in
+      search (rules, whole_next, codes_read)
 
   -- or a prefix of them
   pub slab_spilled : {now out2 : Option (List ℕ)} {w2 : Window} (values : List ℤ) → ReadsSlab (part_of h here) mid now w1 w2 values → length values ≡ row_len h.shape * here → AppendsPrefix out1 out2 (raw_bytes h values)
       → LeavesRows h src0 now out0 out2 w0
   slab_spilled {now} {out2} {w2} values slab as_long written =
-      let bytes = done.bytes ++ slab.bytes in
       let all = done.values ++ values in
-      let text = text_prefix h (row + here) all (stream_from w0 bytes) [] (left_of w2) whole_next (long_next values as_long) (codes_read values slab as_long) in
-      let P : List ℕ → Type 0 = λ bs. AppendsPrefix out0 out2 bs in
-      let both = AppendsPrefix-append out0 out1 out2 (raw_bytes h done.values) (raw_bytes h values) done.written written in
-      record {
-        bytes = bytes;
-        taken = (Goes-next done.goes slab.goes).taken;
-        written = subst P (text.1 ∙ ap (text_of_codes h) (append-nil (stream_from w0 bytes)))
-            (AppendsPrefix-more out0 out2 (raw_bytes h all) text.0 (subst P (sym (raw-append (width_of h.ty) done.values values)) both));
-      }
+      let codes = codes_read values slab as_long in
+      let text = text_prefix h (row + here) all _ [] (left_of w2) whole_next (long_next values as_long) codes in
+      let both = AppendsPrefix-append out0 out1 out2 (raw_bytes h done.values) _ done.written written in
+      let joined : AppendsPrefix out0 out2 (raw_bytes h all) = rw (raw-append (width_of h.ty) done.values values) both in
+      let taken = (Goes-next done.goes slab.goes).taken in
+      let is = text.1 ∙ ap (text_of_codes h) (append-nil (stream_from w0 (done.bytes ++ slab.bytes))) in
+      record { bytes = _; taken = taken; written = rw (← is) (AppendsPrefix-more out0 out2 _ text.0 joined) }
 
   -- its codes end too early
   pub slab_cut : (now : Option (List ℕ)) (first : ℕ) (e : StreamFault) → first ≡ first_block h.shape (row / 4) → LacksSlab (part_of h here) first mid now w1 e → Refuses h src0 now w0 e
@@ -196,13 +189,10 @@ some_lacked part first src now w e lacks = absurd lacks
 pub rows_left : (h : Header) (row : ℕ) {src0 mid now out0 out1 : Option (List ℕ)} {w0 w1 : Window} → Restores h row src0 mid out0 out1 w0 w1 → TakesSome mid now → LeavesRows h src0 now out0 out1 w0
 rows_left h row {src0} {mid} {now} {out0} {out1} {w0} {w1} done some =
     let text = text_prefix h row done.values (stream_from w0 done.bytes) (to_bits some.0) (left_of w1) done.whole done.long done.codes in
-    let P : List ℕ → Type 0 = λ bs. AppendsPrefix out0 out1 bs in
-    record {
-      bytes = done.bytes ++ some.0;
-      taken = Takes-append src0 mid now done.bytes some.0 done.goes.taken some.1;
-      written = subst P (text.1 ∙ ap (text_of_codes h) (to_bits-append (left_of w0) done.bytes some.0))
-          (AppendsPrefix-more out0 out1 (raw_bytes h done.values) text.0 (AppendsPrefix-all out0 out1 (raw_bytes h done.values) done.written));
-    }
+    let is = text.1 ∙ ap (text_of_codes h) (to_bits-append (left_of w0) done.bytes some.0) in
+    let all = AppendsPrefix-all out0 out1 (raw_bytes h done.values) done.written in
+    let written = rw is at (AppendsPrefix-more out0 out1 (raw_bytes h done.values) text.0 all) in
+    search (rules, Takes-append)
 
 pub slab_lacked : (h : Header) (row : ℕ) {src0 mid now out0 out1 : Option (List ℕ)} {w0 w1 : Window} → Restores h row src0 mid out0 out1 w0 w1 → (part : Header) (first : ℕ) (e : StreamFault) → LacksSlab part first mid now w1 e
     → LeavesRows h src0 now out0 out1 w0

@@ -1,9 +1,9 @@
 -- The end of an array that is restored slab by slab: the fill, and what follows.
 use Rattle.std.proofs.Common.{rules}
-use Rattle.std.proofs.Common.{◌≡◌, refl, sym, ap, subst, ◌∙◌, ℕ, ◌+◌, ◌-◌, ◌*◌, ◌%◌, ◌≤◌, Bool, true, false, List, [], ◌++◌, map, length, Option, Result, Ok, Err, length-append, arith}
+use Rattle.std.proofs.Common.{◌≡◌, refl, sym, ap, ◌∙◌, ℕ, ◌+◌, ◌-◌, ◌*◌, ◌%◌, ◌≤◌, Bool, true, false, List, [], ◌++◌, length, Option, Result, Ok, Err, length-append, arith}
 use Rattle.std.proofs.lemmas.List.{append-nil}
 use Rattle.std.specs.Prelude.{OnOk, IfErr}
-use Rattle.zf_spec.specs.Grid.{blocks, upto, block_of, blocks_of}
+use Rattle.zf_spec.specs.Grid.{blocks, blocks_of}
 use Rattle.zf_spec.specs.Stream.{to_bits}
 use Rattle.zf_pad.specs.Slabs.{rows_of}
 use Rattle.zf_pad.proofs.Slabs.{product-rows}
@@ -31,14 +31,10 @@ if_err_of (Err e) P f = f e refl
 
 module _ (h : Header) {src0 mid now out0 out : Option (List ℕ)} {w0 w1 w2 : Window} (done : Restores h (rows_of h.shape) src0 mid out0 out w0 w1) (refill : Refills mid now w1 w2) (ended : KnowsEnd w2 now)
     (enough : w2.ended ≡ false → 64 ≤ length (left_of w2)) where
-  all_bytes : List ℕ
-  all_bytes = done.bytes ++ refill.bytes
-
   -- the codes of all blocks were read
   codes_all : read_codes h 0 (blocks h.shape) (stream_from w0 (done.bytes ++ refill.bytes)) ≡ Ok (blocks_of h.shape done.values, left_of w2)
   codes_all =
-      let P : ℕ → Type 0 = λ n. read_codes h 0 n (stream_from w0 (done.bytes ++ refill.bytes)) ≡ Ok (map (block_of h.shape done.values) (upto n), left_of w2) in
-      subst P (all_blocks h.shape done.whole.some_axis) (codes_refilled h _ w0 done.bytes _ done.codes refill)
+      rw (all_blocks h.shape done.whole.some_axis) at (codes_refilled h _ w0 done.bytes _ done.codes refill)
 
   -- what is answered where more bytes follow
   answer_with : (more : List ℕ) → answer_of_codes h w0.reader.at (stream_from w0 ((done.bytes ++ refill.bytes) ++ more)) ≡ values_or_fault done.values (fill_answer h w2.reader.at (left_of w2 ++ to_bits more))

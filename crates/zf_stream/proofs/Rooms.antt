@@ -1,6 +1,6 @@
 -- The room that an array is compressed in, and the one that a stream is restored in, as they are used.
 use Rattle.std.proofs.Common.{rules}
-use Rattle.std.proofs.Common.{◌≡◌, refl, sym, ◌∙◌, ℕ, ◌≤◌, List, length, Option, arith}
+use Rattle.std.proofs.Common.{◌≡◌, sym, ◌∙◌, ℕ, ◌≤◌, List, length, Option, arith}
 use Rattle.std.specs.Int.{Width}
 use Rattle.std.specs.declared.cmp.PartialEq.{Ghosts as PartialEq}
 use Rattle.zf_base.specs.declared.lane.Lane.{Ghosts as Lane}
@@ -13,7 +13,7 @@ use Rattle.zf_stream.proofs.Slabwise.{with_shape, longest_part}
 
 module _ {X : Type 0} {l : Lane X} {e : PartialEq X} where
   pub Keeps-none : (room : Room X l e) → Keeps room room
-  Keeps-none room = record { rows = refl; scratch = refl; most = refl; room = omega arith }
+  Keeps-none room = search rules
 
   pub Keeps-next : {a b c : Room X l e} → Keeps a b → Keeps b c → Keeps a c
   Keeps-next {a} {b} {c} first next = search rules
@@ -32,7 +32,7 @@ module _ {X : Type 0} {l : Lane X} {e : PartialEq X} where
   -- ---- restoring
 
   pub Stays-none : (room : RestoreRoom X l e) → Stays room room
-  Stays-none room = record { rows = refl; longest = refl; held = refl; values = omega arith }
+  Stays-none room = search rules
 
   pub Stays-next : {a b c : RestoreRoom X l e} → Stays a b → Stays b c → Stays a c
   Stays-next {a} {b} {c} first next = search rules

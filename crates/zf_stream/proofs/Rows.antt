@@ -1,12 +1,12 @@
 -- The codes of an array, row by row.
 use Rattle.std.proofs.Common.{rules}
-use Rattle.std.proofs.Common.{◌≡◌, refl, sym, ap, ◌∙◌, ℕ, zero, suc, ◌+◌, ◌-◌, ◌*◌, ◌/◌, ◌<◌, ◌≤◌, inl, Bool, ℤ, List, [], ◌∷◌, ◌++◌, map, length, take, drop, length-append, take_at, drop_at, arith}
-use Rattle.std.proofs.lemmas.List.{append-nil, length-map, take-append-le, drop-append-le, length-drop, get_or-map}
+use Rattle.std.proofs.Common.{◌≡◌, sym, ap, ◌∙◌, ℕ, zero, suc, ◌+◌, ◌-◌, ◌*◌, ◌/◌, ◌<◌, ◌≤◌, inl, Bool, ℤ, List, [], ◌++◌, map, length, take, drop, length-append, take_at, drop_at, arith}
+use Rattle.std.proofs.lemmas.List.{nil_from_length, append-nil, length-map, take-append-le, drop-append-le, length-drop, get_or-map}
 use Rattle.std.proofs.Math.Nat.{mul-add}
 use Rattle.std.specs.List.{flat_map}
-use Rattle.std.specs.Int.{Width, byte_len, from_le_bytes, cast_signed}
-use Rattle.zf_spec.specs.Grid.{product, grid, blocks, upto, count_from, extent_of, block_of}
-use Rattle.zf_spec.specs.Stream.{first_bytes, values_from, block_code, codes}
+use Rattle.std.specs.Int.{Width, byte_len}
+use Rattle.zf_spec.specs.Grid.{product, blocks, upto, count_from, extent_of, block_of}
+use Rattle.zf_spec.specs.Stream.{values_from, block_code, codes}
 use Rattle.zf_spec.proofs.Counting.{map-upto_same, from_places, length-count_from, get_or-count_from}
 use Rattle.zf_spec.proofs.RawValues.{length-values_from}
 use Rattle.zf_base.specs.Widths.{width_of}
@@ -22,23 +22,18 @@ use Rattle.zf_parse.proofs.Codes.{joined-prefix}
 
 pub values_from-append : (w : Width) (a b : ℕ) (xs ys : List ℕ) → length xs ≡ a * byte_len w → values_from w (a + b) (xs ++ ys) ≡ values_from w a xs ++ values_from w b ys
 values_from-append w zero b xs ys long =
-    let none : xs ≡ [] = nothing xs (omega arith) in
     let count : 0 + b ≡ b = omega arith in
-    ap (λ n. values_from w n (xs ++ ys)) count ∙ ap (λ zs. values_from w b (zs ++ ys)) none
-  where
-    nothing : (xs : List ℕ) → length xs ≡ 0 → xs ≡ []
-    nothing [] e = refl
-    nothing (x ∷ xs) e = absurd (omega arith)
+    rw (nil_from_length xs (omega arith)) (ap (λ n. values_from w n ys) count)
 values_from-append w (suc a) b xs ys long =
     let n = byte_len w in
     let within : n ≤ length xs = omega arith in
     let count : suc a + b ≡ suc (a + b) = omega arith in
-    let prefix : first_bytes n (xs ++ ys) ≡ first_bytes n xs =
-    first_bytes-take n (xs ++ ys) (omega (arith, length-append xs ys)) ∙ take-append-le n xs ys within ∙ sym (first_bytes-take n xs within) in
-    ap (λ k. values_from w k (xs ++ ys)) count
-    ∙ ap (λ (bs : List ℕ). cast_signed w (from_le_bytes w bs) ∷ values_from w (a + b) (drop n (xs ++ ys))) prefix
-    ∙ ap (λ (bs : List ℕ). cast_signed w (from_le_bytes w (first_bytes n xs)) ∷ values_from w (a + b) bs) (drop-append-le n xs ys within)
-    ∙ ap (λ (vs : List ℤ). cast_signed w (from_le_bytes w (first_bytes n xs)) ∷ vs) (values_from-append w a b (drop n xs) ys (omega (arith, length-drop n xs)))
+    let here = first_bytes-take n xs within in
+    let first = first_bytes-take n (xs ++ ys) (omega (arith, length-append xs ys)) in
+    let same = take-append-le n xs ys within in
+    let behind = drop-append-le n xs ys within in
+    let rest = values_from-append w a b (drop n xs) ys (omega (arith, length-drop n xs)) in
+    rw count (cc)
 
 -- the values of a slab are those of its bytes
 pub slab_of-bytes : (h : Header) (c rows : ℕ) (before raw more : List ℕ) → IsSlab h.shape c rows → length before ≡ rows_len h (4 * c) → length raw ≡ rows_len h rows
@@ -100,15 +95,12 @@ pub codes_of_rows-next : (h : Header) (c rows : ℕ) (bytes raw : List ℕ) → 
     ≡ codes_of_rows h (4 * c) bytes ++ flat_map (λ c. c) (codes (width_of h.ty) (with_rows rows h.shape) (coding h.mode) (values_from (width_of h.ty) (row_len h.shape * rows) raw))
 codes_of_rows-next h c rows bytes raw slab long as_long =
     let w = width_of h.ty in
-    let g = row_len (grid h.shape) in
     let b = first_block h.shape c in
     let n = blocks (with_rows rows h.shape) in
     let f = code_of_block h (bytes ++ raw) in
     let joined : List (List Bool) → List Bool = λ cs. flat_map (λ c. c) cs in
-    let rounded : (4 * c + rows + 3) / 4 ≡ c + (rows + 3) / 4 = omega arith in
     let down : (4 * c + 3) / 4 ≡ c = omega arith in
-    let count : first_block h.shape ((4 * c + rows + 3) / 4) ≡ b + n =
-    ap (λ k. g * k) rounded ∙ mul-add g c ((rows + 3) / 4) ∙ ap (λ k. b + k) (sym (blocks-with_rows rows h.shape slab.some_axis)) in
+    let count : first_block h.shape ((4 * c + rows + 3) / 4) ≡ b + n = grind (arith, mul-add, blocks-with_rows) in
     let prefix : IsSlab h.shape 0 (4 * c) = record { some_axis = slab.some_axis; within = omega (arith, slab.within); whole = inl (omega arith) } in
     ap (λ k. joined (map f (upto k))) count ∙ joined-prefix f b n
     ∙ ap (λ (bs : List Bool). bs ++ joined (map f (count_from b n)))

@@ -1,6 +1,6 @@
 -- An array that is compressed slab by slab: one slab more, and where it stops.
 use Rattle.std.proofs.Common.{rules}
-use Rattle.std.proofs.Common.{◌≡◌, refl, sym, ap, subst, ◌∙◌, ℕ, ◌+◌, ◌-◌, ◌*◌, ◌/◌, ◌%◌, ◌<◌, ◌≤◌, ◌^◌, ◌⊎◌, inl, inr, ⊎_elim, min, Bool, List, [], ◌++◌, length, map, mul_comm, Option, append_assoc, length-append, arith}
+use Rattle.std.proofs.Common.{◌≡◌, refl, sym, ap, ◌∙◌, ℕ, ◌+◌, ◌-◌, ◌*◌, ◌/◌, ◌%◌, ◌<◌, ◌≤◌, ◌^◌, ◌⊎◌, inl, inr, ⊎_elim, min, Bool, List, [], ◌++◌, length, map, mul_comm, Option, append_assoc, length-append, arith}
 use Rattle.std.proofs.lemmas.Bool.{cases_lt}
 use Rattle.std.proofs.lemmas.List.{append-nil}
 use Rattle.std.proofs.Math.Nat.{add-mul, mul-add, mul-le-mul_left, mul-le-mul_right}
@@ -93,17 +93,12 @@ module _ (h : Header) (row here : ℕ) (next : IsNext h row here) (whole : IsSla
     pub slab_written : {last : List Bool} → WritesSlab (part_of h here) mid now (Gives b c) out1 out2 left last → Compresses h (row + here) src0 now (Gives a c) out0 out2 bits last
     slab_written {last} slab =
         let as_long = slab.long ∙ rows_len-part h here whole.some_axis in
-        let Of : List Bool → Type 0 = λ bs. Flows out0 out2 bs last in
-        record {
-          whole = next_whole;
-          bytes = done.bytes ++ slab.raw;
-          taken = Takes-append src0 mid now done.bytes slab.raw done.taken slab.taken;
-          given = Gives-append done.bytes slab.raw done.given slab.given;
-          long = length-append done.bytes slab.raw ∙ omega (arith, done.long, as_long, rows_len-add h row here);
-          flows = subst Of
-              (append_assoc bits (codes_of_rows h row done.bytes) (slab_codes (part_of h here) slab.raw) ∙ ap (λ (bs : List Bool). bits ++ bs) (sym (codes_next done.bytes slab.raw done.long as_long)))
-              (Flows-next (Flows-more (slab_codes (part_of h here) slab.raw) done.flows) slab.flows);
-        }
+        let taken = Takes-append src0 mid now done.bytes slab.raw done.taken slab.taken in
+        let given = Gives-append done.bytes slab.raw done.given slab.given in
+        let flows = Flows-next (Flows-more (slab_codes (part_of h here) slab.raw) done.flows) slab.flows in
+        let all : Flows out0 out2 (bits ++ codes_of_rows h (row + here) (done.bytes ++ slab.raw)) last =
+        rw (codes_next done.bytes slab.raw done.long as_long) (rw append_assoc at flows) in
+        search (rules, next_whole, length-append, rows_len-add)
 
     -- or it was not
     pub slab_broken : (before : ℕ) (e : StreamFault) → GivesSome b c → BreaksSlab (part_of h here) before mid now (Gives b c) out1 out2 left e → Stops h src0 now (Gives a c) out0 out2 bits
@@ -111,45 +106,34 @@ module _ (h : Header) (row here : ℕ) (next : IsNext h row here) (whole : IsSla
         ⊎_elim
         (λ lacks.
         let some = some_taken before (product (with_rows here h.shape) * byte_len (width_of h.ty)) mid now e lacks.0 in
-        let Out : Option (List ℕ) → Type 0 = λ o. Spills out0 o (bits ++ codes_of_rows h row done.bytes) in
-        record {
-          rows = row;
-          whole = whole;
-          bytes = done.bytes;
-          more = some.0;
-          taken = Takes-append src0 mid now done.bytes some.0 done.taken some.1;
-          lost = more.0;
-          given = Gives-append done.bytes more.0 done.given more.1;
-          long = done.long;
-          spills = subst Out (sym lacks.1) (Spills-flows done.flows);
-        })
+        let spills : Spills out0 out2 (bits ++ codes_of_rows h row done.bytes) = rw lacks.1 (Spills-flows done.flows) in
+        let taken = Takes-append src0 mid now done.bytes some.0 done.taken some.1 in
+        let given = Gives-append done.bytes more.0 done.given more.1 in
+        search rules)
         (λ failed.
         let slab = failed.1 in
         let as_long = slab.long ∙ rows_len-part h here whole.some_axis in
-        let Of : List Bool → Type 0 = λ bs. Spills out0 out2 bs in
-        let Taken : List ℕ → Type 0 = λ bs. Takes src0 now bs in
-        let Given : List ℕ → Type 0 = λ bs. Gives a c bs in
+        let all = done.bytes ++ slab.raw in
+        let spills = Flows-spill (Flows-more (slab_codes (part_of h here) slab.raw) done.flows) slab.spills in
         record {
           rows = row + here;
           whole = next_whole;
-          bytes = done.bytes ++ slab.raw;
+          bytes = all;
           more = [];
-          taken = subst Taken (sym (append-nil (done.bytes ++ slab.raw))) (Takes-append src0 mid now done.bytes slab.raw done.taken slab.taken);
+          taken = rw (append-nil all) (Takes-append src0 mid now done.bytes slab.raw done.taken slab.taken);
           lost = [];
-          given = subst Given (sym (append-nil (done.bytes ++ slab.raw))) (Gives-append done.bytes slab.raw done.given slab.given);
-          long = length-append done.bytes slab.raw ∙ omega (arith, done.long, as_long, rows_len-add h row here);
-          spills = subst Of
-              (append_assoc bits (codes_of_rows h row done.bytes) (slab_codes (part_of h here) slab.raw) ∙ ap (λ (bs : List Bool). bits ++ bs) (sym (codes_next done.bytes slab.raw done.long as_long)))
-              (Flows-spill (Flows-more (slab_codes (part_of h here) slab.raw) done.flows) slab.spills);
+          given = rw (append-nil all) (Gives-append done.bytes slab.raw done.given slab.given);
+          long = search (rules, length-append, rows_len-add);
+          spills = rw (codes_next done.bytes slab.raw done.long as_long) (rw append_assoc at spills);
         })
         broken
 
-    same_before : (before : ℕ) (e : StreamFault) → before ≡ rows_len h row → BreaksSlab (part_of h here) before mid now (Gives b c) out1 out2 left e → BreaksSlab (part_of h here) (length done.bytes) mid now (Gives b c) out1 out2 left e
-    same_before before e is broken = let P : ℕ → Type 0 = λ n. BreaksSlab (part_of h here) n mid now (Gives b c) out1 out2 left e in subst P (is ∙ sym done.long) broken
-
     pub slab_refused : (before : ℕ) (e : StreamFault) → before ≡ rows_len h row → BreaksSlab (part_of h here) before mid now (Gives b c) out1 out2 left e → RefusesRaw (compress_answer h) (raw_len h) src0 now e
     slab_refused before e is broken =
-        ⊎_elim (λ lacks. raw_refused h src0 mid now done.bytes done.taken _ (within_all done.bytes done.long) e lacks.0) (λ failed. write_refused h src0 now e failed.0) (same_before before e is broken)
+        ⊎_elim
+        (λ lacks. raw_refused h src0 mid now done.bytes done.taken _ (within_all done.bytes done.long) e lacks.0)
+        (λ failed. write_refused h src0 now e failed.0)
+        (rw (is ∙ sym done.long) at broken)
 
 -- ---- the sizes of a slab
 
@@ -181,18 +165,10 @@ pub Stops-none : (h : Header) (bits : List Bool) {src out0 out : Option (List �
 Stops-none h bits {src} {out0} {out} known some taken spills =
     let none : first_block h.shape ((0 + 3) / 4) ≡ 0 = omega (arith, mul_comm (row_len (grid h.shape)) 0) in
     let codes : codes_of_rows h 0 [] ≡ [] = ap (λ n. flat_map (λ c. c) (map (code_of_block h []) (upto n))) none in
-    let Of : List Bool → Type 0 = λ bs. Spills out0 out bs in
-    record {
-      rows = 0;
-      whole = record { some_axis = some; within = omega arith; whole = inl refl };
-      bytes = [];
-      more = [];
-      taken = taken;
-      lost = [];
-      given = Gives-none known;
-      long = zero_rows h;
-      spills = subst Of (sym (append-nil bits) ∙ ap (λ (bs : List Bool). bits ++ bs) (sym codes)) spills;
-    }
+    let whole : IsSlab h.shape 0 0 = record { some_axis = some; within = omega arith; whole = inl refl } in
+    let given = Gives-none known in
+    let all : Spills out0 out (bits ++ codes_of_rows h 0 []) = rw codes (rw (append-nil bits) spills) in
+    search (rules, zero_rows)
 
 -- the longest code depends on the number of axes alone
 pub longest_part : (h : Header) (shape : List ℕ) → length shape ≡ length h.shape → longest_code (with_shape h shape) ≡ longest_code h

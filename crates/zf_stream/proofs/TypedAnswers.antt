@@ -1,6 +1,6 @@
 -- What is answered where a stream is restored if its values are of one type.
 use Rattle.std.proofs.Common.{rules}
-use Rattle.std.proofs.Common.{◌≡◌, ◌≢◌, refl, sym, ap, subst, ◌∙◌, ℕ, ◌≤◌, inl, inr, ⊎_elim, Bool, true, false, List, ◌++◌, Option, Some, None, Result, Ok, Err, arith}
+use Rattle.std.proofs.Common.{◌≡◌, ◌≢◌, refl, sym, ap, ◌∙◌, ℕ, ◌≤◌, inl, inr, ⊎_elim, Bool, true, false, List, ◌++◌, Option, Some, None, Result, Ok, Err, arith}
 use Rattle.std.specs.Prelude.{IsErrAnd}
 use Rattle.zf_base.specs.declared.lane.Ty.{Ty}
 use Rattle.zf_base.specs.declared.lane.Ty.TheVariants.{I32, I64}
@@ -11,7 +11,7 @@ use Rattle.zf_parse.specs.declared.fault.StreamFault.TheVariants as faults
 use Rattle.zf_parse.specs.Parsing.{header_of, restore_answer}
 use Rattle.zf_parse.proofs.Steps.{header_or}
 use Rattle.zf_stream.specs.Outcomes.{Answers, IsPrefix, TakesFirst, IsFromOutside}
-use Rattle.zf_parse.specs.ReadStreams.{BeginsWithHeader, IsFaultOf}
+use Rattle.zf_parse.specs.ReadStreams.{BeginsWithHeader, HasGoodHeader, IsFaultOf}
 use Rattle.zf_stream.specs.Restoring.{behind, FinishesBehind, CanRefuseBehind, RestoredBehind}
 use Rattle.zf_stream.specs.Typed.{with_true, answer_of_types, typed_answer, CanRefuseTyped, RestoresTyped, RestoredWhere}
 use Rattle.zf_parse.proofs.Parsed.{begun_more, fault_first}
@@ -37,7 +37,6 @@ typed_by wanted prefix more h len begun = search (rules, begun_more, header_or)
 typed_fault : (wanted : Ty) (n : ℕ) (known : Option (List ℕ)) (prefix : List ℕ) (e : StreamFault) (r : Result Bool StreamFault) → 19 ≤ n → IsPrefix n known prefix → IsFaultOf prefix e → r ≡ Err e → Answers r known (typed_answer wanted)
 typed_fault wanted n None prefix e r within is fault result = tt
 typed_fault wanted n (Some all) prefix (faults.Header f) r within is fault result = search (rules, fault_first, header_or)
-typed_fault wanted n (Some all) prefix (faults.RawShort m) r within is fault result = absurd fault
 typed_fault wanted n (Some all) prefix e r within is fault result = absurd fault
 
 -- a good header of the other type
@@ -97,48 +96,31 @@ where_unread wanted e known now out is some = search (rules, answer_unread, noth
 
 -- there is no good header
 pub where_header : (wanted : Ty) (prefix : List ℕ) (e : StreamFault) (known now out : Option (List ℕ)) → TakesFirst 24 known now prefix → IsFaultOf prefix e → RestoredWhere wanted (Err e) known now out out
-where_header wanted prefix e known now out first fault = record {
-  answer = typed_fault wanted 24 known prefix e (Err e) (omega arith) first.first fault refl;
-  possible = typed_possible_header wanted prefix e fault;
-  ok = tt;
-  err = nothing_written known now out (prefix, first.taken);
-  unwritten = λ _. refl;
-  memory = λ same. absurd (bad_memory prefix e fault (Err e) refl same);
-}
+where_header wanted prefix e known now out first fault =
+    let answer = typed_fault wanted 24 known prefix e (Err e) (omega arith) first.first fault refl in
+    let r : Result Bool StreamFault = Err e in
+    let memory : r ≡ Err faults.Memory → HasGoodHeader known = λ same. absurd (bad_memory prefix e fault r refl same) in
+    search (rules, typed_possible_header, nothing_written)
 
 module _ (wanted : Ty) (prefix : List ℕ) (h : Header) (len : ℕ) (known src : Option (List ℕ)) (first : TakesFirst 24 known src prefix) (begun : BeginsWithHeader prefix h len) where
   -- it is one of the other type
   pub where_other : (out : Option (List ℕ)) → h.ty ≢ wanted → RestoredWhere wanted (Ok false) known src out out
   where_other out other =
-      let Type_of : Header → Type 0 = λ g. g.ty ≢ wanted in
-      record {
-        answer = typed_other wanted known src prefix h len first.taken begun other;
-        possible = tt;
-        ok = record { bytes = prefix; first = first; good = begun.good; other = subst Type_of begun.header other; unwritten = refl };
-        err = tt;
-        unwritten = tt;
-        memory = λ same. absurd cc;
-      }
+      let answer = typed_other wanted known src prefix h len first.taken begun other in
+      let good : (header_of prefix).ty ≢ wanted = λ is. other (ap (λ (g : Header). g.ty) begun.header ∙ is) in
+      let memory : Ok false ≡ Err faults.Memory → HasGoodHeader known = λ same. absurd cc in
+      search rules
 
   module _ (same_type : h.ty ≡ wanted) {now out0 out : Option (List ℕ)} where
     -- it was refused behind its header
     pub where_failed : (e : StreamFault) → RestoredBehind prefix (Err e) src now out0 out → RestoredWhere wanted (Err e) known now out0 out
-    where_failed e rest = record {
-      answer = typed_same wanted known src prefix h len (Err e) first.taken begun same_type rest.answer;
-      possible = typed_possible wanted prefix h len e begun same_type rest.possible;
-      ok = tt;
-      err = record { bytes = rest.err.bytes; taken = Takes-known known src now prefix rest.err.bytes first.taken rest.err.taken; written = rest.err.written };
-      unwritten = rest.unwritten;
-      memory = λ _. good_of_prefix 24 known prefix (omega arith) first.first begun.good;
-    }
+    where_failed e rest =
+        let answer = typed_same wanted known src prefix h len (Err e) first.taken begun same_type rest.answer in
+        search (rules, typed_possible, Takes-known, good_of_prefix)
 
     -- or restored
     pub where_done : RestoredBehind prefix (Ok tt) src now out0 out → RestoredWhere wanted (Ok true) known now out0 out
-    where_done rest = record {
-      answer = typed_same wanted known src prefix h len (Ok tt) first.taken begun same_type rest.answer;
-      possible = tt;
-      ok = typed_done wanted known src now out0 out prefix h len first.taken begun same_type rest.ok;
-      err = tt;
-      unwritten = tt;
-      memory = λ same. absurd cc;
-    }
+    where_done rest =
+        let answer = typed_same wanted known src prefix h len (Ok tt) first.taken begun same_type rest.answer in
+        let memory : Ok true ≡ Err faults.Memory → HasGoodHeader known = λ same. absurd cc in
+        search (rules, typed_done)

@@ -1,7 +1,7 @@
-use Rattle.std.proofs.Common.{◌+◌, ◌<◌, true, false, pos, length, get_or, map, sym, ap, subst, ◌∙◌, arith}
+use Rattle.std.proofs.Common.{◌<◌, true, false, pos, length, get_or, map, ap, ◌∙◌, arith}
 use Rattle.std.proofs.lemmas.List.{length-map, map-set}
 use Rattle.zf_base.proofs.Values.{number_at}
-use Rattle.zf_pad.proofs.Copying.{IsGatheredTo, exists_here, index_here, gathered_none, gathered_more, gathered_skip, gathered_all}
+use Rattle.zf_pad.proofs.Copying.{exists_here, index_here, gathered_none, gathered_more, gathered_skip, gathered_all}
 use Rattle.zf_pad.proofs.Existing.{first_place, first_index}
 use Rattle.zf_pad.proofs.copies.gather_places.Goals as goal
 use Rattle.zf_pad.proofs.copies.gather_places.Goals.{then-is_inside, else-is_inside}
@@ -30,15 +30,11 @@ loop-place-preserved g c =
           let index = w.index.ensures ∙ index_here layout c.counted_from-from_origin.result e n c.indices-at.result c.counted_from-from_origin.ensures c.indices-at.ensures in
           let within : w.index.result < length c.args.values.now = omega (arith, index, c.requires.fits.within n (record { in_block = omega arith; inside = here })) in
           let read = number_at value c.args.values.now w.index.result x (pos 0) within w.index-values-index.is ∙ ap (λ i. get_or values i (pos 0)) index in
-          subst
-          (λ b. IsGatheredTo layout e values old b (n + 1))
-          (sym (ap (map value) w.block-is ∙ map-set value block n x))
+          rw (w.block-is, map-set value block n x)
           (gathered_more layout e values old (map value block) n (value x) here (omega (arith, length-map block value)) read c.loop-place.invariant)
       | else-is_inside w ↦
           let none = exists_here e n c.indices-at.result _ false c.indices-at.ensures c.is_inside.ensures w.if-is_inside.false in
-          subst
-          (λ b. IsGatheredTo layout e values old b (n + 1))
-          (sym (ap (map value) w.block-is))
+          rw w.block-is
           (gathered_skip layout e values old (map value block) n none c.loop-place.invariant)
     ]
 

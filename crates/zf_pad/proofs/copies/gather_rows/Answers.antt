@@ -1,5 +1,5 @@
-use Rattle.std.proofs.Common.{◌+◌, ◌*◌, true, false, length, map, sym, ap, subst, ◌∙◌, arith}
-use Rattle.zf_pad.proofs.Copying.{IsGatheredTo, exists_here, index_here, row_within, whole_rows, gathered_none, gathered_row, row_copied, gathered_skip_row, gathered_all}
+use Rattle.std.proofs.Common.{◌*◌, true, false, length, map, ◌∙◌, arith}
+use Rattle.zf_pad.proofs.Copying.{exists_here, index_here, row_within, whole_rows, gathered_none, gathered_row, row_copied, gathered_skip_row, gathered_all}
 use Rattle.zf_pad.proofs.Existing.{first_place, first_index}
 use Rattle.zf_pad.proofs.copies.gather_rows.Goals as goal
 use Rattle.zf_pad.proofs.copies.gather_rows.Goals.{then-is_inside, else-is_inside}
@@ -32,21 +32,13 @@ loop-row-preserved g c =
           let here = exists_here e (4 * row) c.indices-at.result _ true c.indices-at.ensures c.is_inside.ensures w.if-is_inside.true in
           let first = w.index-first.ensures ∙ index_here layout c.counted_from-from_origin.result e (4 * row) c.indices-at.result c.counted_from-from_origin.ensures c.indices-at.ensures in
           let last = row_within layout e row 3 (length c.args.values.now) w.index-first.result (omega arith) (omega arith) c.requires.rows c.requires.fits.within here first in
-          subst
-          (λ b. IsGatheredTo layout e values old b (4 * (row + 1)))
-          (sym (ap (map value) w.block-is))
+          rw w.block-is
           (gathered_row layout e values old (map value c.loop-row.block) (map value w.copy_row.new.target) row w.index-first.result c.requires.rows here first
           (row_copied value w.index-first.result (4 * row) c.args.values.now c.loop-row.block w.copy_row.new.target (omega (arith, last)) (omega arith) w.copy_row.ensures)
           c.loop-row.invariant)
       | else-is_inside w ↦
           let none = exists_here e (4 * row) c.indices-at.result _ false c.indices-at.ensures c.is_inside.ensures w.if-is_inside.false in
-          subst
-          (λ b. IsGatheredTo layout e values old b (4 * (row + 1)))
-          (sym (ap (map value) w.block-is))
-          (subst
-          (IsGatheredTo layout e values old (map value c.loop-row.block))
-          (omega arith)
-          (gathered_skip_row layout e values old (map value c.loop-row.block) row c.requires.rows.1 none c.loop-row.invariant))
+          rw w.block-is (gathered_skip_row _ _ _ _ _ _ c.requires.rows.1 none c.loop-row.invariant)
     ]
 
 pub returns : goal.returns

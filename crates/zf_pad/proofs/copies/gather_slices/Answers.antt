@@ -1,7 +1,9 @@
 use Rattle.std.proofs.Common.{rules}
-use Rattle.std.proofs.Common.{◌≡◌, ◌+◌, ◌*◌, length, map, sym, ap, subst, ◌∙◌, arith}
-use Rattle.zf_pad.specs.Layouts.{index_at}
-use Rattle.zf_pad.proofs.Copying.{IsGatheredTo, index_here, slice_index, row_within, gathered_none, gathered_row, row_copied, gathered_all}
+use Rattle.std.proofs.Common.{◌≡◌, ℕ, ◌<◌, ◌≤◌, ◌^◌, true, ◌+◌, ◌*◌, map, sym, ap, subst, ◌∙◌, arith}
+use Rattle.zf_base.specs.declared.position.Extent.{Extent}
+use Rattle.zf_pad.specs.declared.layout.Layout.{Layout}
+use Rattle.zf_pad.specs.Layouts.{index_at, CanCopy, IsWholeBlock}
+use Rattle.zf_pad.proofs.Copying.{IsGatheredTo, exists, index_here, slice_index, row_within, gathered_none, gathered_row, row_copied, gathered_all}
 use Rattle.zf_pad.proofs.Existing.{first_place, first_index, place_of_whole}
 use Rattle.zf_pad.proofs.copies.gather_slices.Goals as goal
 
@@ -16,40 +18,35 @@ index-first-requires g c = search (rules, place_of_whole, index_here)
 pub loop-slice-init : goal.loop-slice-init
 loop-slice-init g c = gathered_none c.args.layout.now c.args.e.now (map g.T.Lane.value c.args.values.now) (map g.T.Lane.value c.args.block.now)
 
+-- a row of a slice: where it begins, and that it ends within the values
+module _ (layout : Layout) (e : Extent) (d n m slices slice y start : ℕ) (count : 16 * slices ≡ 4 ^ d) (few : slices ≤ 16)
+    (whole : IsWholeBlock layout e d) (fits : CanCopy layout e d n m) (lt : slice < slices) (small : y < 4)
+    (is : start ≡ index_at layout e (4 * (4 * slice))) where
+  there : exists e (4 * (4 * slice + y)) ≡ true
+  there = place_of_whole d e fits.four_at_most fits.extent (4 * (4 * slice + y)) whole.all (omega arith)
+
+  begins : start + y * layout.step.y ≡ index_at layout e (4 * (4 * slice + y))
+  begins = ap (λ i. i + y * layout.step.y) is ∙ sym (slice_index layout e slice y small)
+
+  ends : start + y * layout.step.y + 3 < n
+  ends = row_within layout e (4 * slice + y) 3 n _ (omega arith) (omega arith) whole.rows fits.within there begins
+
 pub overflow_mul-y : goal.overflow_mul-y
 overflow_mul-y g c =
-    let layout = c.args.layout.now in
-    let e = c.args.e.now in
-    let slice = c.loop-slice.slice in
-    let row = 4 * slice + c.loop-y.y in
-    let start = c.index-first.ensures ∙ index_here layout c.counted_from-from_origin.result e (4 * (4 * slice)) c.indices.result c.counted_from-from_origin.ensures c.indices.ensures in
-    let first : c.index-first.result + c.loop-y.y * layout.step.y ≡ index_at layout e (4 * row) = ap (λ i. i + c.loop-y.y * layout.step.y) start ∙ sym (slice_index layout e slice c.loop-y.y c.loop-y-test.true) in
-    let here = place_of_whole c.args.d e c.requires.fits.four_at_most c.requires.fits.extent (4 * row) c.requires.whole.all (omega arith) in
-    let last = row_within layout e row 3 (length c.args.values.now) (c.index-first.result + c.loop-y.y * layout.step.y) (omega arith) (omega arith) c.requires.whole.rows c.requires.fits.within here first in
+    let start = c.index-first.ensures ∙ index_here _ _ c.args.e.now _ _ c.counted_from-from_origin.ensures c.indices.ensures in
+    let last = ends _ _ _ _ _ _ _ _ _ c.requires.slices c.requires.few c.requires.whole c.requires.fits c.loop-slice-test.true c.loop-y-test.true start in
     omega (arith, last)
 
 pub overflow_add-first : goal.overflow_add-first
 overflow_add-first g c =
-    let layout = c.args.layout.now in
-    let e = c.args.e.now in
-    let slice = c.loop-slice.slice in
-    let row = 4 * slice + c.loop-y.y in
-    let start = c.index-first.ensures ∙ index_here layout c.counted_from-from_origin.result e (4 * (4 * slice)) c.indices.result c.counted_from-from_origin.ensures c.indices.ensures in
-    let first : c.index-first.result + c.loop-y.y * layout.step.y ≡ index_at layout e (4 * row) = ap (λ i. i + c.loop-y.y * layout.step.y) start ∙ sym (slice_index layout e slice c.loop-y.y c.loop-y-test.true) in
-    let here = place_of_whole c.args.d e c.requires.fits.four_at_most c.requires.fits.extent (4 * row) c.requires.whole.all (omega arith) in
-    let last = row_within layout e row 3 (length c.args.values.now) (c.index-first.result + c.loop-y.y * layout.step.y) (omega arith) (omega arith) c.requires.whole.rows c.requires.fits.within here first in
+    let start = c.index-first.ensures ∙ index_here _ _ c.args.e.now _ _ c.counted_from-from_origin.ensures c.indices.ensures in
+    let last = ends _ _ _ _ _ _ _ _ _ c.requires.slices c.requires.few c.requires.whole c.requires.fits c.loop-slice-test.true c.loop-y-test.true start in
     omega (arith, last)
 
 pub copy_row-requires-clause-there : goal.copy_row-requires-clause-there
 copy_row-requires-clause-there g c =
-    let layout = c.args.layout.now in
-    let e = c.args.e.now in
-    let slice = c.loop-slice.slice in
-    let row = 4 * slice + c.loop-y.y in
-    let start = c.index-first.ensures ∙ index_here layout c.counted_from-from_origin.result e (4 * (4 * slice)) c.indices.result c.counted_from-from_origin.ensures c.indices.ensures in
-    let first : c.index-first.result + c.loop-y.y * layout.step.y ≡ index_at layout e (4 * row) = ap (λ i. i + c.loop-y.y * layout.step.y) start ∙ sym (slice_index layout e slice c.loop-y.y c.loop-y-test.true) in
-    let here = place_of_whole c.args.d e c.requires.fits.four_at_most c.requires.fits.extent (4 * row) c.requires.whole.all (omega arith) in
-    let last = row_within layout e row 3 (length c.args.values.now) (c.index-first.result + c.loop-y.y * layout.step.y) (omega arith) (omega arith) c.requires.whole.rows c.requires.fits.within here first in
+    let start = c.index-first.ensures ∙ index_here _ _ c.args.e.now _ _ c.counted_from-from_origin.ensures c.indices.ensures in
+    let last = ends _ _ _ _ _ _ _ _ _ c.requires.slices c.requires.few c.requires.whole c.requires.fits c.loop-slice-test.true c.loop-y-test.true start in
     omega (arith, last)
 
 pub loop-y-preserved : goal.loop-y-preserved
@@ -57,12 +54,11 @@ loop-y-preserved g c =
     let value = g.T.Lane.value in
     let layout = c.args.layout.now in
     let e = c.args.e.now in
-    let slice = c.loop-slice.slice in
-    let row = 4 * slice + c.loop-y.y in
-    let start = c.index-first.ensures ∙ index_here layout c.counted_from-from_origin.result e (4 * (4 * slice)) c.indices.result c.counted_from-from_origin.ensures c.indices.ensures in
-    let first : c.index-first.result + c.loop-y.y * layout.step.y ≡ index_at layout e (4 * row) = ap (λ i. i + c.loop-y.y * layout.step.y) start ∙ sym (slice_index layout e slice c.loop-y.y c.loop-y-test.true) in
-    let here = place_of_whole c.args.d e c.requires.fits.four_at_most c.requires.fits.extent (4 * row) c.requires.whole.all (omega arith) in
-    let last = row_within layout e row 3 (length c.args.values.now) (c.index-first.result + c.loop-y.y * layout.step.y) (omega arith) (omega arith) c.requires.whole.rows c.requires.fits.within here first in
+    let row = 4 * c.loop-slice.slice + c.loop-y.y in
+    let start = c.index-first.ensures ∙ index_here _ _ c.args.e.now _ _ c.counted_from-from_origin.ensures c.indices.ensures in
+    let here = there _ _ _ _ _ _ _ _ _ c.requires.slices c.requires.few c.requires.whole c.requires.fits c.loop-slice-test.true c.loop-y-test.true start in
+    let first = begins _ _ _ _ _ _ _ _ _ c.requires.slices c.requires.few c.requires.whole c.requires.fits c.loop-slice-test.true c.loop-y-test.true start in
+    let last = ends _ _ _ _ _ _ _ _ _ c.requires.slices c.requires.few c.requires.whole c.requires.fits c.loop-slice-test.true c.loop-y-test.true start in
     subst (IsGatheredTo layout e (map value c.args.values.now) (map value c.args.block.now) (map value c.copy_row.new.target)) (omega arith)
     (gathered_row layout e (map value c.args.values.now) (map value c.args.block.now) (map value c.loop-y.block) (map value c.copy_row.new.target) row (c.index-first.result + c.loop-y.y * layout.step.y)
     c.requires.whole.rows here first

@@ -1,7 +1,7 @@
-use Rattle.std.proofs.Common.{◌+◌, true, false, pos, map, set, sym, ap, subst, ◌∙◌, arith}
+use Rattle.std.proofs.Common.{true, false, pos, map, ◌∙◌, arith}
 use Rattle.std.proofs.lemmas.List.{length-map, map-set}
 use Rattle.zf_base.proofs.Values.{number_at}
-use Rattle.zf_pad.proofs.Copying.{IsScatteredTo, exists_here, index_here, scattered_none, scattered_more, scattered_skip, scattered_all}
+use Rattle.zf_pad.proofs.Copying.{exists_here, index_here, scattered_none, scattered_more, scattered_skip, scattered_all}
 use Rattle.zf_pad.proofs.Existing.{first_place, first_index}
 use Rattle.zf_pad.proofs.copies.scatter_places.Goals as goal
 use Rattle.zf_pad.proofs.copies.scatter_places.Goals.{then-is_inside, else-is_inside}
@@ -30,15 +30,11 @@ loop-place-preserved g c =
           let index = w.index.ensures ∙ index_here layout c.counted_from-from_origin.result e n c.indices-at.result c.counted_from-from_origin.ensures c.indices-at.ensures in
           let within = c.requires.fits.within n (record { in_block = omega arith; inside = here }) in
           let read = number_at value c.args.block.now n x (pos 0) (omega arith) w.index-block-place.is in
-          subst
-          (λ b. IsScatteredTo layout e block old b (n + 1))
-          (sym (ap (map value) w.values-is ∙ map-set value values w.index.result x ∙ ap (λ i. set (map value values) i (value x)) index))
+          rw (w.values-is, map-set value values w.index.result x, index)
           (scattered_more layout e block old (map value values) n (value x) c.requires.one_to_one (omega arith) here (omega (arith, within, length-map values value)) read c.loop-place.invariant)
       | else-is_inside w ↦
           let none = exists_here e n c.indices-at.result _ false c.indices-at.ensures c.is_inside.ensures w.if-is_inside.false in
-          subst
-          (λ b. IsScatteredTo layout e block old b (n + 1))
-          (sym (ap (map value) w.values-is))
+          rw w.values-is
           (scattered_skip layout e block old (map value values) n none c.loop-place.invariant)
     ]
 

@@ -1,5 +1,5 @@
 use Rattle.std.proofs.Common.{rules}
-use Rattle.std.proofs.Common.{◌≡◌, ℕ, ◌+◌, ◌*◌, ◌<◌, ◌≤◌, List, [], ◌∷◌, ◌++◌, length, take, get_or, sym, ap, ◌∙◌, arith}
+use Rattle.std.proofs.Common.{◌≡◌, ℕ, ◌+◌, ◌*◌, ◌<◌, ◌≤◌, List, [], ◌∷◌, length, take, get_or, ap, arith}
 use Rattle.std.proofs.lemmas.List.{append-nil, take_more}
 use Rattle.std.proofs.lemmas.Grind.{flat_map-append, common_steps}
 use Rattle.std.proofs.lemmas.Slice.{take-put_mid}
@@ -14,11 +14,11 @@ bytes_more : (words buf put : List ℕ) (i k : ℕ) → i < length words → put
 bytes_more words buf put i k more is within so_far =
     let bytes = to_le_bytes w64 (get_or words i 0) in
     let long : length put ≡ 8 = ap length is in
-    take-put_mid (8 * i) k buf put (8 * (i + 1)) (omega (arith, long)) within
-    ∙ ap (λ (bs : List ℕ). bs ++ put) so_far
-    ∙ ap (λ (bs : List ℕ). bytes_in (take i words) ++ bs) (is ∙ sym (append-nil bytes))
-    ∙ sym (flat_map-append (to_le_bytes w64) (take i words) (get_or words i 0 ∷ []))
-    ∙ ap bytes_in (sym (take_more words i 0 more))
+    let front = take-put_mid (8 * i) k buf put (8 * (i + 1)) (omega (arith, long)) within in
+    let joined = flat_map-append (to_le_bytes w64) (take i words) (get_or words i 0 ∷ []) in
+    let more = take_more words i 0 more in
+    let end = append-nil bytes in
+    cc
 
 pub loop-i-preserved : goal.loop-i-preserved
 loop-i-preserved c = search (rules, bytes_more)

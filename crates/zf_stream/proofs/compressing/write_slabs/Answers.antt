@@ -1,14 +1,12 @@
-use Rattle.std.proofs.Common.{ℕ, List, length, sym, ap, subst, ◌∙◌, arith, rules}
+use Rattle.std.proofs.Common.{length, sym, ap, ◌∙◌, arith, rules}
 use Rattle.std.proofs.lemmas.List.{length-take-le}
 use Rattle.std.proofs.lemmas.Result.{err_from_is_err_and}
 use Rattle.std.specs.Int.{byte_len}
 use Rattle.zf_pad.proofs.Slabs.{layout_of_slab, length-with_rows}
-use Rattle.zf_dev.specs.Source.{Gives}
 use Rattle.zf_dev.proofs.Devices.{Reads-more, Writes-more}
-use Rattle.zf_stream.specs.Rows.{WritesSlab, BreaksSlab}
 use Rattle.zf_stream.proofs.OnErrors.{on_err}
 use Rattle.zf_stream.proofs.Rooms.{Keeps-next, array_kept, room_part}
-use Rattle.zf_stream.proofs.Slabwise.{with_shape, slab_next, slab_written, slab_broken, slab_refused, rows_len-add, no_rows, zero_rows}
+use Rattle.zf_stream.proofs.Slabwise.{slab_next, slab_written, slab_broken, slab_refused, rows_len-add, no_rows, zero_rows}
 use Rattle.zf_stream.proofs.Failing.{Reads-ok, Writes-ok}
 use Rattle.zf_stream.proofs.compressing.write_slabs.Goals as goal
 
@@ -48,22 +46,19 @@ overflow_add-taken g c =
 
 pub returns-in_err-write_slab-clause-err : goal.returns-in_err-write_slab-clause-err
 returns-in_err-write_slab-clause-err g c =
-    let h = c.args.h.now in
-    let here = c.min-here.result in
     let slab = slab_next c.args.h.now c.loop-row.room.rows c.loop-row.row c.rows_of-all.result c.min-here.result c.values-count.result c.value_len.result c.with_rows.result c.dims-dims.ensures.shape c.loop-row.invariant.room.rows c.loop-row.invariant.done.whole c.rows_of-all.ensures c.loop-row-test.true c.min-here.ensures c.with_rows.ensures c.values-count.ensures.value (c.value_len.ensures.value ∙ ap byte_len c.requires.room.same_type) c.value_len.ensures.bound in
-    let P : List ℕ → Type 0 = λ s. BreaksSlab (with_shape h s) c.loop-row.taken (g.S.Source.contents c.loop-row.src) (g.S.Source.contents c.write_slab.new.src) (Gives (g.S.Source.gave c.loop-row.src) (g.S.Source.gave c.write_slab.new.src)) (g.O.Sink.contents c.loop-row.out) (g.O.Sink.contents c.write_slab.new.out) c.loop-row.room.codes.bits c.in_err-write_slab.field-0.0 in
-    let broken = subst P c.with_rows.ensures c.in_err-write_slab.ensures.err in
-    on_err c.from_residual.result _ (slab_broken h c.loop-row.row here slab.next c.loop-row.invariant.done.whole c.loop-row.invariant.done c.loop-row.taken _ c.write_slab.ensures.gave_some broken)
+    let done = c.loop-row.invariant.done in
+    let broken = rw c.with_rows.ensures at c.in_err-write_slab.ensures.err in
+    on_err c.from_residual.result _
+    (slab_broken _ _ _ slab.next done.whole done c.loop-row.taken _ c.write_slab.ensures.gave_some broken)
 
 pub returns-in_err-write_slab-clause-refused : goal.returns-in_err-write_slab-clause-refused
 returns-in_err-write_slab-clause-refused g c =
-    let h = c.args.h.now in
-    let here = c.min-here.result in
     let slab = slab_next c.args.h.now c.loop-row.room.rows c.loop-row.row c.rows_of-all.result c.min-here.result c.values-count.result c.value_len.result c.with_rows.result c.dims-dims.ensures.shape c.loop-row.invariant.room.rows c.loop-row.invariant.done.whole c.rows_of-all.ensures c.loop-row-test.true c.min-here.ensures c.with_rows.ensures c.values-count.ensures.value (c.value_len.ensures.value ∙ ap byte_len c.requires.room.same_type) c.value_len.ensures.bound in
-    let P : List ℕ → Type 0 = λ s. BreaksSlab (with_shape h s) c.loop-row.taken (g.S.Source.contents c.loop-row.src) (g.S.Source.contents c.write_slab.new.src) (Gives (g.S.Source.gave c.loop-row.src) (g.S.Source.gave c.write_slab.new.src)) (g.O.Sink.contents c.loop-row.out) (g.O.Sink.contents c.write_slab.new.out) c.loop-row.room.codes.bits c.in_err-write_slab.field-0.0 in
-    let broken = subst P c.with_rows.ensures c.in_err-write_slab.ensures.err in
+    let done = c.loop-row.invariant.done in
+    let broken = rw c.with_rows.ensures at c.in_err-write_slab.ensures.err in
     let p = err_from_is_err_and c.from_residual.result c.from_residual.ensures.1 in
-    rw (p.1, p.2) (slab_refused h c.loop-row.row here slab.next c.loop-row.invariant.done.whole c.loop-row.invariant.done c.loop-row.taken _ c.loop-row.invariant.taken broken)
+    rw (p.1, p.2) (slab_refused _ _ _ slab.next done.whole done _ _ c.loop-row.invariant.taken broken)
 
 pub returns-in_err-write_slab-clause-keeps : goal.returns-in_err-write_slab-clause-keeps
 returns-in_err-write_slab-clause-keeps g c = Keeps-next c.loop-row.invariant.keeps c.write_slab.ensures.keeps
@@ -76,19 +71,17 @@ returns-in_err-write_slab-clause-sink g c = search (rules, err_from_is_err_and)
 
 pub loop-row-preserved : goal.loop-row-preserved
 loop-row-preserved g c =
-    let h = c.args.h.now in
-    let here = c.min-here.result in
-    let row = c.loop-row.row in
     let slab = slab_next c.args.h.now c.loop-row.room.rows c.loop-row.row c.rows_of-all.result c.min-here.result c.values-count.result c.value_len.result c.with_rows.result c.dims-dims.ensures.shape c.loop-row.invariant.room.rows c.loop-row.invariant.done.whole c.rows_of-all.ensures c.loop-row-test.true c.min-here.ensures c.with_rows.ensures c.values-count.ensures.value (c.value_len.ensures.value ∙ ap byte_len c.requires.room.same_type) c.value_len.ensures.bound in
-    let P : List ℕ → Type 0 = λ s. WritesSlab (with_shape h s) (g.S.Source.contents c.loop-row.src) (g.S.Source.contents c.write_slab.new.src) (Gives (g.S.Source.gave c.loop-row.src) (g.S.Source.gave c.write_slab.new.src)) (g.O.Sink.contents c.loop-row.out) (g.O.Sink.contents c.write_slab.new.out) c.loop-row.room.codes.bits c.write_slab.new.room.codes.bits in
+    let so_far = c.loop-row.invariant in
+    let written = rw c.with_rows.ensures at c.in_ok-write_slab.ensures.ok in
     record {
-      done = slab_written h row here slab.next c.loop-row.invariant.done.whole c.loop-row.invariant.done (subst P c.with_rows.ensures c.in_ok-write_slab.ensures.ok);
-      taken = omega (arith, slab.bytes_len, c.loop-row.invariant.taken, rows_len-add h row here);
+      done = slab_written _ _ _ slab.next so_far.done.whole so_far.done written;
+      taken = omega (arith, slab.bytes_len, so_far.taken, rows_len-add c.args.h.now c.loop-row.row c.min-here.result);
       few = c.in_ok-write_slab.ensures.few;
-      room = array_kept c.loop-row.invariant.room c.write_slab.ensures.keeps (search rules);
-      keeps = Keeps-next c.loop-row.invariant.keeps c.write_slab.ensures.keeps;
-      source = Reads-more c.loop-row.invariant.source c.write_slab.ensures.source;
-      sink = Writes-more c.loop-row.invariant.sink c.write_slab.ensures.sink;
+      room = array_kept so_far.room c.write_slab.ensures.keeps (search rules);
+      keeps = Keeps-next so_far.keeps c.write_slab.ensures.keeps;
+      source = Reads-more so_far.source c.write_slab.ensures.source;
+      sink = Writes-more so_far.sink c.write_slab.ensures.sink;
     }
 
 pub returns-clause-source : goal.returns-clause-source

@@ -1,17 +1,16 @@
 use Rattle.std.proofs.Common.{rules}
-use Rattle.std.proofs.Common.{◌≡◌, ◌^◌, ◌<◌, Bool, true, false, ℤ, List, [], ◌∷◌, ◌++◌, map, None, Ok, length-append, refl, sym, ap, subst, ◌∙◌, arith}
+use Rattle.std.proofs.Common.{◌≡◌, ◌^◌, ◌<◌, Bool, true, false, List, [], ◌∷◌, ◌++◌, None, Ok, length-append, refl, sym, ap, ◌∙◌, arith}
 use Rattle.std.proofs.lemmas.List.{append-nil, length-map}
 use Rattle.std.proofs.lemmas.Result.{err_from_is_err_and}
 use Rattle.zf_spec.specs.Grid.{blocks, extent_of}
 use Rattle.zf_spec.specs.Codes.{existing_values}
-use Rattle.zf_pad.proofs.Stored.{stored_before, Stores, stores_none, stores_more, blocks_stored, all_stored, stored_within}
+use Rattle.zf_pad.proofs.Stored.{stored_before, stores_none, stores_more, blocks_stored, all_stored, stored_within}
 use Rattle.zf_base.specs.Widths.{width_of}
 use Rattle.zf_base.proofs.Extents.{length-extent_of}
 use Rattle.zf_dev.proofs.Taking.{Takes-append}
-use Rattle.zf_parse.specs.declared.fault.StreamFault.{StreamFault}
 use Rattle.zf_parse.specs.Parsing.{read_code}
 use Rattle.zf_stream.specs.Windows.{left_of}
-use Rattle.zf_stream.specs.Restoring.{stream_from, LacksSlab}
+use Rattle.zf_stream.specs.Restoring.{stream_from}
 use Rattle.zf_parse.proofs.Enough.{enough_for_one}
 use Rattle.zf_parse.proofs.Joining.{read_codes-next, read_codes-cut}
 use Rattle.zf_stream.proofs.Windows.{Goes-none, Goes-next, Goes-read, codes_refilled}
@@ -21,28 +20,23 @@ use Rattle.zf_stream.proofs.Failing.{Reads-ok}
 use Rattle.zf_stream.proofs.decoding.read_slab.Goals as goal
 
 pub loop-b-init : goal.loop-b-init
-loop-b-init g c =
-    let P : List ℤ → Type 0 = λ vs. Stores c.args.part.now.shape [] vs in
-    record {
-      bytes = [];
-      goes = Goes-none _ _;
-      found = [];
-      count = refl;
-      codes = ap (λ (s : List Bool). Ok ([], s)) (append-nil (left_of c.args.room.now.window));
-      stores = subst P (sym (ap (map g.T.Lane.value) c.clear.ensures.items)) (stores_none c.args.part.now.shape);
-      stays = record { rows = refl; longest = refl; held = refl; values = omega (arith, c.clear.ensures.capacity) };
-      ended = c.requires.room.ended;
-      source = Reads-none _;
-    }
+loop-b-init g c = record {
+  bytes = [];
+  goes = Goes-none _ _;
+  found = [];
+  count = refl;
+  codes = ap (λ (s : List Bool). Ok ([], s)) (append-nil (left_of c.args.room.now.window));
+  stores = rw c.clear.ensures.items (stores_none c.args.part.now.shape);
+  stays = record { rows = refl; longest = refl; held = refl; values = omega (arith, c.clear.ensures.capacity) };
+  ended = c.requires.room.ended;
+  source = Reads-none _;
+}
 
 pub returns-in_err-reach-clause-err : goal.returns-in_err-reach-clause-err
 returns-in_err-reach-clause-err g c =
-    let from = g.S.Source.contents c.args.src.now in
-    let to = g.S.Source.contents c.reach.new.src in
-    let more = c.in_err-reach.ensures.taken in
-    let Lacks : StreamFault → Type 0 = λ e. LacksSlab c.args.part.now c.args.first from to c.args.room.now.window e in
     let p = err_from_is_err_and c.from_residual.result c.from_residual.ensures.1 in
-    rw (p.1, p.2) (subst Lacks (sym c.in_err-reach.ensures.source.fault) (_, Takes-append _ _ _ _ _ c.loop-b.invariant.goes.taken more.1))
+    rw (p.1, p.2, c.in_err-reach.ensures.source.fault)
+    (_, Takes-append _ _ _ _ _ c.loop-b.invariant.goes.taken c.in_err-reach.ensures.taken.1)
 
 -- a source that is not at its end would have given enough
 at_end : (ended : Bool) (Enough End : Type 0) → (ended ≡ false → Enough) → ¬ Enough → (ended ≡ true → End) → End

@@ -1,5 +1,5 @@
 use Rattle.std.proofs.Common.{rules}
-use Rattle.std.proofs.Common.{◌≡◌, ℕ, ◌+◌, ◌-◌, ◌≤◌, Bool, List, ◌++◌, map, Option, sym, ap, subst, ◌∙◌, append_assoc, arith}
+use Rattle.std.proofs.Common.{◌≡◌, ℕ, ◌+◌, ◌-◌, ◌≤◌, Bool, List, ◌++◌, map, Option, append_assoc, arith}
 use Rattle.std.proofs.lemmas.List.{append-nil}
 use Rattle.std.specs.List.{flat_map}
 use Rattle.zf_spec.specs.Grid.{blocks, upto, count_from, extent_of, block_of}
@@ -18,21 +18,14 @@ use Rattle.zf_stream.proofs.encoding.write_codes.Goals as goal
 module _ (f : ℕ → List Bool) (start : List Bool) where
   -- one code more is at hand
   one_more : {a b : Option (List ℕ)} {left now : List Bool} (n : ℕ) → Flows a b (start ++ flat_map (λ c. c) (map f (upto n))) left → now ≡ left ++ f n → Flows a b (start ++ flat_map (λ c. c) (map f (upto (n + 1)))) now
-  one_more {a} {b} {left} {now} n flows is =
-      let Of : List Bool → Type 0 = λ bs. Flows a b bs (left ++ f n) in
-      let To : List Bool → Type 0 = λ bs. Flows a b (start ++ flat_map (λ c. c) (map f (upto (n + 1)))) bs in
-      subst To (sym is) (subst Of (joined-more f start n) (Flows-more (f n) flows))
+  one_more {a} {b} {left} {now} n flows is = rw (is, ← joined-more f start n) (Flows-more (f n) flows)
 
   -- where the sink fails before all codes are at hand
   fewer : {a b : Option (List ℕ)} (k n : ℕ) → k ≤ n → Spills a b (start ++ flat_map (λ c. c) (map f (upto k))) → Spills a b (start ++ flat_map (λ c. c) (map f (upto n)))
   fewer {a} {b} k n within spills =
       let rest = flat_map (λ c. c) (map f (count_from k (n - k))) in
       let all : k + (n - k) ≡ n = omega arith in
-      let P : List Bool → Type 0 = λ bs. Spills a b bs in
-      subst P
-      (append_assoc start (flat_map (λ c. c) (map f (upto k))) rest
-      ∙ ap (λ (bs : List Bool). start ++ bs) (sym (joined-prefix f k (n - k)) ∙ ap (λ m. flat_map (λ c. c) (map f (upto m))) all))
-      (Spills-more rest spills)
+      rw (append_assoc, ← joined-prefix f k (n - k), all) at (Spills-more rest spills)
 
 pub returns-in_err-write_where_many-clause-err : goal.returns-in_err-write_where_many-clause-err
 returns-in_err-write_where_many-clause-err g c =

@@ -1,4 +1,4 @@
-use Rattle.std.proofs.Common.{◌≡◌, ◌↔◌, refl, ap, Result, Ok, Err}
+use Rattle.std.proofs.Common.{◌≡◌, ◌↔◌, refl, Result, Ok, Err}
 use Rattle.std.specs.Prelude.{IsOk}
 use Rattle.zf_parse.specs.declared.fault.StreamFault.{StreamFault}
 use Rattle.zf_parse.specs.Parsing.{Said, parse}
@@ -11,7 +11,7 @@ ok_same (Err f) = (λ e. absurd (cc), λ e. absurd (cc))
 
 err_same : (answer : Result Said StreamFault) (e : StreamFault) → (without_said answer ≡ Err e) ↔ (answer ≡ Err e)
 err_same (Ok said) e = (λ is. absurd (cc), λ is. absurd (cc))
-err_same (Err f) e = (λ is. let same : f ≡ e = cc in ap (λ (g : StreamFault). Err g) same, λ is. let same : f ≡ e = cc in ap (λ (g : StreamFault). Err g) same)
+err_same (Err f) e = (λ is. cc, λ is. cc)
 
 pub returns-clause-ok : goal.returns-clause-ok
 returns-clause-ok c bytes = ok_same (parse bytes)

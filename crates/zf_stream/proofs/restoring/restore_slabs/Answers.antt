@@ -1,21 +1,16 @@
 use Rattle.std.proofs.Common.{rules}
-use Rattle.std.proofs.Common.{◌≡◌, ℕ, ◌+◌, ◌-◌, ◌*◌, ◌/◌, ◌<◌, ◌≤◌, List, map, length, min, mul_comm, ap, subst, ◌∙◌, arith}
+use Rattle.std.proofs.Common.{◌≡◌, ℕ, ◌+◌, ◌-◌, ◌*◌, ◌/◌, ◌<◌, ◌≤◌, List, map, length, min, mul_comm, ap, ◌∙◌, arith}
 use Rattle.std.proofs.lemmas.Result.{err_from_is_err_and}
 use Rattle.std.proofs.Math.Nat.{mul-le-mul_left, mul-add}
 use Rattle.zf_spec.specs.Grid.{product, grid, blocks}
-use Rattle.zf_spec.specs.Stream.{raw}
 use Rattle.zf_pad.specs.Slabs.{rows_of, row_len, with_rows, IsSlab, first_block}
-use Rattle.zf_pad.specs.Stored.{raster_of}
 use Rattle.zf_pad.proofs.Stored.{length-raster_of}
 use Rattle.zf_pad.proofs.Slabs.{length-with_rows, product-with_rows, blocks-with_rows}
-use Rattle.zf_dev.specs.Sink.{Appends, AppendsPrefix}
 use Rattle.zf_header.specs.declared.header.Header.{Header}
-use Rattle.zf_parse.specs.Raw.{raw_bytes}
 use Rattle.zf_stream.specs.Rows.{ArePieces}
-use Rattle.zf_stream.specs.Restoring.{ReadsSlab, LacksSlab}
 use Rattle.zf_stream.proofs.OnErrors.{on_err}
 use Rattle.zf_stream.proofs.Restored.{blocks_behind, slab_restored, slab_spilled, slab_cut, slab_lacked, Restores-none}
-use Rattle.zf_stream.proofs.Slabwise.{with_shape, part_of, IsNext, next_here, next_whole}
+use Rattle.zf_stream.proofs.Slabwise.{with_shape, IsNext, next_here, next_whole}
 use Rattle.zf_dev.proofs.Devices.{Reads-none, Reads-more, Writes-none, Writes-more}
 use Rattle.zf_stream.proofs.Rooms.{Stays-none, Stays-next, still_restores_all, restores_part}
 use Rattle.zf_stream.proofs.Failing.{Reads-ok, Writes-ok}
@@ -72,34 +67,22 @@ returns-in_err-read_slab-clause-err g c =
 
 pub returns-in_err-read_slab-clause-refused : goal.returns-in_err-read_slab-clause-refused
 returns-in_err-read_slab-clause-refused g c =
-    let h = c.args.h.now in
-    let e = c.in_err-read_slab.field-0.0 in
-    let mid = g.S.Source.contents c.loop-row.src in
-    let now = g.S.Source.contents c.read_slab.new.src in
     let slab = slab_here c.args.h.now c.loop-row.room.rows c.loop-row.row c.rows_of-all.result c.min-here.result c.loop-row.first c.with_rows.result c.loop-row.invariant.room.rows c.loop-row.invariant.done.whole c.rows_of-all.ensures c.loop-row-test.true c.min-here.ensures c.with_rows.ensures c.loop-row.invariant.first in
-    let P : List ℕ → Type 0 = λ s. LacksSlab (with_shape h s) c.loop-row.first mid now c.loop-row.room.window e in
     let p = err_from_is_err_and c.from_residual.result c.from_residual.ensures.1 in
-    rw (p.1, p.2) (slab_cut h c.loop-row.row c.min-here.result slab.next c.loop-row.invariant.done now c.loop-row.first e slab.number (subst P c.with_rows.ensures c.in_err-read_slab.ensures.err))
+    let lacks = rw c.with_rows.ensures at c.in_err-read_slab.ensures.err in
+    rw (p.1, p.2) (slab_cut _ _ _ slab.next c.loop-row.invariant.done _ _ _ slab.number lacks)
 
 pub returns-in_err-write_stored-clause-err : goal.returns-in_err-write_stored-clause-err
 returns-in_err-write_stored-clause-err g c =
-    let h = c.args.h.now in
-    let here = c.min-here.result in
-    let shape = c.with_rows.result in
-    let mid = g.S.Source.contents c.loop-row.src in
-    let now = g.S.Source.contents c.read_slab.new.src in
-    let out1 = g.O.Sink.contents c.loop-row.out in
-    let out2 = g.O.Sink.contents c.write_stored.new.out in
-    let stored = map g.T.Lane.value c.read_slab.new.room.stored.items in
-    let values = raster_of shape stored in
     let slab = slab_here c.args.h.now c.loop-row.room.rows c.loop-row.row c.rows_of-all.result c.min-here.result c.loop-row.first c.with_rows.result c.loop-row.invariant.room.rows c.loop-row.invariant.done.whole c.rows_of-all.ensures c.loop-row-test.true c.min-here.ensures c.with_rows.ensures c.loop-row.invariant.first in
-    let long : length values ≡ row_len h.shape * here = length-raster_of shape stored ∙ slab.count in
-    let P : List ℕ → Type 0 = λ s. ReadsSlab (with_shape h s) mid now c.loop-row.room.window c.read_slab.new.room.window values in
-    let read : ReadsSlab (part_of h here) mid now c.loop-row.room.window c.read_slab.new.room.window values = subst P c.with_rows.ensures c.in_ok-read_slab.ensures.ok in
-    let text : raw g.T.Lane.width (raster_of shape (map g.T.Lane.value c.deref.result.now)) ≡ raw_bytes h values =
-    ap (λ xs. raw g.T.Lane.width (raster_of shape (map g.T.Lane.value xs))) c.deref.ensures.value ∙ ap (λ w. raw w values) c.requires.room.same_type in
-    let Of : List ℕ → Type 0 = λ bs. AppendsPrefix out1 out2 bs in
-    on_err c.from_residual-in_err-write_stored.result _ (slab_spilled h c.loop-row.row here slab.next c.loop-row.invariant.done values read long (subst Of text c.in_err-write_stored.ensures.err))
+    let stored = map g.T.Lane.value c.read_slab.new.room.stored.items in
+    let long = length-raster_of c.with_rows.result stored ∙ slab.count in
+    let read = rw c.with_rows.ensures at c.in_ok-read_slab.ensures.ok in
+    let written = rw (c.deref.ensures.value, c.requires.room.same_type) at c.in_err-write_stored.ensures.err in
+    let here = rw c.with_rows.ensures at written in
+    let size = rw c.with_rows.ensures at long in
+    on_err c.from_residual-in_err-write_stored.result _
+    (slab_spilled _ _ _ slab.next c.loop-row.invariant.done _ read size here)
 
 pub overflow_add-first : goal.overflow_add-first
 overflow_add-first g c =
@@ -108,28 +91,18 @@ overflow_add-first g c =
 
 pub loop-row-preserved : goal.loop-row-preserved
 loop-row-preserved g c =
-    let h = c.args.h.now in
-    let kept = c.in_ok-read_slab.ensures.stays in
-    let here = c.min-here.result in
-    let shape = c.with_rows.result in
-    let mid = g.S.Source.contents c.loop-row.src in
-    let now = g.S.Source.contents c.read_slab.new.src in
-    let out1 = g.O.Sink.contents c.loop-row.out in
-    let out2 = g.O.Sink.contents c.write_stored.new.out in
-    let stored = map g.T.Lane.value c.read_slab.new.room.stored.items in
-    let values = raster_of shape stored in
     let slab = slab_here c.args.h.now c.loop-row.room.rows c.loop-row.row c.rows_of-all.result c.min-here.result c.loop-row.first c.with_rows.result c.loop-row.invariant.room.rows c.loop-row.invariant.done.whole c.rows_of-all.ensures c.loop-row-test.true c.min-here.ensures c.with_rows.ensures c.loop-row.invariant.first in
-    let long : length values ≡ row_len h.shape * here = length-raster_of shape stored ∙ slab.count in
-    let P : List ℕ → Type 0 = λ s. ReadsSlab (with_shape h s) mid now c.loop-row.room.window c.read_slab.new.room.window values in
-    let read : ReadsSlab (part_of h here) mid now c.loop-row.room.window c.read_slab.new.room.window values = subst P c.with_rows.ensures c.in_ok-read_slab.ensures.ok in
-    let text : raw g.T.Lane.width (raster_of shape (map g.T.Lane.value c.deref.result.now)) ≡ raw_bytes h values =
-    ap (λ xs. raw g.T.Lane.width (raster_of shape (map g.T.Lane.value xs))) c.deref.ensures.value ∙ ap (λ w. raw w values) c.requires.room.same_type in
-    let Of : List ℕ → Type 0 = λ bs. Appends out1 out2 bs in
+    let stored = map g.T.Lane.value c.read_slab.new.room.stored.items in
+    let long = length-raster_of c.with_rows.result stored ∙ slab.count in
+    let read = rw c.with_rows.ensures at c.in_ok-read_slab.ensures.ok in
+    let written = rw (c.deref.ensures.value, c.requires.room.same_type) at c.in_ok-write_stored.ensures.ok in
+    let here = rw c.with_rows.ensures at written in
+    let size = rw c.with_rows.ensures at long in
     record {
-      done = slab_restored h c.loop-row.row here slab.next c.loop-row.invariant.done values read long (subst Of text c.in_ok-write_stored.ensures.ok);
+      done = slab_restored _ _ _ slab.next c.loop-row.invariant.done _ read size here;
       first = omega (arith, slab.behind, c.blocks-first.ensures.value);
-      room = still_restores_all c.loop-row.invariant.room (record { rows = kept.rows; longest = kept.longest; held = kept.held; values = kept.values }) c.in_ok-read_slab.ensures.ended;
-      stays = Stays-next c.loop-row.invariant.stays (record { rows = kept.rows; longest = kept.longest; held = kept.held; values = kept.values });
+      room = still_restores_all c.loop-row.invariant.room (search rules) c.in_ok-read_slab.ensures.ended;
+      stays = Stays-next c.loop-row.invariant.stays (search rules);
       source = Reads-more c.loop-row.invariant.source c.read_slab.ensures.source;
       sink = Writes-more c.loop-row.invariant.sink c.write_stored.ensures.sink.device;
     }

@@ -5,9 +5,8 @@ use Rattle.zf_stream.proofs.slabs.size_with_rows.Goals as goal
 last_size : (rows axis : ℕ) (ns : List ℕ) → axis + 1 ≡ length ns → rows ≡ get_or (with_rows rows ns) axis 1
 last_size rows axis [] is = absurd (omega arith)
 last_size rows zero (n ∷ []) is = refl
-last_size rows (suc axis) (n ∷ []) is = absurd (omega arith)
-last_size rows zero (n ∷ m ∷ ns) is = absurd (omega arith)
 last_size rows (suc axis) (n ∷ m ∷ ns) is = last_size rows axis (m ∷ ns) (omega arith)
+last_size rows axis ns is = absurd (omega arith)
 
 other_size : (rows axis : ℕ) (ns : List ℕ) → axis + 1 ≢ length ns → get_or ns axis 1 ≡ get_or (with_rows rows ns) axis 1
 other_size rows axis [] other = refl

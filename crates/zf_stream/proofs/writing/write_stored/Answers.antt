@@ -19,19 +19,18 @@ use Rattle.zf_stream.proofs.writing.write_stored.Goals as goal
 pub returns-in_err-write_values-clause-err : goal.returns-in_err-write_values-clause-err
 returns-in_err-write_values-clause-err g c =
     let w = g.T.Lane.width in
-    let values = raster_of c.args.shape.now (map g.T.Lane.value c.args.stored.now) in
-    let Of : List ℤ → Type 0 = λ vs. AppendsPrefix (g.O.Sink.contents c.loop-at.out) (g.O.Sink.contents c.write_values-in-loop-at.new.out) (raw w vs) in
-    on_err c.from_residual.result _ (part_failed (raw w) (raw-append w) values c.loop-at.at c.copy_lines-count.result _ _ _ c.loop-at.invariant.written (subst Of c.copy_lines-count.ensures.values c.in_err-write_values.ensures.err))
+    let failed = rw c.copy_lines-count.ensures.values at c.in_err-write_values.ensures.err in
+    on_err c.from_residual.result _
+    (part_failed (raw w) (raw-append w) _ _ _ _ _ _ c.loop-at.invariant.written failed)
 
 pub loop-at-preserved : goal.loop-at-preserved
 loop-at-preserved g c =
     let w = g.T.Lane.width in
-    let values = raster_of c.args.shape.now (map g.T.Lane.value c.args.stored.now) in
-    let Of : List ℤ → Type 0 = λ vs. Appends (g.O.Sink.contents c.loop-at.out) (g.O.Sink.contents c.write_values-in-loop-at.new.out) (raw w vs) in
+    let written = rw c.copy_lines-count.ensures.values at c.in_ok-write_values.ensures.ok in
     record {
       within = c.copy_lines-count.ensures.within;
       first = c.copy_lines-count.ensures.first;
-      written = part_written (raw w) (raw-append w) values c.loop-at.at c.copy_lines-count.result _ _ _ c.loop-at.invariant.written (subst Of c.copy_lines-count.ensures.values c.in_ok-write_values.ensures.ok);
+      written = part_written (raw w) (raw-append w) _ _ _ _ _ _ c.loop-at.invariant.written written;
       sink = Writes-more c.loop-at.invariant.sink c.write_values-in-loop-at.ensures.sink.device;
     }
 

@@ -1,5 +1,5 @@
 use Rattle.std.proofs.Common.{rules}
-use Rattle.std.proofs.Common.{◌≡◌, ℕ, ◌-◌, ◌*◌, ◌/◌, ◌%◌, ◌<◌, ◌^◌, Bool, List, Option, ◌++◌, length, take, drop, All, ap, subst, ◌∙◌, take-append-drop, length-append}
+use Rattle.std.proofs.Common.{◌≡◌, ℕ, ◌-◌, ◌*◌, ◌/◌, ◌%◌, ◌<◌, ◌^◌, Bool, List, Option, ◌++◌, length, take, drop, All, take-append-drop, length-append}
 use Rattle.std.proofs.lemmas.List.{take-append-le, drop-append-le, length-drop, take_at}
 use Rattle.std.specs.Int.{div_ceil}
 use Rattle.zf_spec.specs.Numbers.{field, number, word_bits}
@@ -28,14 +28,11 @@ module _ (bits : List Bool) (words : List ℕ) (is : word_bits words ≡ with_fi
 
   spilled : {a b : Option (List ℕ)} → AppendsPrefix a b (bytes_in (take n words)) → Spills a b bits
   spilled {a} {b} written =
-      let P : ℕ → Type 0 = λ k. AppendsPrefix a b (bytes_in (take k words)) in
-      record {
-        bytes = bytes_in (take (length bits / 64) words);
-        written = subst P count_is written;
-        small = small-bytes_in (take (length bits / 64) words);
-        left = drop (64 * (length bits / 64)) bits;
-        parts = ap (λ (bs : List Bool). bs ++ drop (64 * (length bits / 64)) bits) prefix ∙ take-append-drop (64 * (length bits / 64)) bits;
-      }
+      let k = length bits / 64 in
+      let same : AppendsPrefix a b (bytes_in (take k words)) = rw (← count_is) written in
+      let behind = take-append-drop (64 * k) bits in
+      let parts : to_bits (bytes_in (take k words)) ++ drop (64 * k) bits ≡ bits = rw prefix behind in
+      search (rules, small-bytes_in)
 
 pub returns-in_err-write_words-clause-err : goal.returns-in_err-write_words-clause-err
 returns-in_err-write_words-clause-err g c = search (rules, on_err, spilled)

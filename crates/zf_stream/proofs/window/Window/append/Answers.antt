@@ -1,5 +1,5 @@
 use Rattle.std.proofs.lemmas.Grind.{common_steps}
-use Rattle.std.proofs.Common.{◌≡◌, ℕ, ◌+◌, ◌*◌, ◌/◌, ◌<◌, ◌≤◌, List, Bool, ◌++◌, length, take, drop, sym, ap, subst, ◌∙◌, length-append, arith, rules}
+use Rattle.std.proofs.Common.{◌≡◌, ℕ, ◌+◌, ◌*◌, ◌/◌, ◌<◌, ◌≤◌, List, Bool, ◌++◌, length, take, drop, sym, ap, ◌∙◌, length-append, arith, rules}
 use Rattle.std.proofs.lemmas.Bool.{ltb-false}
 use Rattle.std.proofs.lemmas.List.{with_items_is, places, length-take-le, take-append-le}
 use Rattle.std.specs.Vec.{with_items}
@@ -7,7 +7,6 @@ use Rattle.zf_spec.specs.Numbers.{word_bits}
 use Rattle.zf_spec.specs.Stream.{to_bits}
 use Rattle.zf_spec.proofs.Bytes.{length-to_bits}
 use Rattle.zf_bits.proofs.Reading.{length-reader_of}
-use Rattle.zf_dev.specs.Source.{Takes}
 use Rattle.zf_stream.specs.Windows.{left_of}
 use Rattle.zf_stream.proofs.Windows.{Refills-put}
 use Rattle.zf_stream.proofs.window.Window.append.Goals as goal
@@ -26,12 +25,11 @@ returns-clause-ok g c =
     let to = g.S.Source.contents c.read_into.new.src in
     let within : count ≤ length buf = omega (arith, c.in_ok-count.ensures.bound, c.read_into.auto.buf) in
     let long : length bytes ≡ count = length-take-le count (buf ++ rest) (omega (arith, within, length-append buf rest)) in
-    let Taken : List ℕ → Type 0 = λ bs. Takes from to bs in
     let whole : w.bits ≡ 64 * held = omega (arith, c.self.invariant.whole (ap (λ v. v.ended) c.self.view_is ∙ c.requires.going)) in
     let size : w.bits + 8 * count ≡ 64 * held + 8 * length bytes = omega (arith, whole, long) in
     let room = with_items_is w.words new (search (rules, places)) in
     let all : take (w.bits + 8 * count) (word_bits (with_items w.words new).items) ≡ c.args.self.now.reader.all ++ to_bits bytes = search rules in
-    Refills-put from to c.args.self.now _ bytes (subst Taken (sym (take-append-le count buf rest within)) c.in_ok-count.ensures.first.taken) all
+    Refills-put from to c.args.self.now _ bytes (rw (take-append-le count buf rest within) c.in_ok-count.ensures.first.taken) all
     (ap (λ v. v.reader.at) c.self.view_is)
     (omega (arith, c.self.invariant.at_within, ap (λ v. v.reader.at) c.self.view_is, ap (λ v. length v.reader.all) c.self.view_is, length-reader_of words w.bits w.at c.self.invariant.within))
     (ap length room ∙ c.put_words_at.ensures.len ∙ ap length c.deref_mut.ensures.value ∙ ap (λ v. v.room) c.self.view_is)
@@ -54,8 +52,7 @@ returns-clause-more g c = λ going.
     let place : length old.reader.all ≡ w.bits = ap (λ v. length v.reader.all) (sym c.self.view_is) ∙ length-reader_of w.words.items w.bits w.at c.self.invariant.within in
     let room : length w.words.items ≡ old.room = ap (λ v. v.room) c.self.view_is in
     let some : 0 < length bytes = omega (arith, full, long, c.min-most.ensures, c.requires.room, c.requires.piece, c.len.ensures, room, place) in
-    let Longer : List Bool → Type 0 = λ s. length (left_of old) < length s in
-    subst Longer (sym (returns-clause-ok g c).bits) (longer (left_of old) bytes some)
+    rw (returns-clause-ok g c).bits (longer (left_of old) bytes some)
 
 pub invariant_of-self : goal.invariant_of-self
 invariant_of-self g c = grind (arith, common_steps)
