@@ -74,7 +74,8 @@ module _ (name : List ℕ) (most : ℕ) where
         text ∙ (ap bound_text (certified ∙ ap (λ g. certified_of g said.codes most) header) ∙ sym (ap (certified_text most) is_array))
 
     -- some input and the file
-    exposed_so : (src out : Option (List ℕ)) (some : (input : List ℕ) × ExposesInput src input) → IsExposed (seen src out known) (world_with known bytes some.0)
+    exposed_so : (src out : Option (List ℕ)) (some : (input : List ℕ) × ExposesInput src input)
+        → IsExposed (seen src out known) (world_with known bytes some.0)
     exposed_so src out some = record { input = some.1; files = ExposesFiles-with known bytes }
 
     -- the line was written

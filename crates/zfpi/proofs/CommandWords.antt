@@ -219,7 +219,8 @@ four_words : (typed shaped : List ℕ) (words : List (List ℕ)) (m : Mode) → 
 four_words typed shaped words Reversible is = omega (arith, ap length is)
 four_words typed shaped words m is = omega (arith, ap length is)
 
-enough_words : (c : Command) (words : List (List ℕ)) → IsSpelled c words → fewest (first_word c) ≤ length words
+enough_words : (c : Command) (words : List (List ℕ)) → IsSpelled c words
+    → fewest (first_word c) ≤ length words
 unfolding first_word fewest
 enough_words (Compress h) words spelled = four_words (type_word h.ty) (shape_word h.shape) words h.mode spelled.1
 enough_words (CompressNarrow n h) words spelled = four_words (narrow_word n) (shape_word h.shape) words h.mode spelled.words_are

@@ -65,7 +65,8 @@ IsSpelled-script scripts.Run name lines words named in_range is = record { named
 IsSpelled-script scripts.Look name lines words named in_range is = record { named = named; caching_is = in_range; words_are = is }
 
 -- words that are all but the last ones of a command begin it
-begins_task : (task : Task) (ty : Ty) (ns : List ℕ) (m : Mode) (words prefix behind : List (List ℕ)) → IsBegun task ty ns prefix words
+begins_task : (task : Task) (ty : Ty) (ns : List ℕ) (m : Mode) (words prefix behind : List (List ℕ))
+    → IsBegun task ty ns prefix words
     → IsAskable (header_with ty ns m) → mode_words m ≡ prefix ++ behind → BeginsCommand words
 begins_task task ty ns m words prefix behind begun askable is =
     let h = header_with ty ns m in
@@ -78,20 +79,24 @@ begins_compress ty words prefix rest is whole =
     (Compress h, rest, (askable_reversible ty (1 ∷ []) one_value, ap (λ p. p ++ rest) is ∙ whole))
 
 begins_sample : (ty : Ty) (ns : List ℕ) (words prefix rest : List (List ℕ)) → IsShape ns → words ≡ prefix
-    → prefix ++ rest ≡ codes "sample" ∷ type_word ty ∷ shape_word ns ∷ decimal 0 ∷ codes "reversible" ∷ [] → BeginsCommand words
+    → prefix ++ rest ≡ codes "sample" ∷ type_word ty ∷ shape_word ns ∷ decimal 0 ∷ codes "reversible" ∷ []
+    → BeginsCommand words
 begins_sample ty ns words prefix rest shape is whole =
     let askable = askable_reversible ty ns shape in
     let words_are = ap (λ p. p ++ rest) is ∙ whole in
     (Sample (header_with ty ns Reversible) 0, rest, record { asked = askable; small = lit< tt; words_are = words_are })
 
-begins_new : (name : List ℕ) (ty : Ty) (ns : List ℕ) (words prefix rest : List (List ℕ)) → IsName name → IsShape ns → words ≡ prefix
-    → prefix ++ rest ≡ codes "new" ∷ name ∷ type_word ty ∷ shape_word ns ∷ decimal 1 ∷ [] → BeginsCommand words
+begins_new : (name : List ℕ) (ty : Ty) (ns : List ℕ) (words prefix rest : List (List ℕ)) → IsName name
+    → IsShape ns → words ≡ prefix
+    → prefix ++ rest ≡ codes "new" ∷ name ∷ type_word ty ∷ shape_word ns ∷ decimal 1 ∷ []
+    → BeginsCommand words
 begins_new name ty ns words prefix rest named shape is whole =
     let words_are = ap (λ p. p ++ rest) is ∙ whole in
     let fits = rate_one_fits ty ns shape in
     (New name ty ns 1, rest, record { named = named; shape = shape; rate = (lit≤ tt, lit≤ tt); fits = fits; words_are = words_are })
 
-begins_script : (script : Script) (name : List ℕ) (lines : Option ℕ) (words prefix rest : List (List ℕ)) → IsName name → IsLines lines
+begins_script : (script : Script) (name : List ℕ) (lines : Option ℕ) (words prefix rest : List (List ℕ))
+    → IsName name → IsLines lines
     → words ≡ prefix → prefix ++ rest ≡ script_word script ∷ name ∷ lines_words lines → BeginsCommand words
 begins_script script name lines words prefix rest named in_range is whole =
     let words_are = ap (λ p. p ++ rest) is ∙ whole in

@@ -138,7 +138,8 @@ module _ (c : Command) (name : List ℕ) (reading : List ℕ → Result Said Sta
         → OnWholeScript status (AreStarved answers (opened reading (files_with known bytes name)) starved script) → TakesScript status script script
         → (status ≡ (meaning c).status (world_with known bytes script) starved) ⊎ MayFail status c (world_with known bytes script)
         → Writes status ((meaning c).text (world_with known bytes script) starved script) ((meaning c).draft status ((meaning c).text (world_with known bytes script) starved script)) out out_now
-        → Saves ((meaning c).saved (world_with known bytes script) starved) status known shelf → Behaves c status (seen src out known) (seen rest out_now shelf)
+        → Saves ((meaning c).saved (world_with known bytes script) starved) status known shelf
+        → Behaves c status (seen src out known) (seen rest out_now shelf)
     ran_so status out out_now shelf ends open_starved extent stated written saved = record {
       ends = ends;
       world = world_with known bytes script;
