@@ -133,7 +133,8 @@ one_command words (Sample g n) (Sample h m) a b =
     let mode = mode_words_injective g.mode h.mode a.asked.header.mode b.asked.header.mode (cc) in
     cc (same_header g h ty shape mode, decimal_injective n m a.small b.small (cc))
 one_command words (Run n k) (Run m l) a b = let same = same_script (codes "run") n m k l words a b in cc
-one_command words (Look n k) (Look m l) a b = let same = same_script (codes "look") n m (Direct k) (Direct l) words a b in cc
+one_command words (Look n k) (Look m l) a b =
+    let same = same_script (codes "look") n m (Direct k) (Direct l) words a b in cc
 one_command words (Bound n k) (Bound m l) a b = search (rules, decimal_injective)
 one_command words (RestoreNarrow m) (RestoreNarrow n) a b = search (rules, narrow_word_injective)
 one_command words Restore (RestoreNarrow n) a b = absurd (omega (arith, ap length (sym a ∙ b)))
@@ -190,12 +191,15 @@ asked h ty ns behind askable shape same_type shape_text is = search (rules, same
 -- words that begin a task are those of its command, and end with a mode
 IsAsked-begun : (task : Task) (ty : Ty) (ns : List ℕ) (behind words : List (List ℕ)) (c : Command) → IsBegun task ty ns behind words → IsSpelled c words → IsAsked ty ns behind
 unfolding first_word mark
-IsAsked-begun tasks.Compress ty ns behind words (Compress h) begun spelled = search (rules, asked, type_word_injective)
+IsAsked-begun tasks.Compress ty ns behind words (Compress h) begun spelled =
+    search (rules, asked, type_word_injective)
 IsAsked-begun (tasks.CompressNarrow n) ty ns behind words (CompressNarrow m h) begun spelled = search (rules, asked)
-IsAsked-begun tasks.Compress ty ns behind words (CompressNarrow m h) begun spelled = search (rules, type_not_narrow)
+IsAsked-begun tasks.Compress ty ns behind words (CompressNarrow m h) begun spelled =
+    search (rules, type_not_narrow)
 IsAsked-begun (tasks.CompressNarrow n) ty ns behind words (Compress h) begun spelled = search (rules, type_not_narrow)
 IsAsked-begun (tasks.Sample n) ty ns behind words (Sample h seed) begun spelled = search (rules, asked, type_word_injective)
-IsAsked-begun task ty ns behind words c begun spelled = absurd (omega (arith, mark_of c words _ _ begun.words_are spelled))
+IsAsked-begun task ty ns behind words c begun spelled =
+    absurd (omega (arith, mark_of c words _ _ begun.words_are spelled))
 
 -- one word more behind those that begin a task, and what follows it
 IsBegun-more : (task : Task) (ty : Ty) (ns : List ℕ) (behind words : List (List ℕ)) (word : List ℕ) (rest : List (List ℕ)) → IsBegun task ty ns behind words → IsBegun task ty ns (behind ++ word ∷ rest) ((words ++ word ∷ []) ++ rest)

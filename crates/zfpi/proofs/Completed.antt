@@ -112,18 +112,24 @@ BeginsCommand-reached words (stages.TypedNarrow n) is =
     (CompressNarrow n (header_with I32 (1 ∷ []) Reversible), rest, record { asked = askable_reversible I32 (1 ∷ []) one_value; typed = refl; words_are = ap (λ prefix. prefix ++ rest) is })
 BeginsCommand-reached words stages.Sampling is = begins_sample I32 (1 ∷ []) words _ _ one_value is refl
 BeginsCommand-reached words (stages.SampleTyped ty) is = begins_sample ty (1 ∷ []) words _ _ one_value is refl
-BeginsCommand-reached words (stages.SampleShaped ty ns) leads = begins_sample ty ns words _ _ leads.0 leads.1 refl
+BeginsCommand-reached words (stages.SampleShaped ty ns) leads =
+    begins_sample ty ns words _ _ leads.0 leads.1 refl
 BeginsCommand-reached words (stages.Shaped task ty ns) leads =
     begins_task task ty ns Reversible words _ _ leads (askable_reversible ty ns leads.shape_is) refl
 BeginsCommand-reached words (stages.AtRate task ty ns) leads =
     begins_task task ty ns (Rate 1) words _ _ leads (askable_rate_one ty ns leads.shape_is) refl
 BeginsCommand-reached words (stages.AtPrecision task ty ns) leads =
     begins_task task ty ns (Precision 1) words _ _ leads (askable_precision_one ty ns leads.shape_is) refl
-BeginsCommand-reached words stages.Making is = begins_new (97 ∷ []) I32 (1 ∷ []) words _ _ one_letter one_value is refl
-BeginsCommand-reached words (stages.Named name) leads = begins_new name I32 (1 ∷ []) words _ _ leads.0 one_value leads.1 refl
-BeginsCommand-reached words (stages.NamedTyped name ty) leads = begins_new name ty (1 ∷ []) words _ _ leads.0 one_value leads.1 refl
-BeginsCommand-reached words (stages.NamedShaped name ty ns) leads = begins_new name ty ns words _ _ leads.0 leads.1 leads.2 refl
-BeginsCommand-reached words (stages.Scripting script) is = begins_script script (97 ∷ []) None words _ _ one_letter tt is refl
+BeginsCommand-reached words stages.Making is =
+    begins_new (97 ∷ []) I32 (1 ∷ []) words _ _ one_letter one_value is refl
+BeginsCommand-reached words (stages.Named name) leads =
+    begins_new name I32 (1 ∷ []) words _ _ leads.0 one_value leads.1 refl
+BeginsCommand-reached words (stages.NamedTyped name ty) leads =
+    begins_new name ty (1 ∷ []) words _ _ leads.0 one_value leads.1 refl
+BeginsCommand-reached words (stages.NamedShaped name ty ns) leads =
+    begins_new name ty ns words _ _ leads.0 leads.1 leads.2 refl
+BeginsCommand-reached words (stages.Scripting script) is =
+    begins_script script (97 ∷ []) None words _ _ one_letter tt is refl
 BeginsCommand-reached words (stages.AtLines script name) leads =
     begins_script script name (Some 1) words _ _ leads.0 (lit≤ tt, lit≤ tt) leads.1 refl
 BeginsCommand-reached words (stages.AtTwoWay name) leads =
@@ -135,4 +141,5 @@ BeginsCommand-reached words stages.Bounding is =
 BeginsCommand-reached words (stages.AtMost name) leads =
     let rest = decimal 0 ∷ [] in
     (Bound name 0, rest, record { named = leads.0; small = lit< tt; words_are = ap (λ prefix. prefix ++ rest) leads.1 })
-BeginsCommand-reached words (stages.Whole c) spelled = (c, [], subst (IsSpelled c) (sym (append-nil words)) spelled)
+BeginsCommand-reached words (stages.Whole c) spelled =
+    (c, [], subst (IsSpelled c) (sym (append-nil words)) spelled)

@@ -82,7 +82,8 @@ unsent (Bound name most) Done before now unsaved done b =
 unsent (New name ty ns bits) status before now unsaved done b = absurd unsaved
 unsent (Run name caching) status before now unsaved done b = absurd unsaved
 unsent (Look name lines) status before now unsaved done b = absurd unsaved
-unsent c Done before now unsaved done b = instead c Done before now b tt b.starved_are (search rules) b.written b.saved
+unsent c Done before now unsaved done b =
+    instead c Done before now b tt b.starved_are (search rules) b.written b.saved
 unsent c status before now unsaved done b = search (rules, IsPossible-behaves)
 
 -- a command that loads nothing ends with no fault of a load
