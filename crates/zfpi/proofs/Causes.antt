@@ -45,25 +45,20 @@ HasCauses-wrote c status src out out_now used kept no_read rose = search (rules,
 
 -- its file was not loaded
 pub HasCauses-unloaded : (c : Command) (e : LoadError) (src out : ℕ) {Sure : Type 0} → HasCauses c (load_status e) (counts src out) (counts src out) Sure Sure
-HasCauses-unloaded c loading.Missing src out = HasCauses-refused c (load_status loading.Missing) src out (λ is. cc) (λ is. cc)
-HasCauses-unloaded c loading.Long src out = HasCauses-refused c (load_status loading.Long) src out (λ is. cc) (λ is. cc)
-HasCauses-unloaded c loading.Failed src out = HasCauses-refused c (load_status loading.Failed) src out (λ is. cc) (λ is. cc)
-HasCauses-unloaded c loading.Memory src out = HasCauses-refused c (load_status loading.Memory) src out (λ is. cc) (λ is. cc)
+HasCauses-unloaded c loading.Missing src out = search (rules, HasCauses-refused)
+HasCauses-unloaded c e src out = search (rules, HasCauses-refused)
 
 take_failed : (e : TakeError) → take_status e ≡ ReadFault → e ≡ taking.Failed
-take_failed taking.Long is = absurd (cc)
 take_failed taking.Failed is = refl
-take_failed taking.Memory is = absurd (cc)
+take_failed e is = absurd (cc)
 
 no_write_take : (e : TakeError) → take_status e ≢ WriteFault
 no_write_take taking.Long is = cc
-no_write_take taking.Failed is = cc
-no_write_take taking.Memory is = cc
+no_write_take e is = cc
 
 pub reads_take : (e : TakeError) → reads_script (take_status e) ≡ true
 reads_take taking.Long = refl
-reads_take taking.Failed = refl
-reads_take taking.Memory = refl
+reads_take e = refl
 
 -- its script was not read to its end
 pub HasCauses-untaken : (c : Command) (e : TakeError) (src src_now out : ℕ) {Sure Still : Type 0} → (meaning c).reads (take_status e) ≡ true → HasCause (e ≡ taking.Failed) src src_now → (Sure → (e ≢ taking.Failed) × Still)

@@ -1,6 +1,6 @@
 -- What `bound` does, from what its calls answer.
 use Rattle.std.proofs.Common.{rules}
-use Rattle.std.proofs.Common.{◌≡◌, ℕ, ◌↔◌, IsTrue, List, [], length, Option, Result, Ok, Err, IsOk, IfOk, inl, inr, refl, ap, sym, subst, ◌∙◌}
+use Rattle.std.proofs.Common.{◌≡◌, ℕ, ◌↔◌, IsTrue, List, length, Option, Result, Ok, Err, IsOk, IfOk, inl, inr, refl, ap, sym, subst, ◌∙◌}
 use Rattle.std.proofs.lemmas.Bool.{true≢false}
 use Rattle.std.specs.Int.{Width}
 use mir.Val.{bits}
@@ -27,7 +27,7 @@ use Rattle.zfpi.specs.Opened.{array_in, opened}
 use Rattle.zfpi.specs.Certified.{certified_text, certified_status}
 use Rattle.zfpi.specs.Loaded.{HoldsFile, RefusesFile}
 use Rattle.zfpi.specs.Calls.{Certifies}
-use Rattle.zfpi.specs.World.{seen}
+use Rattle.zfpi.specs.World.{ExposesInput, IsExposed, seen}
 use Rattle.zfpi.specs.Headline.{Behaves}
 use Rattle.zfpi.proofs.Rungs.{refuses}
 use Rattle.zfpi.proofs.Exposed.{some_input, Takes-none}
@@ -73,40 +73,26 @@ module _ (name : List ℕ) (most : ℕ) where
         let header : h ≡ said.header = has.header ∙ sym (header_said bytes said parsed) in
         text ∙ (ap bound_text (certified ∙ ap (λ g. certified_of g said.codes most) header) ∙ sym (ap (certified_text most) is_array))
 
+    -- some input and the file
+    exposed_so : (src out : Option (List ℕ)) (some : (input : List ℕ) × ExposesInput src input)
+        → IsExposed (seen src out known) (world_with known bytes some.0)
+    exposed_so src out some = record { input = some.1; files = ExposesFiles-with known bytes }
+
     -- the line was written
     pub Behaves-certified : (c : Certified) (line : List ℕ) (src out out_now : Option (List ℕ)) → c ≡ certified_of h said.codes most → line ≡ bound_text c → Appends out out_now line
         → Behaves (Bound name most) statuses.Done (seen src out known) (seen src out_now now)
     Behaves-certified c line src out out_now certified text written =
-        let some = some_input src in
-        record {
-          ends = tt;
-          world = world_with known bytes some.0;
-          exposed = record { input = some.1; files = ExposesFiles-with known bytes };
-          starved = [];
-          starved_are = refl;
-          stated = inl (sym (ap certified_status is_array));
-          taken = [];
-          takes = Takes-none src;
-          extent = refl;
-          written = subst (Appends out out_now) (line_is c line certified text) written;
-          saved = kept;
-        }
+        let input = some_input src in
+        let exposed = exposed_so src out input in
+        let stated = sym (ap certified_status is_array) in
+        let all = subst (Appends out out_now) (line_is c line certified text) written in
+        search (rules, Takes-none)
 
     -- a prefix of the line was
     pub Behaves-cut_certified : (c : Certified) (line : List ℕ) (src out out_now : Option (List ℕ)) → c ≡ certified_of h said.codes most → line ≡ bound_text c → AppendsPrefix out out_now line
         → Behaves (Bound name most) statuses.WriteFault (seen src out known) (seen src out_now now)
     Behaves-cut_certified c line src out out_now certified text written =
-        let some = some_input src in
-        record {
-          ends = tt;
-          world = world_with known bytes some.0;
-          exposed = record { input = some.1; files = ExposesFiles-with known bytes };
-          starved = [];
-          starved_are = refl;
-          stated = inr (subst IsOk (sym is_array) refl);
-          taken = [];
-          takes = Takes-none src;
-          extent = refl;
-          written = subst (AppendsPrefix out out_now) (line_is c line certified text) written;
-          saved = kept;
-        }
+        let exposed = exposed_so src out (some_input src) in
+        let is_open : IsOk (opened array_in (files_with known bytes name)) = subst IsOk (sym is_array) refl in
+        let prefix = subst (AppendsPrefix out out_now) (line_is c line certified text) written in
+        search (rules, Takes-none)

@@ -1,6 +1,6 @@
 -- Words that are a command are one command's.
 use Rattle.std.proofs.Common.{rules}
-use Rattle.std.proofs.Common.{◌≡◌, ℕ, ◌+◌, ◌*◌, ◌<◌, ◌≤◌, ◌^◌, List, [], ◌∷◌, ◌++◌, map, length, get_or, take, drop, Option, Some, None, codes, eqb, decimal, refl, ap, sym, subst, ◌∙◌, arith, append_assoc}
+use Rattle.std.proofs.Common.{◌≡◌, cond, ℕ, ◌+◌, ◌*◌, ◌<◌, ◌≤◌, ◌^◌, List, [], ◌∷◌, ◌++◌, map, length, get_or, take, drop, Option, Some, None, codes, eqb, decimal, refl, ap, sym, subst, ◌∙◌, arith, append_assoc}
 use Rattle.std.specs.Str.{bytes_eq}
 use Rattle.std.proofs.lemmas.Bool.{true≢false}
 use Rattle.std.proofs.lemmas.Fmt.{decimal_injective}
@@ -9,7 +9,7 @@ use Rattle.zf_base.specs.declared.lane.Ty.{Ty}
 use Rattle.zf_base.specs.declared.lane.Ty.TheVariants.{I32, I64}
 use Rattle.zf_spec.specs.Grid.{IsShape}
 use Rattle.zf_narrow.specs.declared.narrow.Narrow.{Narrow}
-use Rattle.zf_narrow.specs.declared.narrow.Narrow.TheVariants.{I8, U8, I16, U16}
+use Rattle.zf_narrow.specs.declared.narrow.Narrow.TheVariants.{I8}
 use Rattle.zf_header.specs.declared.header.Header.{Header}
 use Rattle.zf_header.specs.declared.header.Mode.{Mode}
 use Rattle.zf_header.specs.declared.header.Mode.TheVariants.{Reversible, Rate, Precision}
@@ -25,7 +25,7 @@ use Rattle.zfpi.specs.declared.words.Script.TheVariants as scripts
 use Rattle.zfpi.specs.declared.words.Stage.{Stage}
 use Rattle.zfpi.specs.declared.words.Stage.TheVariants as stages
 use Rattle.zfpi.specs.Words.{type_word, narrow_word, shape_word, mode_words, IsLines, lines_words, IsCaching, caching_words, IsOnScript, IsAskable, IsSpelled, BeginsCommand, IsUsage}
-use Rattle.zfpi.specs.Stages.{LeadsTo, IsBegun, task_words, script_word, IsRateWord, IsLinesWord, IsPrecisionWord}
+use Rattle.zfpi.specs.Stages.{LeadsTo, IsBegun, script_word, IsRateWord, IsLinesWord, IsPrecisionWord}
 use Rattle.zfpi.proofs.ShapeWords.{parts_of-shape, decimals_injective, sizes_small}
 use Rattle.zfpi.proofs.Completed.{header_with, BeginsCommand-reached}
 
@@ -44,10 +44,7 @@ type_not_narrow ty n same = omega (arith, ap (λ word. get_or word 3 0) same)
 
 narrow_word_injective : (m n : Narrow) → narrow_word m ≡ narrow_word n → m ≡ n
 narrow_word_injective I8 I8 same = refl
-narrow_word_injective U8 U8 same = refl
-narrow_word_injective I16 I16 same = refl
-narrow_word_injective U16 U16 same = refl
-narrow_word_injective m n same = absurd (omega (arith, ap length same, ap (λ word. get_or word 0 0) same))
+narrow_word_injective m n same = search (rules, ap length same, ap (λ word. get_or word 0 0) same)
 
 pub shape_word_injective : (ms ns : List ℕ) → IsShape ms → IsShape ns → shape_word ms ≡ shape_word ns → ms ≡ ns
 shape_word_injective ms ns m n same =
@@ -58,14 +55,9 @@ heads_same same = cc
 
 pub mode_words_injective : (l m : Mode) → IsMode l → IsMode m → mode_words l ≡ mode_words m → l ≡ m
 mode_words_injective Reversible Reversible a b same = refl
-mode_words_injective Reversible (Rate n) a b same = absurd (cc)
-mode_words_injective (Rate n) Reversible a b same = absurd (cc)
-mode_words_injective Reversible (Precision q) a b same = absurd (cc)
-mode_words_injective (Precision p) Reversible a b same = absurd (cc)
 mode_words_injective (Rate n) (Precision q) a b same = absurd (true≢false (ap (bytes_eq (codes "rate")) (heads_same same)))
 mode_words_injective (Precision p) (Rate n) a b same = absurd (true≢false (ap (bytes_eq (codes "precision")) (heads_same same)))
-mode_words_injective (Precision p) (Precision q) a b same = search (rules, decimal_injective)
-mode_words_injective (Rate m) (Rate n) a b same = search (rules, decimal_injective)
+mode_words_injective l m a b same = search (rules, decimal_injective)
 
 same_header : (g h : Header) → g.ty ≡ h.ty → g.shape ≡ h.shape → g.mode ≡ h.mode → g ≡ h
 same_header g h ty shape mode =
@@ -73,9 +65,7 @@ same_header g h ty shape mode =
 
 pub lines_words_injective : (l m : Option ℕ) → IsLines l → IsLines m → lines_words l ≡ lines_words m → l ≡ m
 lines_words_injective None None a b same = refl
-lines_words_injective None (Some m) a b same = absurd (cc)
-lines_words_injective (Some l) None a b same = absurd (cc)
-lines_words_injective (Some l) (Some m) a b same = search (rules, decimal_injective)
+lines_words_injective l m a b same = search (rules, decimal_injective)
 
 pub caching_words_injective : (k l : Caching) → IsCaching k → IsCaching l → caching_words k ≡ caching_words l → k ≡ l
 caching_words_injective (Direct k) (Direct l) a b same = ap Direct (lines_words_injective k l a b same)
@@ -100,16 +90,8 @@ first_word (Sample h seed) = codes "sample"
 
 begins_with : (c : Command) (words : List (List ℕ)) → IsSpelled c words → (rest : List (List ℕ)) × (words ≡ first_word c ∷ rest)
 unfolding first_word
-begins_with (Compress h) words spelled = (type_word h.ty ∷ shape_word h.shape ∷ mode_words h.mode, spelled.1)
-begins_with (CompressNarrow n h) words spelled = (narrow_word n ∷ shape_word h.shape ∷ mode_words h.mode, spelled.words_are)
 begins_with Restore words spelled = ([], spelled)
-begins_with (RestoreNarrow n) words spelled = (narrow_word n ∷ [], spelled)
-begins_with Info words spelled = ([], spelled)
-begins_with (New name ty ns b) words spelled = (name ∷ type_word ty ∷ shape_word ns ∷ decimal b ∷ [], spelled.words_are)
-begins_with (Run name caching) words spelled = (name ∷ caching_words caching, spelled.words_are)
-begins_with (Look name lines) words spelled = (name ∷ lines_words lines, spelled.words_are)
-begins_with (Bound name most) words spelled = (name ∷ decimal most ∷ [], spelled.words_are)
-begins_with (Sample h seed) words spelled = (type_word h.ty ∷ shape_word h.shape ∷ decimal seed ∷ mode_words h.mode, spelled.words_are)
+begins_with c words spelled = search rules
 
 -- the first words differ in their length or in their first letter
 mark : List ℕ → ℕ
@@ -125,53 +107,39 @@ same_mark c d words a b = let other = begins_with d words b in mark_of c words (
 same_script : (first : List ℕ) (n m : List ℕ) (k l : Caching) (words : List (List ℕ)) → IsOnScript first n k words → IsOnScript first m l words → (n ≡ m) × (k ≡ l)
 same_script first n m k l words a b = search (rules, caching_words_injective)
 
--- a cache in which each block has one line, by its lines
-same_lines : (k l : Option ℕ) → Direct k ≡ Direct l → k ≡ l
-same_lines k l same = cc
-
 -- words are those of one command at most
 pub one_command : (words : List (List ℕ)) (c d : Command) → IsSpelled c words → IsSpelled d words → c ≡ d
 unfolding first_word mark
 one_command words (Compress g) (Compress h) a b =
-    let ty : type_word g.ty ≡ type_word h.ty = cc in
-    let shape : shape_word g.shape ≡ shape_word h.shape = cc in
-    let mode : mode_words g.mode ≡ mode_words h.mode = cc in
-    ap Compress (same_header g h (type_word_injective g.ty h.ty ty) (shape_word_injective g.shape h.shape a.0.header.shape b.0.header.shape shape) (mode_words_injective g.mode h.mode a.0.header.mode b.0.header.mode mode))
+    let ty = type_word_injective g.ty h.ty (cc) in
+    let shape = shape_word_injective g.shape h.shape a.0.header.shape b.0.header.shape (cc) in
+    let mode = mode_words_injective g.mode h.mode a.0.header.mode b.0.header.mode (cc) in
+    cc (same_header g h ty shape mode)
 one_command words (CompressNarrow m g) (CompressNarrow n h) a b =
-    let narrow : narrow_word m ≡ narrow_word n = cc in
-    let shape : shape_word g.shape ≡ shape_word h.shape = cc in
-    let mode : mode_words g.mode ≡ mode_words h.mode = cc in
-    let same_shape = shape_word_injective g.shape h.shape a.asked.header.shape b.asked.header.shape shape in
-    let same_mode = mode_words_injective g.mode h.mode a.asked.header.mode b.asked.header.mode mode in
-    ap (λ x. CompressNarrow x g) (narrow_word_injective m n narrow) ∙ ap (CompressNarrow n) (same_header g h (a.typed ∙ sym b.typed) same_shape same_mode)
+    let narrow = narrow_word_injective m n (cc) in
+    let shape = shape_word_injective g.shape h.shape a.asked.header.shape b.asked.header.shape (cc) in
+    let mode = mode_words_injective g.mode h.mode a.asked.header.mode b.asked.header.mode (cc) in
+    cc (same_header g h (a.typed ∙ sym b.typed) shape mode)
 one_command words (Compress g) (CompressNarrow n h) a b = search (rules, type_not_narrow)
 one_command words (CompressNarrow n g) (Compress h) a b = search (rules, type_not_narrow)
 one_command words (New name ty ns b) (New name' ty' ns' b') a d =
-    let named : name ≡ name' = cc in
-    let typed : type_word ty ≡ type_word ty' = cc in
-    let shaped : shape_word ns ≡ shape_word ns' = cc in
-    let text : decimal b ≡ decimal b' = cc in
-    let same_type = type_word_injective ty ty' typed in
-    let same_shape = shape_word_injective ns ns' a.shape d.shape shaped in
-    let same_bits = decimal_injective b b' (omega (arith, a.rate.1)) (omega (arith, d.rate.1)) text in
-    ap (λ n. New n ty ns b) named ∙ (ap (λ t. New name' t ns b) same_type ∙ (ap (λ s. New name' ty' s b) same_shape ∙ ap (λ k. New name' ty' ns' k) same_bits))
+    let same_type = type_word_injective ty ty' (cc) in
+    let same_shape = shape_word_injective ns ns' a.shape d.shape (cc) in
+    let same_bits = decimal_injective b b' (omega (arith, a.rate.1)) (omega (arith, d.rate.1)) (cc) in
+    cc
 one_command words (Sample g n) (Sample h m) a b =
-    let ty : type_word g.ty ≡ type_word h.ty = cc in
-    let shape : shape_word g.shape ≡ shape_word h.shape = cc in
-    let text : decimal n ≡ decimal m = cc in
-    let mode : mode_words g.mode ≡ mode_words h.mode = cc in
-    let same_shape = shape_word_injective g.shape h.shape a.asked.header.shape b.asked.header.shape shape in
-    let same_mode = mode_words_injective g.mode h.mode a.asked.header.mode b.asked.header.mode mode in
-    ap (λ x. Sample x n) (same_header g h (type_word_injective g.ty h.ty ty) same_shape same_mode) ∙ ap (Sample h) (decimal_injective n m a.small b.small text)
-one_command words (Run n k) (Run m l) a b = let same = same_script (codes "run") n m k l words a b in ap (λ name. Run name k) same.0 ∙ ap (Run m) same.1
+    let ty = type_word_injective g.ty h.ty (cc) in
+    let shape = shape_word_injective g.shape h.shape a.asked.header.shape b.asked.header.shape (cc) in
+    let mode = mode_words_injective g.mode h.mode a.asked.header.mode b.asked.header.mode (cc) in
+    cc (same_header g h ty shape mode, decimal_injective n m a.small b.small (cc))
+one_command words (Run n k) (Run m l) a b = let same = same_script (codes "run") n m k l words a b in cc
 one_command words (Look n k) (Look m l) a b =
-    let same = same_script (codes "look") n m (Direct k) (Direct l) words a b in
-    ap (λ name. Look name k) same.0 ∙ ap (Look m) (same_lines k l same.1)
+    let same = same_script (codes "look") n m (Direct k) (Direct l) words a b in cc
 one_command words (Bound n k) (Bound m l) a b = search (rules, decimal_injective)
-one_command words Restore Restore a b = refl
 one_command words (RestoreNarrow m) (RestoreNarrow n) a b = search (rules, narrow_word_injective)
 one_command words Restore (RestoreNarrow n) a b = absurd (omega (arith, ap length (sym a ∙ b)))
 one_command words (RestoreNarrow m) Restore a b = absurd (omega (arith, ap length (sym a ∙ b)))
+one_command words Restore Restore a b = refl
 one_command words Info Info a b = refl
 one_command words c d a b = absurd (true≢false (ap (eqb (mark (first_word c))) (same_mark c d words a b)))
 
@@ -201,18 +169,15 @@ IsUsage-stopped words k stage lt leads stop = record {
 
 behind_rate : (m : Mode) → codes "rate" ∷ [] ≡ mode_words m → ⊥
 behind_rate Reversible same = cc
-behind_rate (Rate b) same = cc
-behind_rate (Precision p) same = cc
+behind_rate m same = cc
 
 behind_precision : (m : Mode) → codes "precision" ∷ [] ≡ mode_words m → ⊥
 behind_precision Reversible same = cc
-behind_precision (Rate b) same = cc
-behind_precision (Precision p) same = cc
+behind_precision m same = cc
 
 no_mode : (m : Mode) → [] ≡ mode_words m → ⊥
 no_mode Reversible same = cc
-no_mode (Rate b) same = cc
-no_mode (Precision p) same = cc
+no_mode m same = cc
 
 -- what is asked for where the words begin a task
 record IsAsked (ty : Ty) (ns : List ℕ) (behind : List (List ℕ)) : Type 0 where
@@ -226,22 +191,19 @@ asked h ty ns behind askable shape same_type shape_text is = search (rules, same
 -- words that begin a task are those of its command, and end with a mode
 IsAsked-begun : (task : Task) (ty : Ty) (ns : List ℕ) (behind words : List (List ℕ)) (c : Command) → IsBegun task ty ns behind words → IsSpelled c words → IsAsked ty ns behind
 unfolding first_word mark
-IsAsked-begun tasks.Compress ty ns behind words (Compress h) begun spelled = search (rules, asked, type_word_injective)
+IsAsked-begun tasks.Compress ty ns behind words (Compress h) begun spelled =
+    search (rules, asked, type_word_injective)
 IsAsked-begun (tasks.CompressNarrow n) ty ns behind words (CompressNarrow m h) begun spelled = search (rules, asked)
-IsAsked-begun tasks.Compress ty ns behind words (CompressNarrow m h) begun spelled = search (rules, type_not_narrow)
+IsAsked-begun tasks.Compress ty ns behind words (CompressNarrow m h) begun spelled =
+    search (rules, type_not_narrow)
 IsAsked-begun (tasks.CompressNarrow n) ty ns behind words (Compress h) begun spelled = search (rules, type_not_narrow)
 IsAsked-begun (tasks.Sample n) ty ns behind words (Sample h seed) begun spelled = search (rules, asked, type_word_injective)
-IsAsked-begun tasks.Compress ty ns behind words c begun spelled = absurd (omega (arith, mark_of c words (codes "compress") (type_word ty ∷ shape_word ns ∷ behind) begun.words_are spelled))
-IsAsked-begun (tasks.CompressNarrow n) ty ns behind words c begun spelled = absurd (omega (arith, mark_of c words (codes "compress") (narrow_word n ∷ shape_word ns ∷ behind) begun.words_are spelled))
-IsAsked-begun (tasks.Sample n) ty ns behind words c begun spelled = absurd (omega (arith, mark_of c words (codes "sample") (type_word ty ∷ shape_word ns ∷ decimal n ∷ behind) begun.words_are spelled))
+IsAsked-begun task ty ns behind words c begun spelled =
+    absurd (omega (arith, mark_of c words _ _ begun.words_are spelled))
 
 -- one word more behind those that begin a task, and what follows it
 IsBegun-more : (task : Task) (ty : Ty) (ns : List ℕ) (behind words : List (List ℕ)) (word : List ℕ) (rest : List (List ℕ)) → IsBegun task ty ns behind words → IsBegun task ty ns (behind ++ word ∷ rest) ((words ++ word ∷ []) ++ rest)
-IsBegun-more task ty ns behind words word rest begun = record {
-  task_is = begun.task_is;
-  shape_is = begun.shape_is;
-  words_are = append_assoc words (word ∷ []) rest ∙ (ap (λ prefix. prefix ++ word ∷ rest) begun.words_are ∙ append_assoc (task_words task ty ns) behind (word ∷ rest));
-}
+IsBegun-more task ty ns behind words word rest begun = search (rules, append_assoc)
 
 -- words on the way to a mode are no whole command
 no_asked : (task : Task) (ty : Ty) (ns : List ℕ) (behind words : List (List ℕ)) (c : Command) → IsBegun task ty ns behind words → ((m : Mode) → behind ≡ mode_words m → ⊥) → IsSpelled c words → ⊥
@@ -252,53 +214,28 @@ no_words : (words : List (List ℕ)) (c : Command) → words ≡ [] → IsSpelle
 no_words words c is spelled = let whole = begins_with c words spelled in let same = sym is ∙ whole.1 in cc
 
 -- nor are those that begin a command and are fewer than it has
-fewest : Command → ℕ
-fewest (Compress h) = 4
-fewest (CompressNarrow n h) = 4
-fewest Restore = 1
-fewest (RestoreNarrow n) = 2
-fewest Info = 1
-fewest (New name ty ns b) = 5
-fewest (Run name lines) = 2
-fewest (Look name lines) = 2
-fewest (Bound name most) = 3
-fewest (Sample h seed) = 5
+fewest : List ℕ → ℕ
+fewest word =
+    cond (bytes_eq word (codes "compress")) 4 (cond (bytes_eq word (codes "sample")) 5 (cond (bytes_eq word (codes "new")) 5
+    (cond (bytes_eq word (codes "bound")) 3 (cond (bytes_eq word (codes "run")) 2 (cond (bytes_eq word (codes "look")) 2 0)))))
 
 four_words : (typed shaped : List ℕ) (words : List (List ℕ)) (m : Mode) → words ≡ codes "compress" ∷ typed ∷ shaped ∷ mode_words m → 4 ≤ length words
 four_words typed shaped words Reversible is = omega (arith, ap length is)
-four_words typed shaped words (Rate b) is = omega (arith, ap length is)
-four_words typed shaped words (Precision p) is = omega (arith, ap length is)
+four_words typed shaped words m is = omega (arith, ap length is)
 
-enough_words : (c : Command) (words : List (List ℕ)) → IsSpelled c words → fewest c ≤ length words
-unfolding fewest
+enough_words : (c : Command) (words : List (List ℕ)) → IsSpelled c words
+    → fewest (first_word c) ≤ length words
+unfolding first_word fewest
 enough_words (Compress h) words spelled = four_words (type_word h.ty) (shape_word h.shape) words h.mode spelled.1
 enough_words (CompressNarrow n h) words spelled = four_words (narrow_word n) (shape_word h.shape) words h.mode spelled.words_are
 enough_words Restore words spelled = omega (arith, ap length spelled)
-enough_words (RestoreNarrow n) words spelled = omega (arith, ap length spelled)
-enough_words Info words spelled = omega (arith, ap length spelled)
-enough_words (New name ty ns b) words spelled = omega (arith, ap length spelled.words_are)
-enough_words (Run name lines) words spelled = omega (arith, ap length spelled.words_are)
-enough_words (Look name lines) words spelled = omega (arith, ap length spelled.words_are)
-enough_words (Bound name most) words spelled = omega (arith, ap length spelled.words_are)
-enough_words (Sample h seed) words spelled = search rules
+enough_words c words spelled = search rules
 
-few_compress : (rest words : List (List ℕ)) (c : Command) → words ≡ codes "compress" ∷ rest → length rest ≤ 1 → IsSpelled c words → ⊥
-unfolding first_word mark fewest
-few_compress rest words (Compress h) is few spelled = omega (arith, enough_words (Compress h) words spelled, ap length is)
-few_compress rest words (CompressNarrow n h) is few spelled = omega (arith, enough_words (CompressNarrow n h) words spelled, ap length is)
-few_compress rest words c is few spelled = true≢false (ap (eqb (mark (first_word c))) (mark_of c words (codes "compress") rest is spelled))
-
-few_new : (rest words : List (List ℕ)) (c : Command) → words ≡ codes "new" ∷ rest → length rest ≤ 3 → IsSpelled c words → ⊥
-unfolding first_word mark fewest
-few_new rest words (New n t s k) is few spelled = omega (arith, enough_words (New n t s k) words spelled, ap length is)
-few_new rest words c is few spelled = true≢false (ap (eqb (mark (first_word c))) (mark_of c words (codes "new") rest is spelled))
-
-few_script : (script : Script) (words : List (List ℕ)) (c : Command) → words ≡ script_word script ∷ [] → IsSpelled c words → ⊥
-unfolding first_word mark fewest
-few_script scripts.Run words (Run n l) is spelled = omega (arith, enough_words (Run n l) words spelled, ap length is)
-few_script scripts.Look words (Look n l) is spelled = omega (arith, enough_words (Look n l) words spelled, ap length is)
-few_script scripts.Run words c is spelled = omega (arith, mark_of c words (codes "run") [] is spelled)
-few_script scripts.Look words c is spelled = omega (arith, mark_of c words (codes "look") [] is spelled)
+too_few : (word : List ℕ) (rest words : List (List ℕ)) (c : Command) → words ≡ word ∷ rest → IsSpelled c words
+    → length rest + 2 ≤ fewest word → ⊥
+too_few word rest words c is spelled few =
+    let first = ap fewest (heads_same (sym (begins_with c words spelled).1 ∙ is)) in
+    omega (arith, enough_words c words spelled, ap length is)
 
 -- such a script can have this cache: only a run has one in which each block has two lines
 Has : Script → Caching → Type 0
@@ -336,38 +273,13 @@ IsLinesWord-begun_twoway name words word is (c, rest, spelled) = search (rules, 
 pub IsLinesWord-number : (l n : ℕ) (word : List ℕ) → IsLinesWord l word → n < 2 ^ 64 → word ≡ decimal n → l ≡ n
 IsLinesWord-number l n word is small text = decimal_injective l n (omega (arith, is.lines.1)) small (sym is.text ∙ text)
 
-few_bound : (rest words : List (List ℕ)) (c : Command) → words ≡ codes "bound" ∷ rest → length rest ≤ 1 → IsSpelled c words → ⊥
-unfolding first_word mark fewest
-few_bound rest words (Bound n k) is few spelled = omega (arith, enough_words (Bound n k) words spelled, ap length is)
-few_bound rest words c is few spelled = true≢false (ap (eqb (mark (first_word c))) (mark_of c words (codes "bound") rest is spelled))
-
-few_sample : (rest words : List (List ℕ)) (c : Command) → words ≡ codes "sample" ∷ rest → length rest ≤ 2 → IsSpelled c words → ⊥
-unfolding first_word mark fewest
-few_sample rest words (Sample h n) is few spelled = omega (arith, enough_words (Sample h n) words spelled, ap length is)
-few_sample rest words c is few spelled = true≢false (ap (eqb (mark (first_word c))) (mark_of c words (codes "sample") rest is spelled))
-
 -- a whole command leads to its stage alone
 whole_at_end : (words : List (List ℕ)) (stage : Stage) (c : Command) → LeadsTo words stage → IsSpelled c words → (d : Command) × (stage ≡ stages.Whole d)
-whole_at_end words stages.Start c leads spelled = absurd (no_words words c leads spelled)
-whole_at_end words stages.Compressing c leads spelled = absurd (few_compress [] words c leads (omega arith) spelled)
-whole_at_end words (stages.Typed ty) c leads spelled = absurd (few_compress (type_word ty ∷ []) words c leads (omega arith) spelled)
-whole_at_end words (stages.TypedNarrow n) c leads spelled = absurd (few_compress (narrow_word n ∷ []) words c leads (omega arith) spelled)
-whole_at_end words stages.Sampling c leads spelled = absurd (few_sample [] words c leads (omega arith) spelled)
-whole_at_end words (stages.SampleTyped ty) c leads spelled = absurd (few_sample (type_word ty ∷ []) words c leads (omega arith) spelled)
-whole_at_end words (stages.SampleShaped ty ns) c leads spelled = absurd (few_sample (type_word ty ∷ shape_word ns ∷ []) words c leads.1 (omega arith) spelled)
-whole_at_end words (stages.Shaped task ty ns) c leads spelled = absurd (no_asked task ty ns [] words c leads no_mode spelled)
-whole_at_end words (stages.AtRate task ty ns) c leads spelled = absurd (no_asked task ty ns (codes "rate" ∷ []) words c leads behind_rate spelled)
-whole_at_end words (stages.AtPrecision task ty ns) c leads spelled = absurd (no_asked task ty ns (codes "precision" ∷ []) words c leads behind_precision spelled)
-whole_at_end words stages.Making c leads spelled = absurd (few_new [] words c leads (omega arith) spelled)
-whole_at_end words (stages.Named name) c leads spelled = absurd (few_new (name ∷ []) words c leads.1 (omega arith) spelled)
-whole_at_end words (stages.NamedTyped name ty) c leads spelled = absurd (few_new (name ∷ type_word ty ∷ []) words c leads.1 (omega arith) spelled)
-whole_at_end words (stages.NamedShaped name ty ns) c leads spelled = absurd (few_new (name ∷ type_word ty ∷ shape_word ns ∷ []) words c leads.2 (omega arith) spelled)
-whole_at_end words (stages.Scripting script) c leads spelled = absurd (few_script script words c leads spelled)
-whole_at_end words (stages.AtLines script name) c leads spelled = search (rules, HasCaching-begun)
-whole_at_end words (stages.AtTwoWay name) c leads spelled = search (rules, HasCaching-begun)
-whole_at_end words stages.Bounding c leads spelled = absurd (few_bound [] words c leads (omega arith) spelled)
-whole_at_end words (stages.AtMost name) c leads spelled = absurd (few_bound (name ∷ []) words c leads.1 (omega arith) spelled)
+unfolding fewest
 whole_at_end words (stages.Whole d) c leads spelled = (d, refl)
+whole_at_end words (stages.Scripting scripts.Run) c leads spelled = search (rules, too_few)
+whole_at_end words stage c leads spelled =
+    search (rules, no_words, too_few, no_asked, no_mode, behind_rate, behind_precision, HasCaching-begun)
 
 pub IsUsage-ended : (words : List (List ℕ)) (n : ℕ) (stage : Stage) → n ≡ length words → LeadsTo words stage → ((d : Command) → stage ≡ stages.Whole d → ⊥) → IsUsage words n
 IsUsage-ended words n stage all leads not_whole = record {

@@ -1,6 +1,6 @@
 -- Each stage that is reached can be completed to a command.
 use Rattle.std.proofs.Common.{rules}
-use Rattle.std.proofs.Common.{◌≡◌, ℕ, ◌≤◌, List, [], ◌∷◌, ◌++◌, Option, Some, None, codes, decimal, refl, ap, sym, subst, arith, lit≤, lit<}
+use Rattle.std.proofs.Common.{◌∙◌, ◌≡◌, ℕ, ◌≤◌, List, [], ◌∷◌, ◌++◌, Option, Some, None, codes, decimal, refl, ap, sym, subst, arith, lit≤, lit<}
 use Rattle.std.proofs.lemmas.List.{append-nil}
 use Rattle.zf_base.specs.declared.lane.Ty.{Ty}
 use Rattle.zf_base.specs.declared.lane.Ty.TheVariants.{I32}
@@ -55,70 +55,83 @@ IsSpelled-task (tasks.Sample seed) h words task askable is = record { asked = as
 pub IsSpelled-begun : (task : Task) (h : Header) (prefix behind words : List (List ℕ)) → IsBegun task h.ty h.shape prefix words → IsAskable h → mode_words h.mode ≡ prefix ++ behind → IsSpelled (command_of task h) (words ++ behind)
 IsSpelled-begun task h prefix behind words begun askable is = search (rules, IsSpelled-task)
 
--- an array of this name, type and shape can be made with one bit a block
+-- one letter is a name
 one_letter : IsName (97 ∷ [])
 one_letter = record { begins = refl; letters = refl; short = lit≤ tt }
-
-made_of_one_bit : (name : List ℕ) (ty : Ty) (ns : List ℕ) (words : List (List ℕ)) → IsName name → IsShape ns → words ≡ codes "new" ∷ name ∷ type_word ty ∷ shape_word ns ∷ decimal 1 ∷ [] → IsSpelled (New name ty ns 1) words
-made_of_one_bit name ty ns words named shape is = record { named = named; shape = shape; rate = (lit≤ tt, lit≤ tt); fits = rate_one_fits ty ns shape; words_are = is }
-
--- an array of this type and shape can be made of the number zero
-sampled : (ty : Ty) (ns : List ℕ) (words : List (List ℕ)) → IsShape ns → words ≡ codes "sample" ∷ type_word ty ∷ shape_word ns ∷ decimal 0 ∷ codes "reversible" ∷ [] → IsSpelled (Sample (header_with ty ns Reversible) 0) words
-sampled ty ns words shape is = record { asked = askable_reversible ty ns shape; small = lit< tt; words_are = is }
 
 -- a script can be run on a file, or looks at it
 pub IsSpelled-script : (script : Script) (name : List ℕ) (lines : Option ℕ) (words : List (List ℕ)) → IsName name → IsLines lines → words ≡ script_word script ∷ name ∷ lines_words lines → IsSpelled (script_command script name lines) words
 IsSpelled-script scripts.Run name lines words named in_range is = record { named = named; caching_is = in_range; words_are = is }
 IsSpelled-script scripts.Look name lines words named in_range is = record { named = named; caching_is = in_range; words_are = is }
 
+-- words that are all but the last ones of a command begin it
+begins_task : (task : Task) (ty : Ty) (ns : List ℕ) (m : Mode) (words prefix behind : List (List ℕ))
+    → IsBegun task ty ns prefix words
+    → IsAskable (header_with ty ns m) → mode_words m ≡ prefix ++ behind → BeginsCommand words
+begins_task task ty ns m words prefix behind begun askable is =
+    let h = header_with ty ns m in
+    (command_of task h, behind, IsSpelled-begun task h prefix behind words begun askable is)
+
+begins_compress : (ty : Ty) (words prefix rest : List (List ℕ)) → words ≡ prefix
+    → prefix ++ rest ≡ compress_words (header_with ty (1 ∷ []) Reversible) → BeginsCommand words
+begins_compress ty words prefix rest is whole =
+    let h = header_with ty (1 ∷ []) Reversible in
+    (Compress h, rest, (askable_reversible ty (1 ∷ []) one_value, ap (λ p. p ++ rest) is ∙ whole))
+
+begins_sample : (ty : Ty) (ns : List ℕ) (words prefix rest : List (List ℕ)) → IsShape ns → words ≡ prefix
+    → prefix ++ rest ≡ codes "sample" ∷ type_word ty ∷ shape_word ns ∷ decimal 0 ∷ codes "reversible" ∷ []
+    → BeginsCommand words
+begins_sample ty ns words prefix rest shape is whole =
+    let askable = askable_reversible ty ns shape in
+    let words_are = ap (λ p. p ++ rest) is ∙ whole in
+    (Sample (header_with ty ns Reversible) 0, rest, record { asked = askable; small = lit< tt; words_are = words_are })
+
+begins_new : (name : List ℕ) (ty : Ty) (ns : List ℕ) (words prefix rest : List (List ℕ)) → IsName name
+    → IsShape ns → words ≡ prefix
+    → prefix ++ rest ≡ codes "new" ∷ name ∷ type_word ty ∷ shape_word ns ∷ decimal 1 ∷ []
+    → BeginsCommand words
+begins_new name ty ns words prefix rest named shape is whole =
+    let words_are = ap (λ p. p ++ rest) is ∙ whole in
+    let fits = rate_one_fits ty ns shape in
+    (New name ty ns 1, rest, record { named = named; shape = shape; rate = (lit≤ tt, lit≤ tt); fits = fits; words_are = words_are })
+
+begins_script : (script : Script) (name : List ℕ) (lines : Option ℕ) (words prefix rest : List (List ℕ))
+    → IsName name → IsLines lines
+    → words ≡ prefix → prefix ++ rest ≡ script_word script ∷ name ∷ lines_words lines → BeginsCommand words
+begins_script script name lines words prefix rest named in_range is whole =
+    let words_are = ap (λ p. p ++ rest) is ∙ whole in
+    (script_command script name lines, rest, IsSpelled-script script name lines (words ++ rest) named in_range words_are)
+
 -- the words that lead to a stage begin a command
 pub BeginsCommand-reached : (words : List (List ℕ)) (stage : Stage) → LeadsTo words stage → BeginsCommand words
-BeginsCommand-reached words stages.Start is =
-    let h = header_with I32 (1 ∷ []) Reversible in
-    (Compress h, compress_words h, (askable_reversible I32 (1 ∷ []) one_value, ap (λ prefix. prefix ++ compress_words h) is))
-BeginsCommand-reached words stages.Compressing is =
-    (Compress (header_with I32 (1 ∷ []) Reversible), codes "int32" ∷ shape_word (1 ∷ []) ∷ codes "reversible" ∷ [], (askable_reversible I32 (1 ∷ []) one_value, ap (λ prefix. prefix ++ codes "int32" ∷ shape_word (1 ∷ []) ∷ codes "reversible" ∷ []) is))
-BeginsCommand-reached words (stages.Typed ty) is =
-    (Compress (header_with ty (1 ∷ []) Reversible), shape_word (1 ∷ []) ∷ codes "reversible" ∷ [], (askable_reversible ty (1 ∷ []) one_value, ap (λ prefix. prefix ++ shape_word (1 ∷ []) ∷ codes "reversible" ∷ []) is))
+BeginsCommand-reached words stages.Start is = begins_compress I32 words _ _ is refl
+BeginsCommand-reached words stages.Compressing is = begins_compress I32 words _ _ is refl
+BeginsCommand-reached words (stages.Typed ty) is = begins_compress ty words _ _ is refl
 BeginsCommand-reached words (stages.TypedNarrow n) is =
     let rest = shape_word (1 ∷ []) ∷ codes "reversible" ∷ [] in
     (CompressNarrow n (header_with I32 (1 ∷ []) Reversible), rest, record { asked = askable_reversible I32 (1 ∷ []) one_value; typed = refl; words_are = ap (λ prefix. prefix ++ rest) is })
-BeginsCommand-reached words stages.Sampling is =
-    let rest = codes "int32" ∷ shape_word (1 ∷ []) ∷ decimal 0 ∷ codes "reversible" ∷ [] in
-    (Sample (header_with I32 (1 ∷ []) Reversible) 0, rest, sampled I32 (1 ∷ []) (words ++ rest) one_value (ap (λ prefix. prefix ++ rest) is))
-BeginsCommand-reached words (stages.SampleTyped ty) is =
-    let rest = shape_word (1 ∷ []) ∷ decimal 0 ∷ codes "reversible" ∷ [] in
-    (Sample (header_with ty (1 ∷ []) Reversible) 0, rest, sampled ty (1 ∷ []) (words ++ rest) one_value (ap (λ prefix. prefix ++ rest) is))
+BeginsCommand-reached words stages.Sampling is = begins_sample I32 (1 ∷ []) words _ _ one_value is refl
+BeginsCommand-reached words (stages.SampleTyped ty) is = begins_sample ty (1 ∷ []) words _ _ one_value is refl
 BeginsCommand-reached words (stages.SampleShaped ty ns) leads =
-    let rest = decimal 0 ∷ codes "reversible" ∷ [] in
-    (Sample (header_with ty ns Reversible) 0, rest, sampled ty ns (words ++ rest) leads.0 (ap (λ prefix. prefix ++ rest) leads.1))
+    begins_sample ty ns words _ _ leads.0 leads.1 refl
 BeginsCommand-reached words (stages.Shaped task ty ns) leads =
-    let h = header_with ty ns Reversible in
-    (command_of task h, codes "reversible" ∷ [], IsSpelled-begun task h [] (codes "reversible" ∷ []) words leads (askable_reversible ty ns leads.shape_is) refl)
+    begins_task task ty ns Reversible words _ _ leads (askable_reversible ty ns leads.shape_is) refl
 BeginsCommand-reached words (stages.AtRate task ty ns) leads =
-    let h = header_with ty ns (Rate 1) in
-    (command_of task h, decimal 1 ∷ [], IsSpelled-begun task h (codes "rate" ∷ []) (decimal 1 ∷ []) words leads (askable_rate_one ty ns leads.shape_is) refl)
+    begins_task task ty ns (Rate 1) words _ _ leads (askable_rate_one ty ns leads.shape_is) refl
 BeginsCommand-reached words (stages.AtPrecision task ty ns) leads =
-    let h = header_with ty ns (Precision 1) in
-    (command_of task h, decimal 1 ∷ [], IsSpelled-begun task h (codes "precision" ∷ []) (decimal 1 ∷ []) words leads (askable_precision_one ty ns leads.shape_is) refl)
+    begins_task task ty ns (Precision 1) words _ _ leads (askable_precision_one ty ns leads.shape_is) refl
 BeginsCommand-reached words stages.Making is =
-    let rest = (97 ∷ []) ∷ type_word I32 ∷ shape_word (1 ∷ []) ∷ decimal 1 ∷ [] in
-    (New (97 ∷ []) I32 (1 ∷ []) 1, rest, made_of_one_bit (97 ∷ []) I32 (1 ∷ []) (words ++ rest) one_letter one_value (ap (λ prefix. prefix ++ rest) is))
+    begins_new (97 ∷ []) I32 (1 ∷ []) words _ _ one_letter one_value is refl
 BeginsCommand-reached words (stages.Named name) leads =
-    let rest = type_word I32 ∷ shape_word (1 ∷ []) ∷ decimal 1 ∷ [] in
-    (New name I32 (1 ∷ []) 1, rest, made_of_one_bit name I32 (1 ∷ []) (words ++ rest) leads.0 one_value (ap (λ prefix. prefix ++ rest) leads.1))
+    begins_new name I32 (1 ∷ []) words _ _ leads.0 one_value leads.1 refl
 BeginsCommand-reached words (stages.NamedTyped name ty) leads =
-    let rest = shape_word (1 ∷ []) ∷ decimal 1 ∷ [] in
-    (New name ty (1 ∷ []) 1, rest, made_of_one_bit name ty (1 ∷ []) (words ++ rest) leads.0 one_value (ap (λ prefix. prefix ++ rest) leads.1))
+    begins_new name ty (1 ∷ []) words _ _ leads.0 one_value leads.1 refl
 BeginsCommand-reached words (stages.NamedShaped name ty ns) leads =
-    let rest = decimal 1 ∷ [] in
-    (New name ty ns 1, rest, made_of_one_bit name ty ns (words ++ rest) leads.0 leads.1 (ap (λ prefix. prefix ++ rest) leads.2))
+    begins_new name ty ns words _ _ leads.0 leads.1 leads.2 refl
 BeginsCommand-reached words (stages.Scripting script) is =
-    let rest = (97 ∷ []) ∷ [] in
-    (script_command script (97 ∷ []) None, rest, IsSpelled-script script (97 ∷ []) None (words ++ rest) one_letter tt (ap (λ prefix. prefix ++ rest) is))
+    begins_script script (97 ∷ []) None words _ _ one_letter tt is refl
 BeginsCommand-reached words (stages.AtLines script name) leads =
-    let rest = decimal 1 ∷ [] in
-    (script_command script name (Some 1), rest, IsSpelled-script script name (Some 1) (words ++ rest) leads.0 (lit≤ tt, lit≤ tt) (ap (λ prefix. prefix ++ rest) leads.1))
+    begins_script script name (Some 1) words _ _ leads.0 (lit≤ tt, lit≤ tt) leads.1 refl
 BeginsCommand-reached words (stages.AtTwoWay name) leads =
     let rest = decimal 1 ∷ [] in
     (Run name (TwoWay 1), rest, record { named = leads.0; caching_is = (lit≤ tt, lit≤ tt); words_are = ap (λ prefix. prefix ++ rest) leads.1 })
@@ -128,4 +141,5 @@ BeginsCommand-reached words stages.Bounding is =
 BeginsCommand-reached words (stages.AtMost name) leads =
     let rest = decimal 0 ∷ [] in
     (Bound name 0, rest, record { named = leads.0; small = lit< tt; words_are = ap (λ prefix. prefix ++ rest) leads.1 })
-BeginsCommand-reached words (stages.Whole c) spelled = (c, [], subst (IsSpelled c) (sym (append-nil words)) spelled)
+BeginsCommand-reached words (stages.Whole c) spelled =
+    (c, [], subst (IsSpelled c) (sym (append-nil words)) spelled)

@@ -2,7 +2,7 @@
 use Rattle.std.proofs.Common.{rules}
 use Rattle.std.proofs.Common.{◌≡◌, ◌≢◌, ℕ, ◌≤◌, true, false, List, [], take, inl, inr, Option, None, Result, Ok, Err, IsOk, IsErr, refl, subst, append-nil, arith}
 use Rattle.std.specs.Prelude.{OnOk}
-use Rattle.std.proofs.lemmas.Bool.{false≢true}
+use Rattle.std.proofs.lemmas.Bool.{false≢true, true≢false}
 use Rattle.zf_dev.specs.Faults.{IsQuiet, HasCause}
 use Rattle.zf_dev.specs.declared.faults.Failed.{Failed}
 use Rattle.zf_dev.specs.declared.faults.LoadError.{LoadError}
@@ -15,9 +15,9 @@ use Rattle.zf_dev.specs.declared.shelf.Shelf.{Ghosts as Shelf}
 use Rattle.zf_dev.proofs.Appending.{Appends-append, AppendsPrefix-all}
 use Rattle.zf_parse.specs.Parsing.{Said}
 use Rattle.zfpi.specs.declared.status.Status.{Status}
-use Rattle.zfpi.specs.declared.status.Status.TheVariants.{Done, Lines, WriteFault, LoadFault, SaveFault}
+use Rattle.zfpi.specs.declared.status.Status.TheVariants.{Done, WriteFault, LoadFault, SaveFault}
 use Rattle.zfpi.specs.declared.command.Command.{Command}
-use Rattle.zfpi.specs.declared.command.Command.TheVariants.{Compress, CompressNarrow, Restore, RestoreNarrow, Info, New, Run, Look, Bound, Sample}
+use Rattle.zfpi.specs.declared.command.Command.TheVariants.{Restore, New, Run, Look, Bound}
 use Rattle.zfpi.specs.Faults.{load_status}
 use Rattle.zfpi.specs.Opened.{array_in, opened}
 use Rattle.zfpi.specs.Certified.{certified_status}
@@ -42,9 +42,7 @@ prefix_stays before mid now text prefix stays = (prefix.0, prefix.1, Appends-sta
 
 Writes-stays : (status : Status) (text draft : List ℕ) (before mid now : Option (List ℕ)) → Appends mid now [] → Writes status text draft before mid → Writes status text draft before now
 Writes-stays Done text draft before mid now stays written = Appends-stays before mid now text written stays
-Writes-stays (Lines n) text draft before mid now stays written = Appends-stays before mid now text written stays
-Writes-stays SaveFault text draft before mid now stays written = Appends-stays before mid now text written stays
-Writes-stays status text draft before mid now stays written = prefix_stays before mid now draft written stays
+Writes-stays status text draft before mid now stays written = search (rules, Appends-stays, prefix_stays)
 
 pub Behaves-stays : (c : Command) (status : Status) (before : Seen) (src mid now : Option (List ℕ)) (shelf : Option Files) → Appends mid now [] → Behaves c status before (seen src mid shelf) → Behaves c status before (seen src now shelf)
 Behaves-stays c status before src mid now shelf stays b = search (rules, Writes-stays)
@@ -65,88 +63,52 @@ first_undone = by_first (λ s. IsDone s → ⊥) (λ no. no) (λ no. no) (λ no.
 certified_done : (file : Result Said Status) (status : Status) → IsRefusal ComesFirst file → IsDone status → status ≡ certified_status file → IsOk file
 unfolding IsRefusal
 certified_done (Ok said) status refusal done same = refl
-certified_done (Err e) status refusal done same = absurd (first_undone e refusal (subst IsDone same done))
+certified_done (Err e) status refusal done same = search (rules, first_undone)
 
 -- a write fault in the place of a status, with all that was written
 instead : (c : Command) (status : Status) (before now : Seen) (b : Behaves c status before now) → OfUsed (meaning c).writes ((meaning c).works b.world) → (meaning c).starved_are WriteFault b.world b.starved → (meaning c).extent WriteFault b.world.input b.taken
     → Appends before.out now.out ((meaning c).draft WriteFault ((meaning c).text b.world b.starved b.taken)) → Saves ((meaning c).saved b.world b.starved) WriteFault before.shelf now.shelf → Behaves c WriteFault before now
-instead c status before now b may starved_are extent written saved = record {
-  ends = tt;
-  world = b.world;
-  exposed = b.exposed;
-  starved = b.starved;
-  starved_are = starved_are;
-  stated = inr may;
-  taken = b.taken;
-  takes = b.takes;
-  extent = extent;
-  written = AppendsPrefix-all before.out now.out ((meaning c).draft WriteFault ((meaning c).text b.world b.starved b.taken)) written;
-  saved = saved;
-}
+instead c status before now b may starved_are extent written saved = search (rules, AppendsPrefix-all)
 
 -- the status was stated, since no work that was done comes from outside
 stated_done : (c : Command) (status : Status) (before now : Seen) → IsDone status → (b : Behaves c status before now) → status ≡ (meaning c).status b.world b.starved
-stated_done c Done before now done b = elim b.stated [ inl same ↦ same | inr may ↦ absurd may ]
-stated_done c (Lines n) before now done b = elim b.stated [ inl same ↦ same | inr may ↦ absurd may ]
-stated_done c status before now done b = absurd done
+stated_done c Done before now done b = search rules
+stated_done c status before now done b = search rules
 
 unsent : (c : Command) (status : Status) (before now : Seen) → IsSentAfter c → IsDone status → Behaves c status before now → Behaves c WriteFault before now
-unsent (Compress h) Done before now unsaved done b = instead (Compress h) Done before now b tt b.starved_are tt b.written b.saved
-unsent (CompressNarrow n h) Done before now unsaved done b = instead (CompressNarrow n h) Done before now b tt b.starved_are tt b.written b.saved
-unsent Restore Done before now unsaved done b = instead Restore Done before now b tt b.starved_are tt b.written b.saved
-unsent (RestoreNarrow n) Done before now unsaved done b = instead (RestoreNarrow n) Done before now b tt b.starved_are tt b.written b.saved
-unsent Info Done before now unsaved done b = instead Info Done before now b tt b.starved_are b.extent b.written b.saved
 unsent (Bound name most) Done before now unsaved done b =
     let may = certified_done (opened array_in (b.world.files name)) Done (opened_first_array (b.world.files name)) tt (stated_done (Bound name most) Done before now tt b) in
     instead (Bound name most) Done before now b may b.starved_are b.extent b.written b.saved
-unsent (Sample h seed) Done before now unsaved done b = instead (Sample h seed) Done before now b tt b.starved_are b.extent b.written b.saved
 unsent (New name ty ns bits) status before now unsaved done b = absurd unsaved
 unsent (Run name caching) status before now unsaved done b = absurd unsaved
 unsent (Look name lines) status before now unsaved done b = absurd unsaved
-unsent (Compress h) (Lines n) before now unsaved done b = absurd (IsPossible-behaves (Compress h) (Lines n) before now b)
-unsent (CompressNarrow k h) (Lines n) before now unsaved done b = absurd (IsPossible-behaves (CompressNarrow k h) (Lines n) before now b)
-unsent Restore (Lines n) before now unsaved done b = absurd (IsPossible-behaves Restore (Lines n) before now b)
-unsent (RestoreNarrow k) (Lines n) before now unsaved done b = absurd (IsPossible-behaves (RestoreNarrow k) (Lines n) before now b)
-unsent Info (Lines n) before now unsaved done b = absurd (IsPossible-behaves Info (Lines n) before now b)
-unsent (Bound name most) (Lines n) before now unsaved done b = absurd (IsPossible-behaves (Bound name most) (Lines n) before now b)
-unsent (Sample h seed) (Lines n) before now unsaved done b = absurd (IsPossible-behaves (Sample h seed) (Lines n) before now b)
-unsent c status before now unsaved done b = absurd done
+unsent c Done before now unsaved done b =
+    instead c Done before now b tt b.starved_are (search rules) b.written b.saved
+unsent c status before now unsaved done b = search (rules, IsPossible-behaves)
 
 -- a command that loads nothing ends with no fault of a load
 no_load : (c : Command) → (meaning c).loads ≡ false → IsPossible c LoadFault → ⊥
-no_load (Run name caching) none may = absurd (cc)
-no_load (Look name lines) none may = absurd (cc)
-no_load (Bound name most) none may = absurd (cc)
-no_load c none may = may
+no_load Restore none may = may
+no_load c none may = search (rules, true≢false)
 
 -- and they never end with a fault of a save
 no_save : (c : Command) → IsSentAfter c → IsPossible c SaveFault → ⊥
-no_save (New name ty ns b) unsaved may = unsaved
-no_save (Run name caching) unsaved may = unsaved
-no_save (Look name lines) unsaved may = unsaved
-no_save c unsaved may = may
+no_save Restore unsaved may = may
+no_save c unsaved may = search rules
 
 done_work : (c : Command) (status : Status) → IsSentAfter c → IsPossible c status → is_work_done status ≡ true → IsDone status
 done_work c Done unsaved may work = tt
-done_work c (Lines n) unsaved may work = tt
-done_work c SaveFault unsaved may work = absurd (no_save c unsaved may)
-done_work c status unsaved may work = absurd (cc)
+done_work c status unsaved may work = search (rules, no_save, false≢true)
 
 -- a sink that they write to may have had a fault
 writes_used : (c : Command) → IsSentAfter c → (before now : ℕ) → IsIdle (meaning c).writes before now
-writes_used (New name ty ns b) unsaved before now = absurd unsaved
-writes_used (Run name caching) unsaved before now = absurd unsaved
-writes_used (Look name lines) unsaved before now = absurd unsaved
-writes_used c unsaved before now = tt
+writes_used Restore unsaved before now = tt
+writes_used c unsaved before now = search rules
 
 -- where they may have come to the source by a status, they may have by a write fault
 reads_cut : (c : Command) → IsSentAfter c → (status : Status) (m n : ℕ) → IsIdle ((meaning c).reads status) m n → IsIdle ((meaning c).reads WriteFault) m n
-reads_cut (New name ty ns b) unsaved status m n idle = absurd unsaved
-reads_cut (Run name caching) unsaved status m n idle = absurd unsaved
-reads_cut (Look name lines) unsaved status m n idle = absurd unsaved
-reads_cut (Bound name most) unsaved status m n idle = idle
-reads_cut (Sample h seed) unsaved status m n idle = idle
-reads_cut c unsaved status m n idle = tt
+reads_cut Restore unsaved status m n idle = tt
+reads_cut c unsaved status m n idle = search rules
 
 module _ (c : Command) (status ended : Status) (unsaved : IsSentAfter c) where
   -- what such a command did once what it wrote was handed on

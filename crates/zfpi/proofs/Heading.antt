@@ -19,7 +19,7 @@ use Rattle.zfpi.specs.declared.command.Command.TheVariants.{Info}
 use Rattle.zfpi.specs.Faults.{fault_status, header_status}
 use Rattle.zfpi.specs.Info.{info_line, info_text, TakesHeader}
 use Rattle.zfpi.specs.World.{World, ExposesInput, seen}
-use Rattle.zfpi.specs.Answer.{MayFail, cut_draft}
+use Rattle.zfpi.specs.Answer.{meaning, MayFail, cut_draft}
 use Rattle.zfpi.specs.Headline.{IsOfCommand, Writes, Behaves}
 use Rattle.zfpi.proofs.Exposed.{some_input, world_of, ExposesFiles-same, KeepsFiles-none}
 
@@ -44,19 +44,9 @@ Behaves-first : (status : Status) (bytes : List ℕ) (src_before src_now out_bef
 Behaves-first status bytes src_before src_now out_before out_now shelf ends first stated extent written =
     let b = begins src_before bytes first.first first.within in
     let w = world_of b.input shelf in
-    record {
-      ends = ends;
-      world = w;
-      exposed = record { input = b.exposed; files = ExposesFiles-same shelf };
-      starved = [];
-      starved_are = refl;
-      stated = search rules;
-      taken = bytes;
-      takes = first.taken;
-      extent = extent b.input b.first;
-      written = written;
-      saved = KeepsFiles-none shelf;
-    }
+    let stated_so : (status ≡ (meaning Info).status w []) ⊎ MayFail status Info w = search rules in
+    let header = extent b.input b.first in
+    search (rules, ExposesFiles-same, KeepsFiles-none)
 
 -- the line was written
 pub Behaves-line : (h : Header) (bits : ℕ) (line : List ℕ) (src_before src_now out_before out_now : Option (List ℕ)) (shelf : Option Files) → ReadsHeader src_before src_now h bits → line ≡ info_line h → Appends out_before out_now line

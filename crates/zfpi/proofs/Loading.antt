@@ -35,15 +35,7 @@ ComesFirst status = FileEnds status
 pub by_first : (P : Status → Type 0) → P statuses.Missing → P statuses.FileLong → P statuses.LoadFault → ((f : _) → P (statuses.Header f)) → ((b : ℕ) → P (statuses.Truncated b)) → P statuses.Pad → P statuses.Trailing → P statuses.Memory
     → ((m : ℕ) → P (statuses.NotRate m)) → (status : Status) → ComesFirst status → P status
 by_first P missing long load header truncated pad trailing memory no_rate statuses.Missing first = missing
-by_first P missing long load header truncated pad trailing memory no_rate statuses.FileLong first = long
-by_first P missing long load header truncated pad trailing memory no_rate statuses.LoadFault first = load
-by_first P missing long load header truncated pad trailing memory no_rate (statuses.Header f) first = header f
-by_first P missing long load header truncated pad trailing memory no_rate (statuses.Truncated b) first = truncated b
-by_first P missing long load header truncated pad trailing memory no_rate statuses.Pad first = pad
-by_first P missing long load header truncated pad trailing memory no_rate statuses.Trailing first = trailing
-by_first P missing long load header truncated pad trailing memory no_rate statuses.Memory first = memory
-by_first P missing long load header truncated pad trailing memory no_rate (statuses.NotRate m) first = no_rate m
-by_first P missing long load header truncated pad trailing memory no_rate status first = absurd (first_of (assumption first, cc))
+by_first P missing long load header truncated pad trailing memory no_rate status first = search rules
 
 -- no fault of an index is one of a device, and each comes before anything is read
 pub ComesFirst-index : (e : IndexFault) → ComesFirst (index_status e)
@@ -75,9 +67,7 @@ Unsaved status = Unit {0}
 pub Saves-unsaved : (file : Option (List ℕ × List ℕ)) (status : Status) (before now : Option Files) → Unsaved status → KeepsFiles before now → Saves file status before now
 Saves-unsaved None status before now un kept = kept
 Saves-unsaved (Some f) statuses.Done before now un kept = absurd un
-Saves-unsaved (Some f) (statuses.Lines n) before now un kept = absurd un
-Saves-unsaved (Some f) statuses.SaveFault before now un kept = absurd un
-Saves-unsaved (Some f) status before now un kept = kept
+Saves-unsaved (Some f) status before now un kept = search rules
 
 Unsaved-first : (status : Status) → ComesFirst status → Unsaved status
 Unsaved-first = by_first Unsaved tt tt tt (λ f. tt) (λ b. tt) tt tt tt (λ m. tt)
@@ -97,15 +87,13 @@ KeepsOthers-kept (Some x) (Some y) None name a b = b
 KeepsOthers-kept (Some x) (Some y) (Some z) name a b = λ other not. b other not ∙ a other
 
 SavesFile-kept : (before mid now : Option Files) (name bytes : List ℕ) → KeepsFiles before mid → SavesFile mid now name bytes → SavesFile before now name bytes
-SavesFile-kept before mid now name bytes kept saves = record { saved = saves.saved; others = KeepsOthers-kept before mid now name kept saves.others }
+SavesFile-kept before mid now name bytes kept saves = search (rules, KeepsOthers-kept)
 
 -- what is saved of files that were kept before is saved of those
 pub Saves-kept : (file : Option (List ℕ × List ℕ)) (status : Status) (before mid now : Option Files) → KeepsFiles before mid → Saves file status mid now → Saves file status before now
 Saves-kept None status before mid now kept saves = KeepsFiles-kept before mid now kept saves
-Saves-kept (Some f) statuses.Done before mid now kept saves = SavesFile-kept before mid now f.0 f.1 kept saves
-Saves-kept (Some f) (statuses.Lines n) before mid now kept saves = SavesFile-kept before mid now f.0 f.1 kept saves
 Saves-kept (Some f) statuses.SaveFault before mid now kept saves = KeepsOthers-kept before mid now f.0 kept saves
-Saves-kept (Some f) status before mid now kept saves = KeepsFiles-kept before mid now kept saves
+Saves-kept (Some f) status before mid now kept saves = search (rules, SavesFile-kept, KeepsFiles-kept)
 
 -- the files that are exposed, or else these bytes under each name
 pub files_with : Option Files → List ℕ → Files

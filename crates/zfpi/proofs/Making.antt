@@ -1,5 +1,5 @@
 -- What `new` does: nothing is read or written, and a file is saved.
-use Rattle.std.proofs.Common.{◌≡◌, ℕ, List, [], Option, Some, ◌⊎◌, inl, inr, refl, subst}
+use Rattle.std.proofs.Common.{rules, ◌≡◌, ℕ, List, [], Option, Some, ◌⊎◌, inl, inr, refl, subst}
 use Rattle.zf_dev.specs.Shelf.{Files, KeepsOthers, SavesFile}
 use Rattle.zf_dev.proofs.Appending.{Appends-none, AppendsPrefix-none}
 use Rattle.zf_base.specs.declared.lane.Ty.{Ty}
@@ -20,20 +20,8 @@ module _ (name : List ℕ) (ty : Ty) (ns : List ℕ) (b : ℕ) where
       → Saves (Some (name, file_of (zeros ty ns b))) status before now
       → Behaves (New name ty ns b) status (seen src out before) (seen src out now)
   behaves_so status src out before now ends stated written saved =
-      let some = some_input src in
-      record {
-        ends = ends;
-        world = world_of some.0 before;
-        exposed = record { input = some.1; files = ExposesFiles-same before };
-        starved = [];
-        starved_are = refl;
-        stated = stated (world_of some.0 before);
-        taken = [];
-        takes = Takes-none src;
-        extent = refl;
-        written = written;
-        saved = saved;
-      }
+      let stated_so = stated (world_of (some_input src).0 before) in
+      search (rules, some_input, ExposesFiles-same, Takes-none)
 
   pub Behaves-saved : (src out : Option (List ℕ)) (before now : Option Files) (bytes : List ℕ) → bytes ≡ file_of (zeros ty ns b) → SavesFile before now name bytes
       → Behaves (New name ty ns b) statuses.Done (seen src out before) (seen src out now)

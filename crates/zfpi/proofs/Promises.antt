@@ -1,14 +1,14 @@
 -- From the promises of a command to those of the program.
 use Rattle.std.proofs.Common.{rules}
-use Rattle.std.proofs.Common.{◌≡◌, ◌≢◌, ℕ, zero, suc, ◌<◌, Bool, true, false, cond, take, ◌⊎◌, inl, inr, List, Option, Some, None, Result, Ok, Err, refl, ap, sym, subst, ◌∙◌, arith}
-use Rattle.std.proofs.lemmas.Bool.{ltb-true}
+use Rattle.std.proofs.Common.{◌≡◌, ◌≢◌, ℕ, zero, suc, ◌<◌, Bool, true, false, cond, ◌⊎◌, inl, inr, List, Option, Some, None, Result, Ok, Err, refl, ap, sym, subst, ◌∙◌, arith}
+use Rattle.std.proofs.lemmas.Bool.{ltb-true, true≢false}
 use Rattle.zf_base.specs.declared.lane.Ty.{Ty}
-use Rattle.zf_base.specs.declared.lane.Ty.TheVariants.{I32, I64}
+use Rattle.zf_base.specs.declared.lane.Ty.TheVariants.{I32}
 use Rattle.zf_dev.specs.Faults.{IsQuiet}
 use Rattle.zf_dev.specs.Sink.{Appends}
 use Rattle.zf_header.specs.declared.header.HeaderFault.{HeaderFault}
 use Rattle.zf_header.specs.declared.header.Mode.{Mode}
-use Rattle.zf_header.specs.declared.header.Mode.TheVariants.{Reversible, Rate, Precision}
+use Rattle.zf_header.specs.declared.header.Mode.TheVariants.{Rate}
 use Rattle.zf_header.specs.HeaderFaults.{header_fault}
 use Rattle.zf_parse.specs.declared.fault.StreamFault.{StreamFault}
 use Rattle.zf_parse.specs.declared.fault.StreamFault.TheVariants as faults
@@ -19,12 +19,12 @@ use Rattle.zf_stream.proofs.OwnFaults.{is_foreign, blames_foreign, own_answer}
 use Rattle.zf_parse.proofs.StreamsBack.{answer-stream_text, text-reversible_text}
 use Rattle.zf_narrow.proofs.StreamsBack.{answer-narrow_text, text-narrow_text}
 use Rattle.zf_narrow.specs.Texts.{narrow_text, answer_behind, restore_narrow_answer, narrow_restored}
-use Rattle.zfpi.specs.Faults.{fault_status, status_of, narrow_status_of, header_status}
+use Rattle.zfpi.specs.Faults.{status_of, narrow_status_of, header_status}
 use Rattle.zfpi.specs.declared.status.Status.{Status}
 use Rattle.zfpi.specs.declared.status.Status.TheVariants as statuses
 use Rattle.zfpi.specs.declared.status.Status.TheVariants.{Done, Lines, Usage, NotRate, Missing, ScriptLong, FileLong, ReadFault, WriteFault, LoadFault, SaveFault, Memory}
 use Rattle.zfpi.specs.declared.command.Command.{Command}
-use Rattle.zfpi.specs.declared.command.Command.TheVariants.{Compress, CompressNarrow, Restore, RestoreNarrow, Info, New, Run, Look, Bound, Sample}
+use Rattle.zfpi.specs.declared.command.Command.TheVariants.{Compress, Restore, RestoreNarrow, Info, Run, Look, Bound}
 use Rattle.zfpi.specs.Words.{IsSpelled}
 use Rattle.zfpi.specs.World.{World, Seen, Counts, ExposesInput}
 use Rattle.zfpi.specs.Certified.{certified_status}
@@ -54,12 +54,8 @@ OnUsage-of status P ends = tt
 
 -- a status from outside that is no fault of a device is out of memory
 only_memory : (status : Status) (c : Command) (w : World) (starved : List ℕ) → MayFail status c w → (status ≢ ReadFault) × (status ≢ WriteFault) × (status ≢ LoadFault) × (status ≢ SaveFault) → (status ≡ Memory) × (meaning c).memory w
-only_memory ReadFault c w starved may none = absurd (none.0 refl)
-only_memory WriteFault c w starved may none = absurd (none.1 refl)
-only_memory LoadFault c w starved may none = absurd (none.2 refl)
-only_memory SaveFault c w starved may none = absurd (none.3 refl)
 only_memory Memory c w starved may none = (refl, may)
-only_memory status c w starved may none = absurd (first_of (assumption may, cc))
+only_memory status c w starved may none = search rules
 
 -- where no count rose, no fault is answered
 pub IsComplete-quiet : (c : Command) (status : Status) (before now : Seen) (old new : Counts) (Sure Still : Type 0) → Behaves c status before now → HasCauses c status old new Sure Still → IsQuiet old.src new.src → IsQuiet old.out new.out → IsShelfless status → IsComplete c status before
@@ -67,34 +63,18 @@ IsComplete-quiet c status before now old new Sure Still behaves causes src out s
 
 -- the statuses from outside that a command may end with are among those that it can end with
 possible_fault : (status : Status) (c : Command) (w : World) (starved : List ℕ) → MayFail status c w → IsPossible c status
-possible_fault ReadFault (New name ty ns b) w starved may = absurd may
-possible_fault ReadFault (Bound name most) w starved may = absurd may
-possible_fault ReadFault (Sample h seed) w starved may = absurd may
-possible_fault ReadFault c w starved may = tt
-possible_fault WriteFault (New name ty ns b) w starved may = absurd may
-possible_fault WriteFault c w starved may = tt
-possible_fault LoadFault (Run name caching) w starved may = tt
-possible_fault LoadFault (Look name l) w starved may = tt
-possible_fault LoadFault (Bound name most) w starved may = tt
-possible_fault SaveFault (New name ty ns b) w starved may = tt
-possible_fault SaveFault (Run name caching) w starved may = tt
 possible_fault Memory Info w starved may = absurd may
-possible_fault Memory c w starved may = tt
-possible_fault status c w starved may = absurd (first_of (assumption may, cc))
+possible_fault status c w starved may = search rules
 
 -- and so are those that it states for an input
 compress_ends : (starved_are n : ℕ) (short long : Bool) → (short ≡ true → n < starved_are) → CompressEnds starved_are (status_of (cond short (Err (faults.RawShort n)) (cond long (Err faults.RawLong) (Ok tt))))
 compress_ends starved_are n true long less = less refl
-compress_ends starved_are n false true less = tt
-compress_ends starved_are n false false less = tt
+compress_ends starved_are n short long less = search rules
 
 restore_ends : (answer : Result (Unit {0}) StreamFault) → blames_foreign answer ≡ false → RestoreEnds (status_of answer)
 unfolding blames_foreign is_foreign
-restore_ends (Err (faults.RawShort m)) own = absurd (cc)
-restore_ends (Err faults.RawLong) own = absurd (cc)
 restore_ends (Err faults.Read) own = absurd (cc)
-restore_ends (Err faults.Write) own = absurd (cc)
-restore_ends answer own = tt
+restore_ends answer own = search (rules, true≢false)
 
 -- whatever the header says
 RestoreEnds-narrow : (status : Status) → RestoreEnds status → RestoreNarrowEnds status
@@ -102,10 +82,8 @@ RestoreEnds-narrow statuses.NotNarrow ends = tt
 RestoreEnds-narrow status ends = ends
 
 narrow_ends : (fault : Option HeaderFault) (ty : Ty) (answer : Result (Unit {0}) StreamFault) → blames_foreign answer ≡ false → RestoreNarrowEnds (narrow_status_of (answer_behind fault ty answer))
-narrow_ends (Some f) ty answer own = tt
-narrow_ends None I64 answer own = tt
-narrow_ends None I32 (Ok done) own = tt
-narrow_ends None I32 (Err e) own = RestoreEnds-narrow (fault_status e) (restore_ends (Err e) own)
+narrow_ends None I32 (Err e) own = search (rules, RestoreEnds-narrow, restore_ends)
+narrow_ends fault ty answer own = search rules
 
 info_ends : (fault : Option HeaderFault) → InfoEnds (header_status fault)
 info_ends None = tt
@@ -118,31 +96,21 @@ IsRefusal Ends (Err status) = Ends status
 
 said_ends : (answer : Result Said StreamFault) → blames_foreign (without_said answer) ≡ false → IsRefusal FileEnds (said_or_status answer)
 unfolding blames_foreign is_foreign IsRefusal
-said_ends (Err (faults.RawShort m)) own = absurd (cc)
-said_ends (Err faults.RawLong) own = absurd (cc)
 said_ends (Err faults.Read) own = absurd (cc)
-said_ends (Err faults.Write) own = absurd (cc)
-said_ends answer own = tt
+said_ends answer own = search (rules, true≢false)
 
 -- what ends a file ends a look, and what ends a look ends a run
 FileEnds-look : (status : Status) → FileEnds status → LookEnds status
 FileEnds-look Done ends = absurd ends
-FileEnds-look (Lines n) ends = absurd ends
-FileEnds-look ScriptLong ends = tt
-FileEnds-look ReadFault ends = tt
-FileEnds-look WriteFault ends = tt
-FileEnds-look status ends = ends
+FileEnds-look status ends = search rules
 
 LookEnds-run : (status : Status) → LookEnds status → RunEnds status
-LookEnds-run (NotRate m) ends = tt
 LookEnds-run SaveFault ends = tt
-LookEnds-run status ends = ends
+LookEnds-run status ends = search rules
 
 FileEnds-bound : (status : Status) → FileEnds status → BoundEnds status
 FileEnds-bound Done ends = absurd ends
-FileEnds-bound (NotRate m) ends = tt
-FileEnds-bound WriteFault ends = tt
-FileEnds-bound status ends = ends
+FileEnds-bound status ends = search rules
 
 refusal_of : (Ends Others : Status → Type 0) → ((status : Status) → Ends status → Others status) → (file : Result Said Status) → IsRefusal Ends file → IsRefusal Others file
 unfolding IsRefusal
@@ -153,10 +121,8 @@ refusal_of Ends Others more (Err status) ends = more status ends
 array_ends : (Ends : Status → Type 0) → ((f : HeaderFault) → Ends (statuses.Header f)) → ((m : ℕ) → Ends (NotRate m)) → ((status : Status) → FileEnds status → Ends status) → (fault : Option HeaderFault) (mode : Mode) (answer : Result Said StreamFault) → blames_foreign (without_said answer) ≡ false
     → IsRefusal Ends (array_behind fault (said_at_rate mode answer))
 unfolding IsRefusal
-array_ends Ends header no_rate more (Some f) mode answer own = header f
-array_ends Ends header no_rate more None Reversible answer own = no_rate _
-array_ends Ends header no_rate more None (Precision p) answer own = no_rate _
 array_ends Ends header no_rate more None (Rate b) answer own = refusal_of FileEnds Ends more (said_or_status answer) (said_ends answer own)
+array_ends Ends header no_rate more fault mode answer own = search rules
 
 own_said : (bytes : List ℕ) → blames_foreign (without_said (parse bytes)) ≡ false
 own_said bytes = own_answer bytes
@@ -207,28 +173,22 @@ lines_end (suc n) = omega arith
 
 possible_status : (c : Command) (w : World) (starved : List ℕ) → IsPossible c ((meaning c).status w starved)
 possible_status (Compress h) w starved = search (rules, compress_ends, ltb-true)
-possible_status (CompressNarrow n h) w starved = search (rules, compress_ends, ltb-true)
 possible_status Restore w starved = restore_ends (restore_answer w.input) (own_answer w.input)
 possible_status (RestoreNarrow n) w starved = narrow_ends (header_fault w.input) (header_of w.input).ty (restore_answer w.input) (own_answer w.input)
-possible_status Info w starved = info_ends (header_fault (take 19 w.input))
-possible_status (New name ty ns b) w starved = tt
 possible_status (Run name caching) w starved =
     script_ends RunEnds (run_answers caching) tt (λ n. LookEnds-run (lines_status n) (lines_end n)) (opened array_in (w.files name)) (opened_ends RunEnds array_in tt tt array_in-ends (w.files name)) starved w.input
 possible_status (Look name l) w starved =
     script_ends LookEnds (look_answers l) tt lines_end (opened stream_in (w.files name)) (opened_ends LookEnds stream_in tt tt stream_in-ends (w.files name)) starved w.input
 possible_status (Bound name most) w starved = certified_ends (opened array_in (w.files name)) (opened_ends BoundEnds array_in tt tt array_in-certified (w.files name))
-possible_status (Sample h seed) w starved = tt
+possible_status c w starved = search (rules, compress_ends, ltb-true, info_ends)
 
 pub IsPossible-behaves : (c : Command) (status : Status) (before now : Seen) → Behaves c status before now → IsPossible c status
 IsPossible-behaves c status before now behaves = search (rules, possible_status, possible_fault)
 
 from_outside : (status : Status) (c : Command) (w : World) → (meaning c).loads ≡ false → (meaning c).saves ≡ false → MayFail status c w → IsFromOutside status
-from_outside ReadFault c w no_load no_save may = inl refl
-from_outside WriteFault c w no_load no_save may = inr (inl refl)
-from_outside Memory c w no_load no_save may = inr (inr refl)
 from_outside LoadFault c w no_load no_save may = absurd (subst (λ b. OfUsed b (Unit {0})) no_load may)
 from_outside SaveFault c w no_load no_save may = absurd (subst (λ b. OfUsed b ((meaning c).works w)) no_save may)
-from_outside status c w no_load no_save may = absurd (first_of (assumption may, cc))
+from_outside status c w no_load no_save may = search rules
 
 -- a source that exposes these bytes exposes no other
 the_input : (known : Option (List ℕ)) (bytes input : List ℕ) → known ≡ Some bytes → ExposesInput known input → input ≡ bytes

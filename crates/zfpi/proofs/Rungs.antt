@@ -14,7 +14,6 @@ use Rattle.zf_dev.specs.declared.shelf.Shelf.{Ghosts as Shelf}
 use Rattle.zf_spec.specs.Stream.{mode_number}
 use Rattle.zf_header.specs.declared.header.Header.{Header}
 use Rattle.zf_header.specs.declared.header.Mode.{Mode}
-use Rattle.zf_header.specs.declared.header.Mode.TheVariants.{Reversible, Rate, Precision}
 use Rattle.zf_header.specs.declared.header.HeaderFault.{HeaderFault}
 use Rattle.zf_header.specs.HeaderBits.{IsMode, coding}
 use Rattle.zf_header.specs.HeaderFaults.{header_fault}
@@ -25,7 +24,7 @@ use Rattle.zf_commands.specs.Steps.{is_refusal}
 use Rattle.zf_commands.specs.Runs.{RunsAll}
 use Rattle.zf_run.specs.declared.end.RunEnd.TheVariants as ends
 use Rattle.zfpi.specs.declared.status.Status.{Status}
-use Rattle.zfpi.specs.declared.status.Status.TheVariants.{Header as NoHeader, NotRate, Truncated, Pad, Trailing, ReadFault, WriteFault, LoadFault, Memory}
+use Rattle.zfpi.specs.declared.status.Status.TheVariants.{Header as NoHeader, NotRate, Pad, ReadFault, WriteFault, LoadFault}
 use Rattle.zfpi.specs.declared.command.Access.{Access}
 use Rattle.zfpi.specs.declared.command.Access.TheVariants.{Run, Look}
 use Rattle.zfpi.specs.Faults.{take_status}
@@ -63,9 +62,7 @@ IsRefused-mode (Look lines) bytes h number good is not number_is = absurd (true�
 -- or it is
 pub Admits-mode : (access : Access) (mode : Mode) → IsMode mode → admits access mode ≡ true → Admits access mode
 Admits-mode (Look lines) mode is admitted = tt
-Admits-mode (Run caching) (Rate b) is admitted = is
-Admits-mode (Run caching) Reversible is admitted = absurd (true≢false (sym admitted))
-Admits-mode (Run caching) (Precision p) is admitted = absurd (true≢false (sym admitted))
+Admits-mode (Run caching) mode is admitted = search (rules, true≢false)
 
 -- such a status comes before anything was done
 pub record Refuses (status : Status) : Type 0 where
@@ -76,13 +73,8 @@ pub record Refuses (status : Status) : Type 0 where
   pub undone : is_work_done status ≡ false
 
 pub refuses : (status : Status) → RefusesFile status → Refuses status
-refuses (NoHeader fault) why = record { first = tt; no_read = λ is. cc; no_write = λ is. cc; no_load = λ is. cc; undone = refl }
-refuses (NotRate m) why = record { first = tt; no_read = λ is. cc; no_write = λ is. cc; no_load = λ is. cc; undone = refl }
-refuses (Truncated b) why = record { first = tt; no_read = λ is. cc; no_write = λ is. cc; no_load = λ is. cc; undone = refl }
 refuses Pad why = record { first = tt; no_read = λ is. cc; no_write = λ is. cc; no_load = λ is. cc; undone = refl }
-refuses Trailing why = record { first = tt; no_read = λ is. cc; no_write = λ is. cc; no_load = λ is. cc; undone = refl }
-refuses Memory why = record { first = tt; no_read = λ is. cc; no_write = λ is. cc; no_load = λ is. cc; undone = refl }
-refuses status why = absurd (first_of (assumption why, cc))
+refuses status why = search rules
 
 -- ---- the rungs
 

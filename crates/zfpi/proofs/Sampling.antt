@@ -1,5 +1,5 @@
 -- What `sample` does: nothing is read, a line is written, and no file is saved.
-use Rattle.std.proofs.Common.{◌≡◌, ℕ, List, [], Option, ◌⊎◌, inl, inr, refl, subst, ◌∙◌, ap}
+use Rattle.std.proofs.Common.{rules, ◌≡◌, ℕ, List, [], Option, ◌⊎◌, inl, inr, refl, subst, ◌∙◌, ap}
 use Rattle.zf_dev.specs.Shelf.{Files}
 use Rattle.zf_dev.specs.Sink.{Appends, AppendsPrefix}
 use Rattle.zf_dev.proofs.Appending.{AppendsPrefix-none}
@@ -22,20 +22,8 @@ module _ (h : Header) (seed : ℕ) where
       → Writes status (sample_text h seed) (cut_draft status (sample_text h seed)) before now
       → Behaves (Sample h seed) status (seen src before shelf) (seen src now shelf)
   behaves_so status src before now shelf ends stated written =
-      let some = some_input src in
-      record {
-        ends = ends;
-        world = world_of some.0 shelf;
-        exposed = record { input = some.1; files = ExposesFiles-same shelf };
-        starved = [];
-        starved_are = refl;
-        stated = stated (world_of some.0 shelf);
-        taken = [];
-        takes = Takes-none src;
-        extent = refl;
-        written = written;
-        saved = KeepsFiles-none shelf;
-      }
+      let stated_so = stated (world_of (some_input src).0 shelf) in
+      search (rules, some_input, ExposesFiles-same, Takes-none, KeepsFiles-none)
 
   -- the line was written
   pub Behaves-summary : (summary : Summary) (line : List ℕ) (src before now : Option (List ℕ)) (shelf : Option Files) → summary ≡ summary_of h seed → line ≡ summary_line summary → Appends before now line

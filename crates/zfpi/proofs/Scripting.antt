@@ -107,29 +107,22 @@ module _ (c : Command) (name : List ℕ) (reading : List ℕ → Result Said Sta
   unread : (status : Status) (src src_now out : Option (List ℕ)) (input taken : List ℕ) → IsOfCommand status → ExposesInput src input → OnWholeScript status (AreStarved answers (opened reading (files_with known bytes name)) [] input)
       → (status ≡ (meaning c).status (world_with known bytes input) []) ⊎ MayFail status c (world_with known bytes input) → Takes src src_now taken → TakesScript status input taken
       → ((text : List ℕ) → Writes status text (cut_draft status text) out out) → Unsaved status → Behaves c status (seen src out known) (seen src_now out mid)
-  unread status src src_now out input taken ends exposed starved_are stated takes extent written un = record {
-    ends = ends;
-    world = world_with known bytes input;
-    exposed = record { input = exposed; files = ExposesFiles-with known bytes };
-    starved = [];
-    starved_are = is.starved_are (world_with known bytes input) [] status starved_are;
-    stated = stated;
-    taken = taken;
-    takes = takes;
-    extent = is.extent status input taken extent;
-    written = subst (λ draft. Writes status ((meaning c).text (world_with known bytes input) [] taken) draft out out) (sym (is.draft (world_with known bytes input) [] status taken)) (written ((meaning c).text (world_with known bytes input) [] taken));
-    saved = Saves-unsaved ((meaning c).saved (world_with known bytes input) []) status known mid un kept;
-  }
+  unread status src src_now out input taken ends exposed starved_are stated takes extent written un =
+      let w = world_with known bytes input in
+      let draft = is.draft w [] status taken in
+      let all = written ((meaning c).text w [] taken) in
+      let drafted = subst (λ draft. Writes status ((meaning c).text w [] taken) draft out out) (sym draft) all in
+      search (rules, ExposesFiles-with, Saves-unsaved)
 
   -- the script was not read to its end
   pub Behaves-untaken : (e : TakeError) (src src_now out : Option (List ℕ)) → (e ≡ taking.Long → TakesMoreThan src src_now 16777216) → TakesSome src src_now → Behaves c (take_status e) (seen src out known) (seen src_now out mid)
   Behaves-untaken taking.Long src src_now out long took = search (rules, long_input, unread, too_long)
   Behaves-untaken taking.Failed src src_now out long took =
       let some = some_input src in
-      unread statuses.ReadFault src src_now out some.0 took.0 tt some.1 tt (inr (is.reads (world_with known bytes some.0) open_ok)) took.1 tt (λ text. AppendsPrefix-none out []) tt
+      let may = is.reads (world_with known bytes some.0) open_ok in search (rules, unread, AppendsPrefix-none)
   Behaves-untaken taking.Memory src src_now out long took =
       let some = some_input src in
-      unread statuses.Memory src src_now out some.0 took.0 tt some.1 tt (inr (is.loading.starves (world_with known bytes some.0))) took.1 tt (λ text. AppendsPrefix-none out []) tt
+      let may = is.loading.starves (world_with known bytes some.0) in search (rules, unread, AppendsPrefix-none)
 
   -- the script was read, and it is not too long
   module _ (script starved : List ℕ) (most : length script ≤ 16777216) (src rest : Option (List ℕ)) (takes : Takes src rest script) (end : IsAtEnd rest) where
@@ -140,24 +133,36 @@ module _ (c : Command) (name : List ℕ) (reading : List ℕ → Result Said Sta
     runnable : IsRunnable (opened reading (files_with known bytes name)) (world_with known bytes script)
     runnable = (open_ok, most)
 
+    -- it was run, and it ended so
+    ran_so : (status : Status) (out out_now : Option (List ℕ)) (shelf : Option Files) → IsOfCommand status
+        → OnWholeScript status (AreStarved answers (opened reading (files_with known bytes name)) starved script) → TakesScript status script script
+        → (status ≡ (meaning c).status (world_with known bytes script) starved) ⊎ MayFail status c (world_with known bytes script)
+        → Writes status ((meaning c).text (world_with known bytes script) starved script) ((meaning c).draft status ((meaning c).text (world_with known bytes script) starved script)) out out_now
+        → Saves ((meaning c).saved (world_with known bytes script) starved) status known shelf
+        → Behaves c status (seen src out known) (seen rest out_now shelf)
+    ran_so status out out_now shelf ends open_starved extent stated written saved = record {
+      ends = ends;
+      world = world_with known bytes script;
+      exposed = exposed_script out;
+      starved = starved;
+      starved_are = is.starved_are (world_with known bytes script) starved status open_starved;
+      stated = stated;
+      taken = script;
+      takes = takes;
+      extent = is.extent status script script extent;
+      written = written;
+      saved = saved;
+    }
+
     -- all its lines were run, and it ended so
     Behaves-whole : (status : Status) (out out_now : Option (List ℕ)) (shelf : Option Files) → IsOfCommand status → ((P : Type 0) → P → OnWholeScript status P) → TakesScript status script script
         → ((text draft : List ℕ) → Appends out out_now text → Writes status text draft out out_now) → (status ≡ (meaning c).status (world_with known bytes script) starved) ⊎ MayFail status c (world_with known bytes script)
         → starved ≡ (answers said starved script).1 → Appends out out_now (replies_text (answers said starved script).0) → Saves ((meaning c).saved (world_with known bytes script) starved) status known shelf
         → Behaves c status (seen src out known) (seen rest out_now shelf)
-    Behaves-whole status out out_now shelf ends on_whole extent writes stated starved_are written saved = record {
-      ends = ends;
-      world = world_with known bytes script;
-      exposed = exposed_script out;
-      starved = starved;
-      starved_are = is.starved_are (world_with known bytes script) starved status (on_whole _ (subst (λ file. AreStarved answers file starved script) (sym is_open) starved_are));
-      stated = stated;
-      taken = script;
-      takes = takes;
-      extent = is.extent status script script extent;
-      written = writes _ _ (subst (Appends out out_now) (text_is starved script script) written);
-      saved = saved;
-    }
+    Behaves-whole status out out_now shelf ends on_whole extent writes stated starved_are written saved =
+        let open_starved = on_whole _ (subst (λ file. AreStarved answers file starved script) (sym is_open) starved_are) in
+        let text = subst (Appends out out_now) (text_is starved script script) written in
+        ran_so status out out_now shelf ends open_starved extent stated (writes _ _ text) saved
 
     -- so many lines were refused, or none
     Behaves-lines : (n : ℕ) (out out_now : Option (List ℕ)) (shelf : Option Files) → n ≡ count_by is_refusal (answers said starved script).0 → starved ≡ (answers said starved script).1
@@ -171,21 +176,10 @@ module _ (c : Command) (name : List ℕ) (reading : List ℕ → Result Said Sta
     Behaves-unsent : (out out_now : Option (List ℕ)) (shelf : Option Files) → Appends out out_now (replies_text (answers said starved script).0) → Saves ((meaning c).saved (world_with known bytes script) starved) statuses.WriteFault known shelf
         → Behaves c statuses.WriteFault (seen src out known) (seen rest out_now shelf)
     Behaves-unsent out out_now shelf written saved =
-        let w = world_with known bytes script in
-        let text = replies_text (answers said starved script).0 in
-        record {
-          ends = tt;
-          world = w;
-          exposed = exposed_script out;
-          starved = starved;
-          starved_are = is.starved_are w starved statuses.WriteFault tt;
-          stated = inr (is.writes w runnable);
-          taken = script;
-          takes = takes;
-          extent = is.extent statuses.WriteFault script script refl;
-          written = subst (AppendsPrefix out out_now) (text_is starved script script ∙ sym (is.draft w starved statuses.WriteFault script)) (AppendsPrefix-all out out_now text written);
-          saved = saved;
-        }
+        let draft = text_is starved script script ∙ sym (is.draft (world_with known bytes script) starved statuses.WriteFault script) in
+        let all = AppendsPrefix-all out out_now (replies_text (answers said starved script).0) written in
+        let may = is.writes (world_with known bytes script) runnable in
+        ran_so statuses.WriteFault out out_now shelf tt tt refl (inr may) (subst (AppendsPrefix out out_now) draft all) saved
 
     -- all its lines were run, the replies were handed on and a file was saved, if any, unless one of both failed
     pub Behaves-closed : {Unsent : Type 0} (n : ℕ) (end : Status) (out sent out_now : Option (List ℕ)) (shelf : Option Files) → n ≡ count_by is_refusal (answers said starved script).0 → starved ≡ (answers said starved script).1
@@ -224,16 +218,7 @@ module _ (c : Command) (name : List ℕ) (reading : List ℕ → Result Said Sta
           ap (λ text. text ++ prefix.0) (sym replied) ∙ (sym prefix.1 ∙ text_is starved script script) in
           let part : AppendsPrefix out out_now (first ++ reply) =
           (length first + stops.count, omega (arith, length-append first reply, stops.not_whole), rw (take-append-add first reply stops.count) stops.written) in
-          record {
-            ends = tt;
-            world = world_with known bytes script;
-            exposed = exposed_script out;
-            starved = starved;
-            starved_are = is.starved_are (world_with known bytes script) starved statuses.WriteFault tt;
-            stated = inr (is.writes (world_with known bytes script) runnable);
-            taken = script;
-            takes = takes;
-            extent = is.extent statuses.WriteFault script script refl;
-            written = subst (AppendsPrefix out out_now) (whole ∙ sym (is.draft (world_with known bytes script) starved statuses.WriteFault script)) (AppendsPrefix-more out out_now (first ++ reply) prefix.0 part);
-            saved = Saves-unsaved ((meaning c).saved (world_with known bytes script) starved) statuses.WriteFault known mid tt kept;
-          }
+          let kept = Saves-unsaved ((meaning c).saved (world_with known bytes script) starved) statuses.WriteFault known mid tt kept in
+          let draft = whole ∙ sym (is.draft (world_with known bytes script) starved statuses.WriteFault script) in
+          let more = subst (AppendsPrefix out out_now) draft (AppendsPrefix-more out out_now (first ++ reply) prefix.0 part) in
+          ran_so statuses.WriteFault out out_now mid tt tt refl (inr (is.writes (world_with known bytes script) runnable)) more kept

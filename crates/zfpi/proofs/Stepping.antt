@@ -48,9 +48,8 @@ module _ {F : Type 0} (saves : F → F → Type 0) (faults : F → ℕ) (c : Com
 
   -- the script was not read
   pub SavesOnce-take : (e : TakeError) (shelf : F) → SavesOnce saves faults c (take_status e) shelf shelf
-  SavesOnce-take taking.Long shelf = SavesOnce-none (take_status taking.Long) shelf refl (λ is. cc)
-  SavesOnce-take taking.Failed shelf = SavesOnce-none (take_status taking.Failed) shelf refl (λ is. cc)
-  SavesOnce-take taking.Memory shelf = SavesOnce-none (take_status taking.Memory) shelf refl (λ is. cc)
+  SavesOnce-take taking.Long shelf = search (rules, SavesOnce-none)
+  SavesOnce-take e shelf = search (rules, SavesOnce-none)
 
 -- ---- the steps of a call
 
@@ -67,13 +66,17 @@ module _ {F : Type 0} (loads saves : F → F → Type 0) (faults : F → ℕ) (c
   pub Steps-quiet : (status : Status) (before now : F) → Steps loads saves faults c status before now → IsQuiet (faults before) (faults now) → IsShelfless status
   Steps-quiet status before now steps quiet = search (rules, Makes-kept, Makes-quiet)
 
+  -- a command that saves nothing left the shelf as it was
+  saves_none : (status : Status) (shelf : F) → (meaning c).saves ≡ false → IsShelfless status
+      → Makes ((meaning c).saves && is_work_done status) saves faults (status ≡ SaveFault) shelf shelf
+  saves_none status shelf no_save none =
+      Makes-none saves faults _ _ shelf (ap (λ b. b && is_work_done status) no_save) none.no_save
+
   -- a command without a shelf left it as it was
   pub Steps-none : (status : Status) (shelf : F) → (meaning c).loads ≡ false → (meaning c).saves ≡ false → IsShelfless status → Steps loads saves faults c status shelf shelf
-  Steps-none status shelf no_load no_save none = record {
-    loaded = shelf;
-    load = Makes-none loads faults (meaning c).loads (status ≡ LoadFault) shelf no_load none.no_load;
-    save = Makes-none saves faults ((meaning c).saves && is_work_done status) (status ≡ SaveFault) shelf (ap (λ b. b && is_work_done status) no_save) none.no_save;
-  }
+  Steps-none status shelf no_load no_save none =
+      let load = Makes-none loads faults (meaning c).loads (status ≡ LoadFault) shelf no_load none.no_load in
+      record { loaded = shelf; load = load; save = saves_none status shelf no_save none }
 
   -- a load that was good
   loaded_well : (status : Status) (before loaded : F) → (meaning c).loads ≡ true → loads before loaded → faults before ≤ faults loaded → status ≢ LoadFault → Makes (meaning c).loads loads faults (status ≡ LoadFault) before loaded
@@ -81,11 +84,9 @@ module _ {F : Type 0} (loads saves : F → F → Type 0) (faults : F → ℕ) (c
 
   -- and nothing behind it
   pub Steps-loaded : (status : Status) (before loaded : F) → (meaning c).loads ≡ true → (meaning c).saves ≡ false → loads before loaded → faults before ≤ faults loaded → IsShelfless status → Steps loads saves faults c status before loaded
-  Steps-loaded status before loaded loading no_save step kept none = record {
-    loaded = loaded;
-    load = loaded_well status before loaded loading step kept none.no_load;
-    save = Makes-none saves faults ((meaning c).saves && is_work_done status) (status ≡ SaveFault) loaded (ap (λ b. b && is_work_done status) no_save) none.no_save;
-  }
+  Steps-loaded status before loaded loading no_save step kept none =
+      let load = loaded_well status before loaded loading step kept none.no_load in
+      record { loaded = loaded; load = load; save = saves_none status loaded no_save none }
 
   -- or at most one save behind it
   pub Steps-saved : (status : Status) (before loaded now : F) → (meaning c).loads ≡ true → loads before loaded → faults before ≤ faults loaded → SavesOnce saves faults c status loaded now → Steps loads saves faults c status before now

@@ -120,20 +120,8 @@ pub Behaves-done : (c : Command) (bytes : List ℕ) (src_before src_now out_befo
     → statuses.Done ≡ (meaning c).status (world_of bytes shelf) [] → Takes src_before src_now bytes → IsAtEnd src_now → Appends out_before out_now ((meaning c).text (world_of bytes shelf) [] bytes)
     → Behaves c statuses.Done (seen src_before out_before shelf) (seen src_now out_now shelf)
 Behaves-done c bytes src_before src_now out_before out_now shelf is stated taken ended written =
-    let w = world_of bytes shelf in
-    record {
-      ends = tt;
-      world = w;
-      exposed = record { input = ExposesInput-taken src_before src_now bytes taken ended; files = ExposesFiles-same shelf };
-      starved = [];
-      starved_are = is.not_starved statuses.Done w;
-      stated = inl stated;
-      taken = bytes;
-      takes = taken;
-      extent = is.to_end bytes;
-      written = written;
-      saved = subst (λ file. Saves file statuses.Done shelf shelf) (sym (is.nothing_saved w)) (KeepsFiles-none shelf);
-    }
+    let kept = subst (λ f. Saves f statuses.Done shelf shelf) (sym (is.nothing_saved (world_of bytes shelf))) (KeepsFiles-none shelf) in
+    search (rules, ExposesInput-taken, ExposesFiles-same)
 
 -- ---- after a fault
 
@@ -158,19 +146,9 @@ Behaves-cut : (c : Command) (status : Status) (taken : List ℕ) (src_before src
 unfolding IsStated
 Behaves-cut c status taken src_before src_now out_before out_now shelf is cut why extent takes prefix =
     let w = world_of why.input shelf in
-    record {
-      ends = IsOfCommand-cut status cut;
-      world = w;
-      exposed = record { input = why.exposed; files = ExposesFiles-same shelf };
-      starved = [];
-      starved_are = is.not_starved status w;
-      stated = why.stated;
-      taken = taken;
-      takes = takes;
-      extent = extent;
-      written = Writes-cut status ((meaning c).text w [] taken) ((meaning c).draft status ((meaning c).text w [] taken)) out_before out_now cut (prefix w);
-      saved = subst (λ file. Saves file status shelf shelf) (sym (is.nothing_saved w)) (KeepsFiles-none shelf);
-    }
+    let kept = subst (λ file. Saves file status shelf shelf) (sym (is.nothing_saved w)) (KeepsFiles-none shelf) in
+    let cut_prefix = prefix w in
+    search (rules, IsOfCommand-cut, ExposesFiles-same, Writes-cut)
 
 -- ---- faults of a stream
 
@@ -250,18 +228,12 @@ narrow_why : (n : Narrow) (e : NarrowFault) (src_before : Option (List ℕ)) (sh
     → ((input : List ℕ) → src_before ≡ Some input → e ≡ Stream faults.Memory → (meaning (RestoreNarrow n)).memory (world_of input shelf))
     → Explains (RestoreNarrow n) (narrow_status e) src_before shelf
 unfolding IsStated
-narrow_why n e src_before shelf answers refuses takes = explain c (narrow_status e) src_before shelf exposed some
+narrow_why n e src_before shelf answers refuses takes = explain (RestoreNarrow n) (narrow_status e) src_before shelf exposed some
   where
-    c : Command
-    c = RestoreNarrow n
+    exposed : (input : List ℕ) → src_before ≡ Some input → IsStated (RestoreNarrow n) (narrow_status e) shelf input
+    exposed input is = let at = subst (λ known. AnswersNarrow (Err e) known) is answers in search (rules, may_outside_narrow)
 
-    exposed : (input : List ℕ) → src_before ≡ Some input → IsStated c (narrow_status e) shelf input
-    exposed input is_exposed = elim (subst (λ known. AnswersNarrow (Err e) known) is_exposed answers) [
-      | inl same ↦ inl (ap narrow_status_of same)
-      | inr outside ↦ inr (may_outside_narrow n e (world_of input shelf) (takes input is_exposed) outside)
-    ]
-
-    some : (input : List ℕ) × IsStated c (narrow_status e) shelf input
+    some : (input : List ℕ) × IsStated (RestoreNarrow n) (narrow_status e) shelf input
     some = elim refuses [
       | inl found ↦ (found.0, inl (ap narrow_status_of (sym found.1)))
       | inr outside ↦ (one_stream, inr (may_outside_narrow n e (world_of one_stream shelf) (λ memory. one_stream-good) outside))
