@@ -1,5 +1,5 @@
 -- The numbering of the positions of a box.
-use Rattle.std.proofs.Common.{◌≡◌, ℕ, zero, suc, ◌+◌, ◌-◌, ◌*◌, ◌/◌, ◌%◌, ◌<◌, ◌≤◌, min, true, nat_lt, List, [], ◌∷◌, ◌++◌, length, replicate, refl, ap, arith, lit<}
+use Rattle.std.proofs.Common.{◌≡◌, ℕ, zero, suc, ◌+◌, ◌-◌, ◌*◌, ◌/◌, ◌%◌, ◌<◌, ◌≤◌, min, true, nat_lt, List, [], ◌∷◌, ◌++◌, length, replicate, refl, ap, arith, lit<, rules}
 use Rattle.std.specs.List.{AllByRecursion}
 use Rattle.std.proofs.lemmas.Bool.{and_parts, and_from, ltb-true, lt-ltb, false≢true}
 use Rattle.std.proofs.lemmas.Nat.{mul-add-lt, mod_below, div_below}
@@ -23,10 +23,7 @@ raster-lt (n ∷ ns) (p ∷ ps) h =
 
 -- so are the numbers that its sum passes through, which are those along fewer axes
 raster_step : (n p : ℕ) (ns ps : List ℕ) (most : ℕ) → is_inside (n ∷ ns) (p ∷ ps) ≡ true → product (n ∷ ns) < most → (raster (n ∷ ns) (p ∷ ps) < most) × (is_inside ns ps ≡ true) × (product ns < most)
-raster_step n p ns ps most h fits =
-    let parts = and_parts (nat_lt p n) (is_inside ns ps) h in
-    let lt : p < n = ltb-true p n parts.0 in
-    (omega (arith, raster-lt (n ∷ ns) (p ∷ ps) h), parts.1, omega (arith, le-mul_of_pos_right {m = n} (product ns) (omega arith)))
+raster_step n p ns ps most h fits = search (rules, and_parts, ltb-true, raster-lt, le-mul_of_pos_right)
 
 pub raster_steps : (n p : Pos) (most : ℕ) → is_inside (axes n) (axes p) ≡ true → product (axes n) < most → (p.z + n.z * p.w < most) × (p.y + n.y * (p.z + n.z * p.w) < most) × (p.x + n.x * (p.y + n.y * (p.z + n.z * p.w)) < most)
 raster_steps n p most h fits =

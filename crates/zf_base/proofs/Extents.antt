@@ -1,5 +1,5 @@
 -- The block, the place and the extent that a shape tells by four axes, against the lists of its used ones.
-use Rattle.std.proofs.Common.{◌≡◌, ℕ, zero, suc, ◌+◌, ◌-◌, ◌/◌, ◌%◌, ◌<◌, ◌≤◌, true, nat_lt, List, [], ◌∷◌, ◌++◌, length, map, replicate, refl, ap, sym, subst, ◌∙◌, arith, length-take}
+use Rattle.std.proofs.Common.{◌≡◌, ℕ, zero, suc, ◌+◌, ◌-◌, ◌/◌, ◌%◌, ◌<◌, ◌≤◌, true, nat_lt, List, [], ◌∷◌, ◌++◌, length, map, replicate, refl, ap, sym, ◌∙◌, arith, length-take, rules}
 use Rattle.std.specs.List.{AllByRecursion}
 use Rattle.std.proofs.lemmas.List.{length-map}
 use Rattle.std.proofs.lemmas.Bool.{and_parts, ltb-true}
@@ -23,15 +23,10 @@ map-zeros f [] (suc k) e = rw (e, map-zeros f [] k e)
 map-zeros f (p ∷ ps) k e = rw (map-zeros f ps k e)
 
 pub position_axes : (ns : List ℕ) (p : Pos) → length ns ≤ 4 → IsPosition ns p → axes p ≡ used_axes (length ns) p ++ replicate (4 - length ns) 0
-position_axes ns p four h =
-    let ps = used_axes (length ns) p in
-    let same = length-used_axes (length ns) p four in
-    ap axes h.unused ∙ axes-with_unused 0 ps (omega (arith, same)) ∙ ap (λ d. ps ++ replicate (4 - d) 0) same
+position_axes ns p four h = search (rules, length-used_axes, axes-with_unused)
 
 grid_axes : (ns : List ℕ) (g : Pos) → length ns ≤ 4 → g ≡ with_unused 1 (grid ns) → axes g ≡ grid ns ++ replicate (4 - length ns) 1
-grid_axes ns g four e =
-    let same = length-map ns (λ n. (n + 3) / 4) in
-    ap axes e ∙ axes-with_unused 1 (grid ns) (omega (arith, same)) ∙ ap (λ d. grid ns ++ replicate (4 - d) 1) same
+grid_axes ns g four e = search (rules, length-map, axes-with_unused)
 
 -- ---- the block and the place of a position
 
@@ -88,9 +83,7 @@ used_axes-with_unused n (a ∷ b ∷ c ∷ d ∷ e ∷ ns) h = absurd (omega ari
 
 -- a list of coordinates inside an array, as a position of it
 pub IsPosition-with_unused : (ns ps : List ℕ) → length ns ≤ 4 → length ps ≡ length ns → is_inside ns ps ≡ true → IsPosition ns (with_unused 0 ps)
-IsPosition-with_unused ns ps four same h =
-    let known : used_axes (length ns) (with_unused 0 ps) ≡ ps = ap (λ d. used_axes d (with_unused 0 ps)) (sym same) ∙ used_axes-with_unused 0 ps (omega arith) in
-    record { inside = ap (is_inside ns) known ∙ h; unused = ap (with_unused 0) (sym known) }
+IsPosition-with_unused ns ps four same h = search (rules, used_axes-with_unused)
 
 extents_not_zero : (ns cs : List ℕ) → is_inside (grid ns) cs ≡ true → AllByRecursion (λ n. 1 ≤ n) (extents ns cs)
 extents_not_zero [] cs h = tt
@@ -123,18 +116,10 @@ extent_of_bounds ns b below = both (extents ns cs) (extents_not_zero ns cs (is_i
 -- the sizes of the part of a block that exists
 module _ (ns : List ℕ) (b : ℕ) (size : Pos) (shape : IsShape ns) (is : size ≡ with_unused 1 (extent_of ns b)) where
   pub used_size : used_axes (length ns) size ≡ extent_of ns b
-  used_size =
-      let es = extent_of ns b in
-      ap (used_axes (length ns)) is ∙ ap (λ d. used_axes d (with_unused 1 es)) (sym (length-extent_of ns b)) ∙ used_axes-with_unused 1 es (omega (arith, length-extent_of ns b, shape.four_at_most))
+  used_size = search (rules, length-extent_of, used_axes-with_unused)
 
   pub IsExtent-of_block : (origin : Pos) → b < blocks ns → IsExtent (length ns) (record { origin = origin; size = size })
-  IsExtent-of_block origin lt =
-      let cs = coordinates (grid ns) b in
-      record {
-        not_zero = subst (AllByRecursion (λ n. 1 ≤ n)) (sym used_size) (extents_not_zero ns cs (is_inside-coordinates (grid ns) b lt));
-        four_at_most = subst (AllByRecursion (λ n. n ≤ 4)) (sym used_size) (extents_four_at_most ns cs);
-        unused = is ∙ ap (with_unused 1) (sym used_size);
-      }
+  IsExtent-of_block origin lt = search (rules, used_size, extents_not_zero, is_inside-coordinates, extents_four_at_most)
 
 -- the extent's sizes from those of the shape and the coordinates of the block
 pub extent_axes : (ns : List ℕ) (b : ℕ) (s g c e : Pos) → IsShape ns → s ≡ with_unused 1 ns → g ≡ with_unused 1 (grid ns) → axes c ≡ coordinates (axes g) b → axes e ≡ extents (axes s) (axes c) → e ≡ with_unused 1 (extent_of ns b)

@@ -1,5 +1,5 @@
 -- The codes of blocks, whatever their format.
-use Rattle.std.proofs.Common.{◌≡◌, ◌≢◌, refl, sym, ap, ◌∙◌, ℕ, ◌<◌, ℤ, pos, cond, Bool, true, false, eq-eqb, List, length, get_or, set, ext_get_or, ◌⊎◌, inl, inr, arith}
+use Rattle.std.proofs.Common.{◌≡◌, ◌≢◌, refl, sym, ap, ◌∙◌, ℕ, ◌<◌, ℤ, pos, cond, Bool, true, false, eq-eqb, List, length, get_or, set, ext_get_or, ◌⊎◌, inl, inr, arith, rules}
 use Rattle.std.proofs.lemmas.Bool.{cases_eq, ne_eqb}
 use Rattle.std.proofs.lemmas.List.{length-set, get_or-set_other}
 use Rattle.zf_spec.proofs.Counting.{length-map-upto, get_or-map-upto, map-upto_same}
@@ -34,13 +34,7 @@ get_or-existing_of_exists format b values p h e = get_or-existing_of format b va
 pub existing_of_same : {Code : Type 0} (format : Format Code) (b : ℕ) (xs ys : List ℤ) → ((p : ℕ) → p < format.block_len → format.exists b p ≡ true → get_or xs p (pos 0) ≡ get_or ys p (pos 0))
     → existing_of format b xs ≡ existing_of format b ys
 unfolding existing_of
-existing_of_same format b xs ys same = map-upto_same
-    (λ p. cond (format.exists b p) (get_or xs p (pos 0)) (pos 0)) (λ p. cond (format.exists b p) (get_or ys p (pos 0)) (pos 0)) format.block_len
-    (λ p h. by p (format.exists b p) (same p h))
-  where
-    by : (p : ℕ) (t : Bool) → (t ≡ true → get_or xs p (pos 0) ≡ get_or ys p (pos 0)) → cond t (get_or xs p (pos 0)) (pos 0) ≡ cond t (get_or ys p (pos 0)) (pos 0)
-    by p true f = f refl
-    by p false f = refl
+existing_of_same format b xs ys same = search (rules, map-upto_same)
 
 pub existing_of-existing_of : {Code : Type 0} (format : Format Code) (b : ℕ) (values : List ℤ) → existing_of format b (existing_of format b values) ≡ existing_of format b values
 existing_of-existing_of format b values = existing_of_same format b (existing_of format b values) values (get_or-existing_of_exists format b values)

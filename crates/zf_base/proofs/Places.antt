@@ -1,8 +1,8 @@
 -- A position is in exactly one block and place: over lists of sizes, of any dimension.
-use Rattle.std.proofs.Common.{◌≡◌, ℕ, suc, ◌+◌, ◌-◌, ◌*◌, ◌/◌, ◌%◌, ◌^◌, ◌<◌, min, true, nat_lt, List, [], ◌∷◌, length, map, refl, ap, sym, subst, ◌∙◌, arith}
+use Rattle.std.proofs.Common.{◌≡◌, ℕ, suc, ◌+◌, ◌-◌, ◌*◌, ◌/◌, ◌%◌, min, true, nat_lt, List, [], ◌∷◌, length, map, refl, ap, sym, subst, ◌∙◌, arith, rules}
 use Rattle.std.proofs.lemmas.List.{length-map}
 use Rattle.std.proofs.lemmas.Bool.{and_parts, and_from, ltb-true, lt-ltb, false≢true}
-use Rattle.zf_spec.specs.Grid.{product, grid, raster, coordinates, is_inside, fours, indices, extents, position_in}
+use Rattle.zf_spec.specs.Grid.{grid, coordinates, is_inside, fours, indices, extents, position_in}
 use Rattle.zf_base.specs.Places.{block_number, place_of, IsAt}
 use Rattle.zf_base.proofs.Boxes.{raster-lt}
 use Rattle.zf_spec.proofs.Raster.{raster-coordinates, coordinates-raster, length-coordinates, product-fours, length-fours}
@@ -87,14 +87,7 @@ indices_of_place ps =
 -- a position is in the block and at the place that its numbers say
 pub IsAt-position : (ns ps : List ℕ) → length ps ≡ length ns → is_inside ns ps ≡ true → IsAt ns ps (block_number ns ps) (place_of ps)
 IsAt-position ns ps e h =
-    let cs = coordinates_of_block ns ps e h in
-    let is = ap (λ d. indices d (place_of ps)) (sym e) ∙ indices_of_place ps in
-    record {
-      block_in_array = raster-lt (grid ns) (map (λ p. p / 4) ps) (is_inside-grid ns ps h);
-      place_in_block = omega (arith, raster-lt (fours (length ps)) (map (λ p. p % 4) ps) (is_inside-fours ps), product-fours (length ps), ap (λ d. 4 ^ d) e);
-      exists = rw (cs, is) (is_inside-extents ns ps h);
-      position = rw (cs, is) (position_in-parts ps);
-    }
+    search (rules, coordinates_of_block, indices_of_place, raster-lt, is_inside-grid, is_inside-fours, product-fours, is_inside-extents, position_in-parts)
 
 -- a place that exists is that of a position of the array, and of no other
 module _ (ns ps : List ℕ) (b p : ℕ) (h : IsAt ns ps b p) where
@@ -113,12 +106,7 @@ module _ (ns ps : List ℕ) (b p : ℕ) (h : IsAt ns ps b p) where
       ap length (sym h.position) ∙ length-position_in (coordinates (grid ns) b) (indices (length ns) p) (block_length ∙ sym place_length) ∙ block_length
 
   pub IsAt-block : b ≡ block_number ns ps
-  IsAt-block =
-      let cs = blocks_of_position_in ns (coordinates (grid ns) b) (indices (length ns) p) block_length place_length h.exists in
-      sym (ap (λ at. block_number ns at) (sym h.position) ∙ ap (raster (grid ns)) cs ∙ raster-coordinates (grid ns) b h.block_in_array)
+  IsAt-block = search (rules, blocks_of_position_in, block_length, place_length, raster-coordinates)
 
   pub IsAt-place : p ≡ place_of ps
-  IsAt-place =
-      let is = indices_of_position_in ns (coordinates (grid ns) b) (indices (length ns) p) block_length place_length h.exists in
-      let in_block : p < product (fours (length ns)) = omega (arith, h.place_in_block, product-fours (length ns)) in
-      sym (ap (λ d. raster (fours d) (map (λ q. q % 4) ps)) IsAt-length ∙ ap (λ at. raster (fours (length ns)) (map (λ q. q % 4) at)) (sym h.position) ∙ ap (raster (fours (length ns))) is ∙ raster-coordinates (fours (length ns)) p in_block)
+  IsAt-place = search (rules, indices_of_position_in, block_length, place_length, product-fours, IsAt-length, raster-coordinates)

@@ -1,5 +1,5 @@
 -- Sizes along four axes, of which the unused ones are 1, against the list of the used ones.
-use Rattle.std.proofs.Common.{◌≡◌, ℕ, zero, suc, ◌+◌, ◌-◌, ◌/◌, ◌^◌, ◌≤◌, Bool, true, false, cond, Some, None, is_none, nat_lt, ◌==◌, List, [], ◌∷◌, ◌++◌, length, replicate, refl, ap, sym, subst, ◌∙◌, arith, lit≤}
+use Rattle.std.proofs.Common.{◌≡◌, ℕ, zero, suc, ◌+◌, ◌-◌, ◌/◌, ◌^◌, ◌≤◌, Bool, true, false, cond, Some, None, is_none, nat_lt, ◌==◌, List, [], ◌∷◌, ◌++◌, length, replicate, refl, ap, sym, subst, ◌∙◌, arith, lit≤, rules}
 use Rattle.std.specs.List.{AllByRecursion, list_any}
 use Rattle.std.proofs.Math.Nat.{mul-le-mul, one-le-mul}
 use Rattle.std.proofs.lemmas.List.{length-map}
@@ -99,15 +99,7 @@ no_fault true f l h = absurd (cc)
 
 -- sizes with no fault are a shape's
 pub shape_from_no_fault : (ns : List ℕ) → 1 ≤ length ns → length ns ≤ 4 → is_none (shape_fault ns) ≡ true → IsShape ns
-shape_from_no_fault ns some few none =
-    let h = no_fault (list_any (λ n. n == 0) ns) (list_any (λ n. nat_lt (2 ^ (48 / length ns)) n) ns) (nat_lt max_values (product ns)) none in
-    record {
-      some_dimension = some;
-      four_at_most = few;
-      not_zero = none_zero ns h.0;
-      fields = none_above (2 ^ (48 / length ns)) ns h.1;
-      not_too_large = ltb-false max_values (product ns) h.2;
-    }
+shape_from_no_fault ns some few none = search (rules, no_fault, none_zero, none_above, ltb-false)
 
 -- ---- what the four sizes of a shape and of its grid are
 
@@ -123,11 +115,4 @@ pub record IsGridOf (ns : List ℕ) (g : Pos) : Type 0 where
 
 pub grid_of_shape : (ns : List ℕ) (g : Pos) → IsShape ns → g ≡ with_unused 1 (grid ns) → IsGridOf ns g
 grid_of_shape ns g shape e =
-    let four : length (grid ns) ≤ 4 = omega (arith, shape.four_at_most, length-map ns (λ n. (n + 3) / 4)) in
-    let some = grid_not_zero ns shape.not_zero in
-    subst (IsGridOf ns) (sym e) (record {
-      not_zero = all_axes (λ n. 1 ≤ n) (grid ns) four (lit≤ tt) some;
-      count = product-axes (grid ns) four;
-      some = product_not_zero (grid ns) some;
-      bound = omega (arith, blocks_le ns shape.not_zero, shape.not_too_large);
-    })
+    search (rules, length-map, grid_not_zero, all_axes, product-axes, product_not_zero, blocks_le)

@@ -1,5 +1,5 @@
 -- The numbers of a list of values.
-use Rattle.std.proofs.Common.{◌≡◌, ℕ, zero, suc, ◌+◌, ◌<◌, List, ◌++◌, length, get_or, set, map, take, drop, replicate, refl, ap, sym, ◌∙◌, arith}
+use Rattle.std.proofs.Common.{◌≡◌, ℕ, zero, suc, ◌+◌, ◌<◌, List, ◌++◌, length, get_or, set, map, take, drop, replicate, refl, ap, sym, ◌∙◌, rules}
 use Rattle.std.proofs.lemmas.List.{get_or-map, map-set}
 use Rattle.std.proofs.lemmas.List.Edits.{map_over_more}
 
@@ -9,9 +9,7 @@ number_at value block i x d lt is = ap value is ∙ sym (get_or-map value block 
 
 -- a loop's step: over the value at i it writes one whose number is f of that value's
 pub numbers_more : {X Y : Type 0} (value : X → Y) (f : Y → Y) (numbers : List Y) (block : List X) (i : ℕ) (d y : X) → i < length block → length block ≡ length numbers → map value block ≡ map f (take i numbers) ++ drop i numbers → value y ≡ f (value (get_or block i d)) → map value (set block i y) ≡ map f (take (i + 1) numbers) ++ drop (i + 1) numbers
-numbers_more value f numbers block i d y lt same so_far written =
-    let old = value (get_or block i d) in
-    map-set value block i y ∙ ap (set (map value block) i) written ∙ map_over_more f numbers (map value block) i old (omega arith) so_far (sym (get_or-map value block i d old lt))
+numbers_more value f numbers block i d y lt same so_far written = search (rules, map-set, map_over_more, get_or-map)
 
 -- in a list of one value alone, and past its end, each is that value
 pub alike_at : {X : Type 0} (x : X) (n k : ℕ) → get_or (replicate n x) k x ≡ x

@@ -1,5 +1,5 @@
 -- An array stands for the state of its cache and its codes.
-use Rattle.std.proofs.Common.{◌≡◌, ◌⊎◌, inl, inr, refl, sym, ap, subst, ◌∙◌, ℕ, ◌%◌, ◌^◌, ℤ, Bool, true, false, Option, List, map, length, arith}
+use Rattle.std.proofs.Common.{◌≡◌, refl, sym, ap, subst, ◌∙◌, ℕ, ◌%◌, ◌^◌, ℤ, Bool, Option, List, map, length, arith, rules}
 use Rattle.std.specs.Int.{Width}
 use Rattle.std.proofs.Math.ListN.{get_or-map}
 use Rattle.std.proofs.lemmas.Simd.{map-map}
@@ -9,17 +9,15 @@ use Rattle.zf_spec.specs.Grid.{upto, blocks}
 use Rattle.zf_spec.proofs.Counting.{map-get_or-upto}
 use Rattle.zf_base.specs.Formats.{Format, meant}
 use Rattle.zf_base.proofs.Sizes.{blocks_le}
-use Rattle.zf_base.specs.Widths.{width_of}
 use Rattle.zf_header.specs.declared.header.Header.{Header}
-use Rattle.zf_header.specs.HeaderBits.{IsHeader}
-use Rattle.zf_cached.specs.State.{State, no_counts, is_block}
+use Rattle.zf_cached.specs.State.{State, no_counts}
 use Rattle.zf_cached.specs.Touch.{touch}
 use Rattle.zf_cached.specs.Changes.{opened}
 use Rattle.zf_cached.specs.Arrays.{array_format}
 use Rattle.zf_cached.proofs.States.{same_state}
 use Rattle.zf_cached.proofs.Caching.{is_block-true}
-use Rattle.zf_cache.specs.Kept.{Kept, HasBlocks, IsClean, IsEmpty, tag_at, block_in, line_of, dirty_tag, clean_tag}
-use Rattle.zf_cache.specs.Standing.{state_of, values_of, line_values, Fits, HasRoom, state_at}
+use Rattle.zf_cache.specs.Kept.{Kept, HasBlocks, IsClean, IsEmpty, tag_at, block_in, line_of, dirty_tag}
+use Rattle.zf_cache.specs.Standing.{state_of, values_of, Fits, HasRoom, state_at}
 use Rattle.zf_cache.proofs.Tags.{named}
 use Rattle.zf_cache.proofs.Touches.{no_tag}
 use Rattle.zf_const.specs.Standing.{Held, format, state, touched}
@@ -36,21 +34,7 @@ clean_empty c n e l = ap (λ (tags : List ℕ). tag_at tags l % 2) e ∙ ap (λ 
 module _ {X : Type 0} (value : X → ℤ) (s : Coded) (c : Kept X) (fits : Fits value c (format_of s) (code_at s)) (clean : IsClean c) where
   -- a block has the values that its code means, whether it is in its line or not
   values_meant : (b : ℕ) → meant (format_of s) b (code_at s b) ≡ values_of value c (format_of s) (code_at s) b
-  values_meant b = by (cases_Bool (is_block (block_in (tag_at c.tags (line_of c b))) b))
-    where
-      tag : ℕ
-      tag = tag_at c.tags (line_of c b)
-
-      Of : Bool → List ℤ
-      Of t = elim t [ true ↦ line_values value c (format_of s) (line_of c b) b | false ↦ meant (format_of s) b (code_at s b) ]
-
-      by : (is_block (block_in tag) b ≡ true) ⊎ (is_block (block_in tag) b ≡ false) → meant (format_of s) b (code_at s b) ≡ Of (is_block (block_in tag) b)
-      by (inl e) =
-          let half = named tag b (is_block-true (block_in tag) b e) in
-          let even = clean (line_of c b) in
-          let is : tag ≡ clean_tag b = omega (arith, half, even) in
-          sym (ap Of e ∙ fits.clean (line_of c b) b is)
-      by (inr e) = sym (ap Of e)
+  values_meant b = search (rules, cases_Bool, named, is_block-true)
 
   pub state_held : state (held_by value s c) ≡ state_of value c (format_of s) (code_at s)
   unfolding state state_at
@@ -101,10 +85,7 @@ module _ {X : Type 0} (value : X → ℤ) (w : Width) (d : ℕ) (s : Coded) (c :
     -- what a call of the cache leaves
     module _ (t : Coded) (e : Kept X) (kept : t ≡ s) (fits : Fits value e (format_of t) (code_at t)) (clean : IsClean e) where
       pub joined_after : IsJoined value w d t e
-      joined_after =
-          let Is : Coded → Type 0 = λ u. (w ≡ width_of u.header.ty) × (length u.header.shape ≡ d) × IsHeader u.header × (length u.codes ≡ blocks u.header.shape) in
-          let are : Is t = subst Is (sym kept) (joined.same_type, joined.dims, joined.header, joined.count) in
-          record { same_type = are.0; dims = are.1; header = are.2; count = are.3; fits = fits; clean = clean }
+      joined_after = search rules
 
       pub header_after : (held_by value t e).header ≡ now.header
       header_after = ap (λ (u : Coded). u.header) kept ∙ ap (λ (a : Held). a.header) is

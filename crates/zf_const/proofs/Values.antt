@@ -1,5 +1,5 @@
 -- The values of an array are those of its stream, and stay.
-use Rattle.std.proofs.Common.{◌≡◌, refl, sym, ap, ◌∙◌, ℕ, zero, suc, ℤ, pos, Bool, true, Option, Some, None, Result, Ok, List, [], map, length, get_or}
+use Rattle.std.proofs.Common.{◌≡◌, refl, sym, ap, ◌∙◌, ℕ, zero, suc, ℤ, pos, Bool, true, Option, Some, None, Ok, List, [], map, length, get_or}
 use Rattle.zf_spec.specs.Grid.{IsShape, upto, product, blocks, coordinates, raster, is_inside}
 use Rattle.zf_spec.proofs.Counting.{get_or-map-upto}
 use Rattle.zf_spec.proofs.Raster.{coordinates-raster, raster_below}
@@ -15,7 +15,6 @@ use Rattle.zf_cached.specs.Touch.{write_back_line, hit, miss, touch}
 use Rattle.zf_cached.specs.Changes.{write_back_lines, emptied, flush, relined}
 use Rattle.zf_cache.proofs.Stands.{write_back_line-none, write_back_line-some, write_back_dirty-false}
 use Rattle.zf_header.specs.declared.header.Header.{Header}
-use Rattle.zf_parse.specs.declared.fault.StreamFault.{StreamFault}
 use Rattle.zf_parse.specs.Parsing.{Said, parse, values_of_blocks}
 use Rattle.zf_const.specs.Standing.{Held, format, state, values_at, shape, block_at, place_at}
 use Rattle.zf_const.specs.Files.{IsOpened, said}
@@ -36,7 +35,6 @@ unfolding state
 value_said bytes h a it p opened parsed is at =
     let ns = shape a in
     let ps = used_axes (length ns) p in
-    let both : ◌≡◌ {A = Result Said StreamFault} (Ok (said a)) (Ok it) = sym opened.said_is ∙ parsed in
     let same : said a ≡ it = cc in
     sym (value_there ns ps (values_at a) (length-used_axes (length ns) p is.four_at_most) at.inside)
     ∙ ap (λ (s : Said). get_or s.values (raster ns ps) (pos 0)) same
