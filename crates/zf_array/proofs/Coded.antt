@@ -1,20 +1,15 @@
 -- Arrays with no block in any line, and their codes.
 use Rattle.std.proofs.Common.{◌≡◌, sym, ap, subst, ◌∙◌, ℕ, ◌<◌, ℤ, Bool, Some, None, List, length, rules}
-use Rattle.std.proofs.lemmas.Bool.{ne_eqb}
-use Rattle.std.specs.Borrow.{GName, MutBor}
-use Rattle.std.specs.Int.{Width}
+use Rattle.std.{proofs.lemmas.Bool.{ne_eqb}, specs.Borrow.{GName, MutBor}, specs.Int.{Width}}
 use Rattle.zf_base.specs.Formats.{Format, existing_of, meant, with_at, encoded}
-use Rattle.zf_cached.specs.State.{State}
-use Rattle.zf_cached.proofs.States.{same_state}
+use Rattle.zf_cached.{specs.State.{State}, proofs.States.{same_state}}
 use Rattle.zf_header.specs.declared.header.Header.{Header}
-use Rattle.zf_cache.specs.Kept.{Kept, tag_at, block_in}
-use Rattle.zf_cache.specs.Standing.{state_of, Fits, HasRoom, state_at}
+use Rattle.zf_cache.{specs.Kept.{Kept, tag_at, block_in}, specs.Standing.{state_of, Fits, HasRoom, state_at}}
 use Rattle.zf_cache.proofs.Tags.{names-clean, names-dirty}
 use Rattle.zf_store.specs.Stored as store
 use Rattle.zf_store.specs.Stored.{Stored, code_at, format_of}
-use Rattle.zf_array.specs.Standing.{Held, format, state, array_of}
+use Rattle.zf_array.{specs.Standing.{Held, format, state, array_of}, specs.Parts.{held_by, IsJoined}}
 use Rattle.zf_array.specs.Coded.{HasEmptyLines, IsCoded, Frame, frame_of, coded}
-use Rattle.zf_array.specs.Parts.{held_by, IsJoined}
 use Rattle.zf_array.proofs.Standing.{state_now, format_now, header_kept, state_after}
 
 -- ---- a cache with no block in any line

@@ -1,33 +1,22 @@
 -- What is written through a loan of a part of a block.
 use Rattle.std.proofs.Common.{◌≡◌, ◌⊎◌, inl, inr, refl, sym, ap, subst, ◌∙◌, ℕ, suc, ◌+◌, ◌-◌, ◌^◌, ◌<◌, ◌≤◌, ℤ, pos, cond, Bool, true, false, Some, None, List, [], ◌∷◌, ◌++◌, map, length, get_or, set, take, drop, replicate, append_assoc, length-append, length-drop, drop-cons, take_at, drop_at, arith, rules}
-use Rattle.std.specs.Int.{Width}
-use Rattle.std.proofs.lemmas.Bool.{cases_lt, cases_Bool, eqb-true, false≢true}
+use Rattle.std.{specs.Int.{Width}, proofs.lemmas.Bool.{cases_lt, cases_Bool, eqb-true, false≢true}}
 use Rattle.std.proofs.lemmas.List.{length-map, map-append, take-map, drop-map, length-take-le, take-append-drop, drop-drop, get_or-take, get_or-drop, get_or_append_left, get_or-append_right, get_or_past, drop_all, append-nil, set_split}
 use Rattle.std.proofs.Math.Seq.{take-add}
 use Rattle.zf_spec.specs.Grid.{upto, blocks}
 use Rattle.zf_spec.proofs.Counting.{length-map-upto, get_or-map-upto, map-get_or-upto, map-upto_same}
-use Rattle.zf_base.specs.Formats.{Format, existing_of}
+use Rattle.zf_base.{specs.Formats.{Format, existing_of}, specs.declared.position.Pos.{Pos}}
 use Rattle.zf_base.proofs.Formats.{existing_of_same, length-existing_of, get_or-existing_of, get_or-existing_of_exists, existing_of-existing_of, with_at-other}
-use Rattle.zf_base.specs.declared.position.Pos.{Pos}
-use Rattle.zf_header.specs.declared.header.Header.{Header}
-use Rattle.zf_header.specs.HeaderBits.{block_bits}
-use Rattle.zf_cached.specs.State.{State}
-use Rattle.zf_cached.specs.Touch.{touch_for_writing, with_values}
-use Rattle.zf_cached.specs.Changes.{zeros}
-use Rattle.zf_cached.proofs.States.{same_state}
-use Rattle.zf_lines.specs.Rows.{line_at, part, over, over_part}
+use Rattle.zf_header.{specs.declared.header.Header.{Header}, specs.HeaderBits.{block_bits}}
+use Rattle.zf_cached.{specs.State.{State}, specs.Touch.{touch_for_writing, with_values}}
+use Rattle.zf_cached.{specs.Changes.{zeros}, proofs.States.{same_state}}
+use Rattle.zf_lines.{specs.Rows.{line_at, part, over, over_part}, proofs.Sizes.{length-over}}
 use Rattle.zf_lines.specs.Rows as rows
-use Rattle.zf_lines.proofs.Sizes.{length-over}
 use Rattle.zf_cache.specs.Kept.{Kept, HasRow, IsDirty, tag_at, block_in, line_of, dirty_tag}
-use Rattle.zf_cache.specs.Standing.{state_of, state_at}
-use Rattle.zf_cache.specs.Loans.{StandsFor}
-use Rattle.zf_cache.proofs.Steps.{part_written}
-use Rattle.zf_cache.proofs.Sound.{values_here}
-use Rattle.zf_cache.proofs.Tags.{named, names-dirty}
-use Rattle.zf_store.specs.Stored.{Stored, code_at, format_of, rate_of}
-use Rattle.zf_store.proofs.Kept.{block_len_is}
-use Rattle.zf_array.specs.Standing.{Held, format, state, array_of}
-use Rattle.zf_array.specs.Parts.{held_by, IsJoined}
+use Rattle.zf_cache.{specs.Standing.{state_of, state_at}, specs.Loans.{StandsFor}, proofs.Sound.{values_here}}
+use Rattle.zf_cache.{proofs.Steps.{part_written}, proofs.Tags.{named, names-dirty}}
+use Rattle.zf_store.{specs.Stored.{Stored, code_at, format_of, rate_of}, proofs.Kept.{block_len_is}}
+use Rattle.zf_array.{specs.Standing.{Held, format, state, array_of}, specs.Parts.{held_by, IsJoined}}
 use Rattle.zf_array.specs.Loans.{spliced, with_part, with_block, with_value}
 use Rattle.zf_array.proofs.Standing.{none_past, clean_past, zeros_past, in_array, state_now, format_now, header_now}
 

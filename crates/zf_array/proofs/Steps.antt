@@ -1,34 +1,23 @@
 -- What the calls of an array do to its state.
 use Rattle.std.proofs.Common.{◌≡◌, refl, sym, ap, subst, ◌∙◌, ◌⊎◌, inl, inr, ℕ, ◌%◌, ◌^◌, ◌<◌, ◌≤◌, ℤ, Bool, true, false, List, length, get_or, replicate, ◌==◌, arith, rules}
-use Rattle.std.specs.Int.{Width}
-use Rattle.std.proofs.lemmas.Bool.{cases_lt, ne_eqb}
+use Rattle.std.{specs.Int.{Width}, proofs.lemmas.Bool.{cases_lt, ne_eqb}}
 use Rattle.std.proofs.lemmas.List.{get_or_past, length-replicate, get_or-replicate}
-use Rattle.zf_spec.specs.Grid.{blocks, is_inside, indices, extent_of}
-use Rattle.zf_base.specs.declared.lane.Ty.{Ty}
-use Rattle.zf_base.specs.declared.lane.Ty.TheVariants.{I32, I64}
-use Rattle.zf_base.specs.declared.position.Pos.{Pos}
-use Rattle.zf_base.specs.Widths.{width_of}
-use Rattle.zf_base.specs.Positions.{used_axes, IsPosition}
-use Rattle.zf_base.specs.Places.{block_number, place_of, IsAt}
-use Rattle.zf_base.specs.Formats.{Format, meant}
-use Rattle.zf_header.specs.declared.header.Header.{Header}
-use Rattle.zf_header.specs.declared.header.Mode.{Mode}
-use Rattle.zf_header.specs.declared.header.Mode.TheVariants.{Rate}
-use Rattle.zf_spec.specs.Stream.{file, fixed_rate}
+use Rattle.zf_spec.{specs.Grid.{blocks, is_inside, indices, extent_of}, specs.Stream.{file, fixed_rate}}
 use Rattle.zf_spec.proofs.Counting.{map-get_or-upto}
+use Rattle.zf_base.{specs.declared.lane.Ty.{Ty}, specs.declared.lane.Ty.TheVariants.{I32, I64}}
+use Rattle.zf_base.{specs.declared.position.Pos.{Pos}, specs.Widths.{width_of}, specs.Formats.{Format, meant}}
+use Rattle.zf_base.{specs.Positions.{used_axes, IsPosition}, specs.Places.{block_number, place_of, IsAt}}
+use Rattle.zf_header.{specs.declared.header.Header.{Header}, specs.declared.header.Mode.{Mode}}
+use Rattle.zf_header.specs.declared.header.Mode.TheVariants.{Rate}
 use Rattle.zf_header.specs.HeaderBits.{IsRate, coding, block_bits}
-use Rattle.zf_cached.specs.State.{State, no_counts}
-use Rattle.zf_cached.specs.Changes.{opened, raised, resized, zeros}
+use Rattle.zf_cached.{specs.State.{State, no_counts}, specs.Changes.{opened, raised, resized, zeros}}
 use Rattle.zf_cached.specs.Arrays.{rate_coding, array_format, zero_codes, open_array, new_array, codes_of, saved_file}
 use Rattle.zf_cached.proofs.States.{same_state}
-use Rattle.zf_cache.specs.Kept.{Kept, IsEmpty, tag_at, dirty_tag}
-use Rattle.zf_cache.specs.Standing.{state_of, Fits, HasRoom, state_at}
-use Rattle.zf_cache.proofs.Stands.{standing}
-use Rattle.zf_cache.proofs.Steps.{empty_fits}
+use Rattle.zf_cache.{specs.Kept.{Kept, IsEmpty, tag_at, dirty_tag}, proofs.Stands.{standing}}
+use Rattle.zf_cache.{specs.Standing.{state_of, Fits, HasRoom, state_at}, proofs.Steps.{empty_fits}}
 use Rattle.zf_cache.proofs.Touches.{state_is, no_tag, all_meant}
 use Rattle.zf_store.specs.Stored as store
-use Rattle.zf_store.specs.Stored.{Stored, code_at, format_of, frame_of, rate_of}
-use Rattle.zf_store.proofs.Kept.{blocks_is}
+use Rattle.zf_store.{specs.Stored.{Stored, code_at, format_of, frame_of, rate_of}, proofs.Kept.{blocks_is}}
 use Rattle.zf_array.specs.Standing.{Held, stored, format, state, array_of, block_at, place_at}
 use Rattle.zf_array.specs.Parts.{held_by, IsJoined}
 use Rattle.zf_array.proofs.Standing.{zero_meant, stored_held, state_held, state_now, format_now, header_now, header_kept, state_after}

@@ -1,14 +1,11 @@
 -- Blocks of four values, each rounded down to an even number.
 use Rattle.std.proofs.Common.{◌≡◌, sym, ap, ◌∙◌, ℕ, ◌<◌, ℤ, pos, negsuc, FitsSigned, List, [], length, get_or, set, ◌⊎◌, inl, inr, arith}
-use Rattle.std.specs.Int.{Width, w8, w16, w32, w64, w128}
-use Rattle.std.proofs.lemmas.Int.{ints}
-use Rattle.std.proofs.Math.Path.{fun_ext}
-use Rattle.std.proofs.lemmas.Bool.{cases_eq}
+use Rattle.std.{specs.Int.{Width, w8, w16, w32, w64, w128}, proofs.lemmas.Int.{ints}}
+use Rattle.std.{proofs.Math.Path.{fun_ext}, proofs.lemmas.Bool.{cases_eq}}
 use Rattle.std.proofs.lemmas.List.{get_or-set_same, get_or-set_other}
 use Rattle.zf_spec.proofs.Counting.{map-get_or-upto}
-use Rattle.zf_base.specs.Formats.{existing_of, with_at}
+use Rattle.zf_base.{specs.Formats.{existing_of, with_at}, proofs.Formats.{with_at-same, with_at-other}}
 use Rattle.zf_array_tests.specs.EvenValues.{even_below, evens_format}
-use Rattle.zf_base.proofs.Formats.{with_at-same, with_at-other}
 
 -- twice the half of a value of the type is one
 pub even_below_fits : (w : Width) (v : ℤ) → FitsSigned w v → FitsSigned w (even_below v)

@@ -1,9 +1,7 @@
 -- Passes along all axes, one after the other, and how long the block is after them.
 use Rattle.std.proofs.Common.{◌≡◌, ℕ, zero, suc, ◌+◌, ◌-◌, ◌*◌, ◌^◌, ◌<◌, ◌≤◌, ℤ, List, length, refl, ap, ◌∙◌, arith}
-use Rattle.zf_spec.specs.Lift.{along}
-use Rattle.zf_spec.specs.Lift.{along_axes, along_axes_back}
-use Rattle.zf_axes.proofs.Strides.{step_next}
-use Rattle.zf_axes.proofs.LineByLine.{length-along}
+use Rattle.zf_spec.specs.Lift.{along, along_axes, along_axes_back}
+use Rattle.zf_axes.{proofs.Strides.{step_next}, proofs.LineByLine.{length-along}}
 
 -- what the axes to come make of the block is what they make of it after a pass along the first of them, with one axis less
 pub along_axes-next : (f : ℤ → ℤ → ℤ → ℤ → List ℤ) (axis d : ℕ) (all now passed : List ℤ) → axis < d → passed ≡ along f (4 ^ axis) now

@@ -1,13 +1,11 @@
 -- Passes over a block of one value, and back over a block of which all values but the first are zero.
 use Rattle.std.proofs.Common.{◌≡◌, refl, sym, ap, subst, ◌∙◌, ℕ, zero, suc, ◌+◌, ◌-◌, ◌*◌, ◌/◌, ◌%◌, ◌^◌, ◌<◌, ◌≤◌, ⊎_elim, ℤ, pos, List, [], ◌∷◌, length, get_or, replicate, ext_get_or, arith}
-use Rattle.std.proofs.lemmas.Bool.{cases_lt, cases_eq}
+use Rattle.std.{proofs.lemmas.Bool.{cases_lt, cases_eq}, proofs.lemmas.Nat.{div-mul-add, div-add-mod'}}
 use Rattle.std.proofs.lemmas.List.{get_or_past, length-replicate, get_or-replicate}
-use Rattle.std.proofs.lemmas.Nat.{div-mul-add, div-add-mod'}
 use Rattle.std.proofs.Math.Nat.{pow-suc, mul-le-mul_left, mod-lt, mul-mod_left}
 use Rattle.zf_base.proofs.Values.{alike_at}
 use Rattle.zf_spec.specs.Lift.{line_value, along, along_axes, along_axes_back}
-use Rattle.zf_axes.proofs.Strides.{step_some}
-use Rattle.zf_axes.proofs.LineByLine.{length-along, get_or-along}
+use Rattle.zf_axes.{proofs.Strides.{step_some}, proofs.LineByLine.{length-along, get_or-along}}
 use Rattle.zf_axes.proofs.AxisByAxis.{length-along_axes, length-along_axes_back}
 
 -- a line whose first value alone is not zero becomes a line of that value

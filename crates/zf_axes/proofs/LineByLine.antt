@@ -1,11 +1,8 @@
 -- A pass along one axis, line by line.
 use Rattle.std.proofs.Common.{◌≡◌, ◌≢◌, ℕ, ◌+◌, ◌*◌, ◌/◌, ◌%◌, ◌<◌, ◌≤◌, ℤ, pos, List, length, get_or, sym, ap, ◌∙◌, arith, ◌⊎◌, inl, inr}
-use Rattle.std.proofs.lemmas.Bool.{cases_lt}
-use Rattle.std.proofs.lemmas.List.{ext_get_or}
-use Rattle.zf_spec.specs.Lift.{line_value, along}
-use Rattle.zf_spec.proofs.Counting.{length-map-upto, get_or-map-upto}
-use Rattle.zf_axes.specs.Lines.{member, mapped_line, MapsLine}
-use Rattle.zf_axes.proofs.Strides.{line_start, place-of_line}
+use Rattle.std.{proofs.lemmas.Bool.{cases_lt}, proofs.lemmas.List.{ext_get_or}}
+use Rattle.zf_spec.{specs.Lift.{line_value, along}, proofs.Counting.{length-map-upto, get_or-map-upto}}
+use Rattle.zf_axes.{specs.Lines.{member, mapped_line, MapsLine}, proofs.Strides.{line_start, place-of_line}}
 
 pub length-along : (f : ℤ → ℤ → ℤ → ℤ → List ℤ) (step : ℕ) (block : List ℤ) → length (along f step block) ≡ length block
 unfolding along

@@ -1,8 +1,7 @@
 -- Places along the axis whose neighbours are s places apart: where a line begins, and which places it has.
 --     The block is cut into groups of 4 * s places; the lines of a group begin at its first s places.
 use Rattle.std.proofs.Common.{◌≡◌, ℕ, ◌+◌, ◌-◌, ◌*◌, ◌/◌, ◌%◌, ◌^◌, ◌<◌, ◌≤◌, ap, ◌∙◌, arith, ◌⊎◌, inl, inr, add-one, pow-add}
-use Rattle.std.proofs.lemmas.Bool.{cases_lt}
-use Rattle.std.proofs.lemmas.Nat.{div-mul-add, div-add-mod'}
+use Rattle.std.{proofs.lemmas.Bool.{cases_lt}, proofs.lemmas.Nat.{div-mul-add, div-add-mod'}}
 use Rattle.std.proofs.Math.Nat.{mul-le-mul_left, mod-lt, one-le-pow, pow-suc, pow-le-pow_right, mul-mod_left}
 
 -- where the line of a place begins

@@ -1,12 +1,10 @@
 -- The numbering of the positions of a box.
 use Rattle.std.proofs.Common.{◌≡◌, ℕ, zero, suc, ◌+◌, ◌-◌, ◌*◌, ◌/◌, ◌%◌, ◌<◌, ◌≤◌, min, true, nat_lt, List, [], ◌∷◌, ◌++◌, length, replicate, refl, ap, arith, lit<, rules}
-use Rattle.std.specs.List.{AllByRecursion}
+use Rattle.std.{specs.List.{AllByRecursion}, proofs.lemmas.Nat.{mul-add-lt, mod_below, div_below}}
 use Rattle.std.proofs.lemmas.Bool.{and_parts, and_from, ltb-true, lt-ltb, false≢true}
-use Rattle.std.proofs.lemmas.Nat.{mul-add-lt, mod_below, div_below}
 use Rattle.std.proofs.Math.Nat.{le-mul_of_pos_right, mul-pos}
 use Rattle.zf_spec.specs.Grid.{product, raster, coordinates, is_inside, extents}
-use Rattle.zf_base.specs.declared.position.Pos.{Pos}
-use Rattle.zf_base.specs.Positions.{axes}
+use Rattle.zf_base.{specs.declared.position.Pos.{Pos}, specs.Positions.{axes}}
 
 -- a product that is more than some number has no factor zero
 pub factor_not_zero : (n m k : ℕ) → k < n * m → 0 < n

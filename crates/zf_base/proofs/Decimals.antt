@@ -1,7 +1,6 @@
 -- The decimal text of a number.
 use Rattle.std.proofs.Common.{◌≡◌, ℕ, zero, suc, ◌^◌, ◌<◌, length, get_or, ap, arith, lit<}
-use Rattle.std.specs.Prelude.{decimal}
-use Rattle.std.proofs.lemmas.Fmt.{decimal_digit, first_decimal}
+use Rattle.std.{specs.Prelude.{decimal}, proofs.lemmas.Fmt.{decimal_digit, first_decimal}}
 
 -- a zero begins no longer number
 pub one_zero : (n : ℕ) → n < 2 ^ 64 → get_or (decimal n) 0 0 ≡ 48 → 1 < length (decimal n) → ⊥

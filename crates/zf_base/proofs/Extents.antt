@@ -1,16 +1,13 @@
 -- The block, the place and the extent that a shape tells by four axes, against the lists of its used ones.
 use Rattle.std.proofs.Common.{◌≡◌, ℕ, zero, suc, ◌+◌, ◌-◌, ◌/◌, ◌%◌, ◌<◌, ◌≤◌, true, nat_lt, List, [], ◌∷◌, ◌++◌, length, map, replicate, refl, ap, sym, ◌∙◌, arith, length-take, rules}
-use Rattle.std.specs.List.{AllByRecursion}
-use Rattle.std.proofs.lemmas.List.{length-map}
+use Rattle.std.{specs.List.{AllByRecursion}, proofs.lemmas.List.{length-map}}
 use Rattle.std.proofs.lemmas.Bool.{and_parts, ltb-true}
 use Rattle.zf_spec.specs.Grid.{IsShape, grid, blocks, raster, coordinates, is_inside, fours, extents, extent_of}
-use Rattle.zf_base.specs.declared.position.Pos.{Pos}
-use Rattle.zf_base.specs.Positions.{axes, used_axes, with_unused, IsPosition, IsExtent}
-use Rattle.zf_base.specs.Places.{block_number, place_of, IsAt}
-use Rattle.zf_base.proofs.Boxes.{is_inside-append_ones, raster-append_zeros, coordinates-append_ones, extents-append_ones, is_inside-coordinates}
-use Rattle.zf_base.proofs.Sizes.{axes-with_unused}
-use Rattle.zf_base.proofs.Places.{is_inside-grid, IsAt-position}
 use Rattle.zf_spec.proofs.Raster.{length-coordinates, length-fours, length-extents}
+use Rattle.zf_base.{specs.declared.position.Pos.{Pos}, specs.Places.{block_number, place_of, IsAt}}
+use Rattle.zf_base.specs.Positions.{axes, used_axes, with_unused, IsPosition, IsExtent}
+use Rattle.zf_base.proofs.Boxes.{is_inside-append_ones, raster-append_zeros, coordinates-append_ones, extents-append_ones, is_inside-coordinates}
+use Rattle.zf_base.{proofs.Sizes.{axes-with_unused}, proofs.Places.{is_inside-grid, IsAt-position}}
 
 -- ---- the used coordinates of a position, and zeros
 

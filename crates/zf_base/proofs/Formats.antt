@@ -1,7 +1,6 @@
 -- The codes of blocks, whatever their format.
 use Rattle.std.proofs.Common.{◌≡◌, ◌≢◌, refl, sym, ap, ◌∙◌, ℕ, ◌<◌, ℤ, pos, cond, Bool, true, false, eq-eqb, List, length, get_or, set, ext_get_or, ◌⊎◌, inl, inr, arith, rules}
-use Rattle.std.proofs.lemmas.Bool.{cases_eq, ne_eqb}
-use Rattle.std.proofs.lemmas.List.{length-set, get_or-set_other}
+use Rattle.std.{proofs.lemmas.Bool.{cases_eq, ne_eqb}, proofs.lemmas.List.{length-set, get_or-set_other}}
 use Rattle.zf_spec.proofs.Counting.{length-map-upto, get_or-map-upto, map-upto_same}
 use Rattle.zf_base.specs.Formats.{Format, existing_of, meant, encoded, with_at}
 

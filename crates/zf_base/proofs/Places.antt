@@ -3,9 +3,8 @@ use Rattle.std.proofs.Common.{◌≡◌, ℕ, suc, ◌+◌, ◌-◌, ◌*◌, �
 use Rattle.std.proofs.lemmas.List.{length-map}
 use Rattle.std.proofs.lemmas.Bool.{and_parts, and_from, ltb-true, lt-ltb, false≢true}
 use Rattle.zf_spec.specs.Grid.{grid, coordinates, is_inside, fours, indices, extents, position_in}
-use Rattle.zf_base.specs.Places.{block_number, place_of, IsAt}
-use Rattle.zf_base.proofs.Boxes.{raster-lt}
 use Rattle.zf_spec.proofs.Raster.{raster-coordinates, coordinates-raster, length-coordinates, product-fours, length-fours}
+use Rattle.zf_base.{specs.Places.{block_number, place_of, IsAt}, proofs.Boxes.{raster-lt}}
 
 -- ---- from a position to its block and its indices there
 

@@ -1,15 +1,12 @@
 -- Sizes along four axes, of which the unused ones are 1, against the list of the used ones.
 use Rattle.std.proofs.Common.{◌≡◌, ℕ, zero, suc, ◌+◌, ◌-◌, ◌/◌, ◌^◌, ◌≤◌, Bool, true, false, cond, Some, None, is_none, nat_lt, ◌==◌, List, [], ◌∷◌, ◌++◌, length, replicate, refl, ap, sym, subst, ◌∙◌, arith, lit≤, rules}
-use Rattle.std.specs.List.{AllByRecursion, list_any}
-use Rattle.std.proofs.Math.Nat.{mul-le-mul, one-le-mul}
-use Rattle.std.proofs.lemmas.List.{length-map}
-use Rattle.std.proofs.lemmas.Bool.{or_parts, eqb-false, ltb-false, le-ltb}
+use Rattle.std.{specs.List.{AllByRecursion, list_any}, proofs.Math.Nat.{mul-le-mul, one-le-mul}}
+use Rattle.std.{proofs.lemmas.List.{length-map}, proofs.lemmas.Bool.{or_parts, eqb-false, ltb-false, le-ltb}}
 use Rattle.std.proofs.lemmas.Nat.{pow_pos}
 use Rattle.zf_spec.specs.Grid.{product, grid, blocks, max_values, IsShape}
-use Rattle.zf_base.specs.declared.position.Pos.{Pos}
+use Rattle.zf_base.{specs.declared.position.Pos.{Pos}, specs.Shapes.{shape_fault}}
 use Rattle.zf_base.specs.Positions.{axes, used_axes, with_unused, IsShapeOf}
 use Rattle.zf_base.specs.declared.shape.ShapeFault.TheVariants.{Zero, Field, TooLarge}
-use Rattle.zf_base.specs.Shapes.{shape_fault}
 use Rattle.zf_base.proofs.Boxes.{product-append_ones}
 
 pub axes-with_unused : (n : ℕ) (ns : List ℕ) → length ns ≤ 4 → axes (with_unused n ns) ≡ ns ++ replicate (4 - length ns) n

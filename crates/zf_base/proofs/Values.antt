@@ -1,7 +1,6 @@
 -- The numbers of a list of values.
 use Rattle.std.proofs.Common.{◌≡◌, ℕ, zero, suc, ◌+◌, ◌<◌, List, ◌++◌, length, get_or, set, map, take, drop, replicate, refl, ap, sym, ◌∙◌, rules}
-use Rattle.std.proofs.lemmas.List.{get_or-map, map-set}
-use Rattle.std.proofs.lemmas.List.Edits.{map_over_more}
+use Rattle.std.{proofs.lemmas.List.{get_or-map, map-set}, proofs.lemmas.List.Edits.{map_over_more}}
 
 -- x is the element at i: its number is that at i among the numbers
 pub number_at : {X Y : Type 0} (value : X → Y) (block : List X) (i : ℕ) (x : X) (d : Y) → i < length block → x ≡ get_or block i x → value x ≡ get_or (map value block) i d

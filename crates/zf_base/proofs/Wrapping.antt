@@ -1,6 +1,5 @@
 -- What is left of a word at a signed type.
-use Rattle.std.proofs.Common.{◌≡◌, ℕ, ◌%◌, ◌^◌, pos, ap}
-use Rattle.std.specs.Int.{Width, cast_signed, int_wrap}
+use Rattle.std.{proofs.Common.{◌≡◌, ℕ, ◌%◌, ◌^◌, pos, ap}, specs.Int.{Width, cast_signed, int_wrap}}
 use mir.Val.{bits}
 
 pub cast_signed_low : (w : Width) (n v : ℕ) → n ≡ v % 2 ^ bits w → cast_signed w n ≡ int_wrap w (pos v)

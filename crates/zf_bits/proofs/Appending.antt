@@ -1,11 +1,6 @@
 -- One append after another.
-use Rattle.std.proofs.Common.{◌≡◌, ◌+◌, Bool, List, [], ◌++◌, length, sym, ap, subst, ◌∙◌, arith, append_assoc, length-append}
-use Rattle.std.proofs.lemmas.List.{append-nil}
+use Rattle.std.proofs.Common.{◌≡◌, ◌+◌, Bool, List, [], ◌++◌, length, ap, subst, ◌∙◌, arith, append_assoc, length-append}
 use Rattle.zf_bits.specs.Writer.{Writer, Appends}
-
--- nothing was appended
-pub Appends-nil : (w : Writer) → Appends w w []
-Appends-nil w = record { bits = sym (append-nil w.bits); room = omega arith }
 
 pub Appends-append : {a b c : Writer} {xs ys : List Bool} → Appends a b xs → Appends b c ys → Appends a c (xs ++ ys)
 Appends-append {a} {b} {c} {xs} {ys} first second =

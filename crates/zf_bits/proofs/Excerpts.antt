@@ -1,11 +1,8 @@
 -- A few of the bits of a file.
 use Rattle.std.proofs.Common.{◌≡◌, sym, ap, ◌∙◌, ℕ, ◌+◌, ◌-◌, ◌*◌, ◌/◌, ◌%◌, ◌≤◌, min, Bool, List, ◌++◌, length, take, drop, length-drop, arith, rules}
-use Rattle.std.proofs.lemmas.Bool.{cases_lt}
+use Rattle.std.{proofs.lemmas.Bool.{cases_lt}, proofs.lemmas.Grind.{flat_map-append}}
 use Rattle.std.proofs.lemmas.List.{take_at, take_all, take-append-drop, drop_at, drop-drop, drop-take, length-take-le}
-use Rattle.std.proofs.lemmas.Grind.{flat_map-append}
-use Rattle.zf_spec.specs.Numbers.{field}
-use Rattle.zf_spec.specs.Stream.{to_bits}
-use Rattle.zf_spec.proofs.Bytes.{length-to_bits}
+use Rattle.zf_spec.{specs.Numbers.{field}, specs.Stream.{to_bits}, proofs.Bytes.{length-to_bits}}
 
 -- the bits of some of the bytes
 to_bits-cut : (bytes : List ℕ) (first n : ℕ) → first + n ≤ length bytes → to_bits (take n (drop first bytes)) ≡ take (8 * n) (drop (8 * first) (to_bits bytes))

@@ -1,9 +1,8 @@
 -- One bit as a digit; what is short, cut or one longer of the bits of a number.
 use Rattle.std.proofs.Common.{◌≡◌, ℕ, ◌+◌, ◌*◌, ◌/◌, ◌%◌, ◌^◌, ◌<◌, ◌≤◌, Bool, true, false, List, [], ◌∷◌, ◌++◌, length, take, drop, refl, ap, sym, ◌∙◌, arith, length-append, lit<}
-use Rattle.std.proofs.Math.Nat.{mod-eq_of_lt, mul_comm, pow-le-pow_right}
+use Rattle.std.{proofs.Math.Nat.{mod-eq_of_lt, mul_comm, pow-le-pow_right}, specs.Int.{from_bool}}
 use Rattle.std.proofs.lemmas.Nat.{mod-pow-add, mod_low, mod_below, pow_pos, shl_whole}
 use Rattle.std.proofs.lemmas.List.{take_at, drop_at}
-use Rattle.std.specs.Int.{from_bool}
 use Rattle.zf_spec.specs.Numbers.{is_odd, digit_value, field, number}
 use Rattle.zf_spec.proofs.Fields.{length-field, number-field, number-lt, number-append, field-number, field-add}
 

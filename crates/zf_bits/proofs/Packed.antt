@@ -1,18 +1,15 @@
 -- The bits of bytes are the bits of their words, and then zeros.
 use Rattle.std.proofs.Common.{◌≡◌, ℕ, zero, suc, ◌+◌, ◌-◌, ◌*◌, ◌%◌, ◌^◌, ◌<◌, ◌≤◌, false, List, [], ◌∷◌, ◌++◌, length, get_or, take, drop, replicate, All, min, refl, sym, ap, ◌∙◌, arith, append_assoc, length-append, length-drop, lit<, rules}
-use Rattle.std.specs.List.{flat_map}
+use Rattle.std.{specs.List.{flat_map}, proofs.Math.Nat.{pow-suc, mul-suc, mod-eq_of_lt}}
 use Rattle.std.specs.Int.{w64, byte_worth, sum_through, div_ceil, from_le_bytes, to_le_bytes}
-use Rattle.std.proofs.Math.Nat.{pow-suc, mul-suc, mod-eq_of_lt}
 use Rattle.std.proofs.lemmas.List.{append-nil, take_at, take-append-drop, drop_all, drop_at, drop-drop, get_or-drop, length-take-le, replicate-append-replicate}
 use Rattle.std.proofs.lemmas.List.Elements.{All-head, All-tail, All-nil, All-append}
 use Rattle.std.proofs.lemmas.List.Concat.{flat_map-append}
-use Rattle.zf_spec.specs.Numbers.{field, number, word_bits}
+use Rattle.zf_spec.{specs.Numbers.{field, number, word_bits}, proofs.WordBits.{length-word_bits}}
 use Rattle.zf_spec.specs.Stream.{first_bytes, with_fill, to_bits, to_bytes}
-use Rattle.zf_bits.specs.Packing.{word_of, words_from, words_of}
-use Rattle.zf_spec.proofs.WordBits.{length-word_bits}
-use Rattle.zf_bits.proofs.Words.{take-words}
 use Rattle.zf_spec.proofs.Fields.{length-field, number-field, number-append, field-number, field-zero}
 use Rattle.zf_spec.proofs.Bytes.{length-first_bytes, length-to_bits, first_bytes-all, length-to_le_bytes, to_le_bytes_small, from_le_bytes-to_le_bytes, to_bytes-to_bits}
+use Rattle.zf_bits.{specs.Packing.{word_of, words_from, words_of}, proofs.Words.{take-words}}
 
 -- ---- bytes, continued with zero bytes
 

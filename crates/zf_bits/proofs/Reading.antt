@@ -2,8 +2,8 @@
 use Rattle.std.proofs.Common.{◌≡◌, ℕ, ◌+◌, ◌-◌, ◌*◌, ◌/◌, ◌%◌, ◌^◌, ◌<◌, ◌≤◌, Bool, false, List, [], ◌∷◌, ◌++◌, length, get_or, take, drop, min, sym, ap, ◌∙◌, subst, arith, append_assoc, length-append, length-drop, length-take, take-take, refl}
 use Rattle.std.proofs.lemmas.List.{length-take-le, get_or-take, drop_more, drop-drop, drop-take, take-append-drop, take-append-le, take_min}
 use Rattle.zf_spec.specs.Numbers.{is_odd, field, word_bits}
-use Rattle.zf_bits.specs.Reader.{Reader, rest, Reads}
 use Rattle.zf_spec.proofs.WordBits.{length-word_bits, get_or-flat_map-field}
+use Rattle.zf_bits.specs.Reader.{Reader, rest, Reads}
 
 pub Reads-append : {a b c : Reader} {xs ys : List Bool} → Reads a b xs → Reads b c ys → Reads a c (xs ++ ys)
 Reads-append {a} {b} {c} {xs} {ys} first second =

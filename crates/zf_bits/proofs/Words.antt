@@ -1,15 +1,12 @@
 -- The bits of words at a place: in one word, and over the end of one. w is the width of a word.
 use Rattle.std.proofs.Common.{◌≡◌, ℕ, zero, suc, ◌+◌, ◌-◌, ◌*◌, ◌/◌, ◌%◌, ◌^◌, ◌<◌, ◌≤◌, Bool, false, List, [], ◌∷◌, ◌++◌, length, get_or, set, take, drop, replicate, refl, sym, ap, ◌∙◌, arith, append_assoc, length-append, length-drop, take-take, rules}
-use Rattle.std.specs.List.{flat_map}
-use Rattle.std.specs.Int.Bits.{bit_or}
+use Rattle.std.{specs.List.{flat_map}, specs.Int.Bits.{bit_or}, proofs.lemmas.List.Concat.{flat_map-append}}
 use Rattle.std.proofs.Math.Nat.{mul-suc, mul_assoc, add-mul, mul-mod_left, div-eq_of_lt, mod-eq_of_lt}
 use Rattle.std.proofs.Math.Seq.{take-append-add, drop-append-add, take-nil}
 use Rattle.std.proofs.lemmas.Nat.{mod_low, mod_below, shr_high, shl-shr, shr-shr, shr_split, pow_pos, pow-add, mod-pow-add, shr_below, shl_whole, mul-le, mul-add-lt, mul-mod_first, or_shifted, or_comm}
 use Rattle.std.proofs.lemmas.List.{append-nil, take_all, drop_all, take_at, take-append-le, drop-append-le, take-append-drop, drop-drop, drop-take, get_or-drop, take-replicate, drop-replicate, length-take-le, length-replicate, replicate-append-replicate}
-use Rattle.std.proofs.lemmas.List.Concat.{flat_map-append}
-use Rattle.zf_spec.specs.Numbers.{field, number}
+use Rattle.zf_spec.{specs.Numbers.{field, number}, proofs.WordBits.{length-flat_map-field}}
 use Rattle.zf_spec.proofs.Fields.{length-field, number-field, number-append, number-zeros, number-lt, field-number, field-add, field-zero, field-mod}
-use Rattle.zf_spec.proofs.WordBits.{length-flat_map-field}
 use Rattle.zf_bits.proofs.Fields.{take-field, drop-field}
 
 -- ---- whole words

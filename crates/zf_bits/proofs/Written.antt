@@ -1,18 +1,12 @@
 -- Words that hold bits and then zeros, as a writer has them.
-use Rattle.std.proofs.lemmas.Grind.{common_steps}
+use Rattle.std.{proofs.lemmas.Grind.{common_steps}, specs.Int.Bits.{bit_or}, specs.Int.{div_ceil}}
 use Rattle.std.proofs.Common.{◌≡◌, ℕ, suc, ◌+◌, ◌-◌, ◌*◌, ◌/◌, ◌%◌, ◌^◌, ◌<◌, ◌≤◌, Bool, false, List, [], ◌++◌, length, get_or, set, take, drop, replicate, refl, sym, ap, ◌∙◌, arith, append_assoc, length-append, length-drop, length-set, rules}
-use Rattle.std.specs.Int.Bits.{bit_or}
-use Rattle.std.specs.Int.{div_ceil}
-use Rattle.std.proofs.lemmas.Nat.{shr-shr}
+use Rattle.std.{proofs.lemmas.Nat.{shr-shr}, proofs.lemmas.List.Concat.{flat_map-append}}
 use Rattle.std.proofs.lemmas.List.{take_all, take-append-drop, take_at, drop_at, take-replicate, drop-replicate, length-take-le, length-replicate, replicate-append-replicate}
-use Rattle.std.proofs.lemmas.List.Concat.{flat_map-append}
 use Rattle.std.proofs.Math.Seq.{take-append-add, drop-append-add}
-use Rattle.zf_spec.specs.Numbers.{field, word_bits}
-use Rattle.zf_spec.specs.Stream.{with_fill}
-use Rattle.zf_spec.proofs.Fields.{length-field}
+use Rattle.zf_spec.{specs.Numbers.{field, word_bits}, specs.Stream.{with_fill}, proofs.Fields.{length-field}}
 use Rattle.zf_spec.proofs.WordBits.{length-word_bits}
-use Rattle.zf_bits.specs.Writer.{IsWritten, room}
-use Rattle.zf_bits.proofs.Packed.{flat_map-field-replicate}
+use Rattle.zf_bits.{specs.Writer.{IsWritten, room}, proofs.Packed.{flat_map-field-replicate}}
 use Rattle.zf_bits.proofs.Words.{take-words, drop-words, field_behind}
 
 pub length-written : {words : List ℕ} {len : ℕ} → IsWritten words len → length (take len (word_bits words)) ≡ len

@@ -1,6 +1,5 @@
 -- What follows of an answer that may be nothing.
-use Rattle.std.proofs.Common.{◌≡◌, Option, Some, None}
-use Rattle.std.proofs.lemmas.Option.{none-some}
+use Rattle.std.{proofs.Common.{◌≡◌, Option, Some, None}, proofs.lemmas.Option.{none-some}}
 use Rattle.std.specs.Prelude.{IfNone, OnSome}
 
 pub answer_none : {T : Type 0} {P Q : Type 0} (r : Option T) → IfNone r P → (P → Q) → IfNone r Q

@@ -1,13 +1,10 @@
 -- What comes of reading a code, put together from the planes that it has.
 use Rattle.std.proofs.Common.{◌≡◌, sym, ap, subst, ◌∙◌, ℕ, ◌-◌, ◌^◌, ℤ, pos, Bool, List, [], ◌∷◌, replicate}
 use Rattle.std.specs.Int.{Width}
-use Rattle.zf_spec.specs.Grid.{IsDimension}
-use Rattle.zf_spec.specs.Codes.{coefficients_of}
+use Rattle.zf_spec.{specs.Grid.{IsDimension}, specs.Codes.{coefficients_of}}
 use Rattle.zf_bits.specs.Reader.{Reader, rest}
-use Rattle.zf_block.specs.Block.{AreAbove}
-use Rattle.zf_block.specs.Decoding.{PassesCode, LacksBits, StandsFor}
-use Rattle.zf_block.proofs.Kept.{coefficients_of-zeros}
-use Rattle.zf_block.proofs.ZeroPlanes.{zero_coefficients}
+use Rattle.zf_block.{specs.Block.{AreAbove}, specs.Decoding.{PassesCode, LacksBits, StandsFor}}
+use Rattle.zf_block.{proofs.Kept.{coefficients_of-zeros}, proofs.ZeroPlanes.{zero_coefficients}}
 
 -- planes that are missing below make no difference to the coefficients
 pub coefficients_above : (w : Width) (d size : ℕ) (planes held : List (List Bool)) → AreAbove size planes held → coefficients_of w d held ≡ coefficients_of w d planes

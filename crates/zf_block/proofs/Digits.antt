@@ -1,18 +1,12 @@
 -- Digits of coefficients, and the planes that they have.
 use Rattle.std.proofs.Common.{◌≡◌, refl, sym, ap, ◌∙◌, ℕ, ◌<◌, ◌≤◌, ◌^◌, ◌+◌, ◌*◌, ℤ, Bool, List, [], ◌∷◌, map, length, take, get_or, All, ext_get_or, arith}
-use Rattle.std.proofs.lemmas.List.{length-map, get_or-map, length-take-le}
+use Rattle.std.{proofs.lemmas.List.{length-map, get_or-map, length-take-le}, specs.Int.{Width}}
 use Rattle.std.proofs.lemmas.List.Elements.{All-take}
-use Rattle.std.specs.Int.{Width}
 use mir.Val.{bits}
-use Rattle.zf_spec.specs.Numbers.{field, digits, value_of}
-use Rattle.zf_spec.specs.Grid.{upto}
-use Rattle.zf_spec.specs.Planes.{planes_of, digits_in_planes, code}
-use Rattle.zf_spec.specs.Codes.{planes, coefficients_of}
-use Rattle.zf_spec.proofs.Counting.{length-map-upto, get_or-map-upto}
-use Rattle.zf_spec.proofs.Fields.{length-field}
-use Rattle.zf_spec.proofs.Negabinary.{digits-value_of}
-use Rattle.zf_spec.proofs.Ranking.{by_rank-by_place}
-use Rattle.zf_spec.proofs.PlaneCode.{length-code-le}
+use Rattle.zf_spec.{specs.Numbers.{field, digits, value_of}, specs.Grid.{upto}, proofs.Fields.{length-field}}
+use Rattle.zf_spec.{specs.Planes.{planes_of, digits_in_planes, code}, specs.Codes.{planes, coefficients_of}}
+use Rattle.zf_spec.{proofs.Counting.{length-map-upto, get_or-map-upto}, proofs.Negabinary.{digits-value_of}}
+use Rattle.zf_spec.{proofs.Ranking.{by_rank-by_place}, proofs.PlaneCode.{length-code-le}}
 use Rattle.zf_spec.proofs.PlaneDigits.{digits_at, digits_at-planes_of, length-planes_of, planes_of-length}
 use Rattle.zf_coef.specs.HeldDigits.{digits_in, ranked_digits, unranked_values}
 

@@ -1,37 +1,23 @@
 -- Planes in which the first rank alone has ones: their code, what is read as such, and the digits that they hold.
-use Rattle.std.proofs.Common.{rules}
-use Rattle.std.proofs.Common.{◌≡◌, refl, sym, ap, subst, ◌∙◌, ℕ, zero, suc, ◌+◌, ◌-◌, ◌*◌, ◌/◌, ◌%◌, ◌^◌, ◌<◌, ◌≤◌, ◌≢◌, max, inl, inr, Bool, true, false, pos, List, [], ◌∷◌, ◌++◌, map, reverse, length, take, drop, replicate, get_or, ext_get_or, ◌==◌, All, arith}
-use Rattle.std.proofs.Math.Pow.{pow_mono}
+use Rattle.std.proofs.Common.{rules, ◌≡◌, refl, sym, ap, subst, ◌∙◌, ℕ, zero, suc, ◌+◌, ◌-◌, ◌*◌, ◌/◌, ◌%◌, ◌^◌, ◌<◌, ◌≤◌, ◌≢◌, max, inl, inr, Bool, true, false, pos, List, [], ◌∷◌, ◌++◌, map, reverse, length, take, drop, replicate, get_or, ext_get_or, ◌==◌, All, arith}
+use Rattle.std.{proofs.Math.Pow.{pow_mono}, proofs.Math.Nat.{one-le-pow}, specs.Int.{Width}}
 use Rattle.std.proofs.lemmas.Nat.{pow_pos, pow-add, shr-shr, shl_whole, mul-add-lt}
 use Rattle.std.proofs.lemmas.List.{append-nil, map-append, reverse-append, length-append, length-map, length-replicate, length-reverse, length-take, take_all, take-append-le, take-take, take-append-drop, get_or-reverse}
-use Rattle.std.proofs.Math.Nat.{one-le-pow}
-use Rattle.std.specs.Int.{Width}
 use mir.Val.{bits}
-use Rattle.zf_spec.specs.Numbers.{field, is_odd, digit_value, value_of}
-use Rattle.zf_spec.specs.Grid.{IsDimension, IsBlockSize, upto}
+use Rattle.zf_spec.{specs.Numbers.{field, is_odd, digit_value, value_of}, specs.Kept.{kept_planes}}
+use Rattle.zf_spec.{specs.Grid.{IsDimension, IsBlockSize, upto}, specs.Codes.{coefficients_of}}
 use Rattle.zf_spec.specs.Planes.{plane, planes_of, reach, tail, plane_code, code_from, code}
-use Rattle.zf_spec.specs.Kept.{kept_planes}
-use Rattle.zf_spec.specs.Codes.{coefficients_of}
-use Rattle.zf_spec.specs.ReadPlanes.{Begins, planes_in}
-use Rattle.zf_spec.proofs.Beginnings.{begins_itself}
+use Rattle.zf_spec.{specs.ReadPlanes.{Begins, planes_in}, proofs.Beginnings.{begins_itself}}
 use Rattle.zf_spec.proofs.Fields.{length-field, field-add, field-mod, field-zero, is_odd-digit_value}
-use Rattle.zf_spec.proofs.Full.{full_only}
+use Rattle.zf_spec.{proofs.Full.{full_only}, proofs.Reach.{has_one-zeros, reach_none}}
 use Rattle.zf_spec.proofs.PlaneDigits.{length-map-reverse-upto, get_or-map-reverse-upto}
-use Rattle.zf_spec.proofs.Reach.{has_one-zeros, reach_none}
-use Rattle.zf_bits.specs.Reader.{Reader, rest, Reads}
-use Rattle.zf_bits.proofs.Words.{field_shifted}
+use Rattle.zf_bits.{specs.Reader.{Reader, rest, Reads}, proofs.Words.{field_shifted}}
 use Rattle.zf_bits.proofs.Reading.{Reads-append, Reads-same}
-use Rattle.zf_coef.specs.HeldDigits.{digits_in}
-use Rattle.zf_planes.specs.Spread.{lone_code}
-use Rattle.zf_planes.proofs.Runs.{tail_none}
-use Rattle.zf_planes.proofs.Peeking.{IsPeeked, peeked}
-use Rattle.zf_block.specs.Block.{AreAbove}
-use Rattle.zf_block.specs.Decoding.{PassesCode}
-use Rattle.zf_block.specs.ReadBlocks.{uncut_len}
+use Rattle.zf_coef.{specs.HeldDigits.{digits_in}, proofs.FirstAlone.{unranked_first}}
+use Rattle.zf_planes.{specs.Spread.{lone_code}, proofs.Runs.{tail_none}, proofs.Peeking.{IsPeeked, peeked}}
+use Rattle.zf_block.{specs.Block.{AreAbove}, specs.Decoding.{PassesCode}, specs.ReadBlocks.{uncut_len}}
 use Rattle.zf_block.specs.FirstAlone.{digits_down, first_planes, first_code, IsFirstCode, ReadsDigits}
-use Rattle.zf_coef.proofs.FirstAlone.{unranked_first}
-use Rattle.zf_block.proofs.Digits.{coefficients_of-planes_of}
-use Rattle.zf_block.proofs.Kept.{kept_planes-whole}
+use Rattle.zf_block.{proofs.Digits.{coefficients_of-planes_of}, proofs.Kept.{kept_planes-whole}}
 use Rattle.zf_block.proofs.ZeroPlanes.{plane-zeros, first_apart}
 
 -- ---- digits from the top down

@@ -1,12 +1,8 @@
 -- Planes that a budget keeps whole, and planes that are missing below.
-use Rattle.std.proofs.Common.{rules}
-use Rattle.std.proofs.Common.{◌≡◌, refl, sym, ap, ◌∙◌, ℕ, zero, suc, ◌-◌, ◌≤◌, max, Bool, false, List, [], ◌∷◌, ◌++◌, length, take, get_or, replicate, arith}
-use Rattle.std.proofs.lemmas.List.{length-append, take_all}
-use Rattle.std.specs.Int.{Width}
-use Rattle.zf_spec.specs.Planes.{reach, plane_code, code, code_from}
-use Rattle.zf_spec.specs.Kept.{kept_planes_from, kept_planes}
-use Rattle.zf_spec.specs.Codes.{coefficients_of}
-use Rattle.zf_spec.proofs.Counting.{map-upto_same}
+use Rattle.std.proofs.Common.{rules, ◌≡◌, refl, sym, ap, ◌∙◌, ℕ, zero, suc, ◌-◌, ◌≤◌, max, Bool, false, List, [], ◌∷◌, ◌++◌, length, take, get_or, replicate, arith}
+use Rattle.std.{proofs.lemmas.List.{length-append, take_all}, specs.Int.{Width}}
+use Rattle.zf_spec.{specs.Planes.{reach, plane_code, code, code_from}, specs.Codes.{coefficients_of}}
+use Rattle.zf_spec.{specs.Kept.{kept_planes_from, kept_planes}, proofs.Counting.{map-upto_same}}
 use Rattle.zf_spec.proofs.KeptSame.{kept_whole}
 use Rattle.zf_spec.proofs.PlaneDigits.{digits_at, length-digits_at, get_or-digits_at, coefficients_of-is, get_or-blanks}
 

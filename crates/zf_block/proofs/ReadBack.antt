@@ -1,18 +1,14 @@
 -- What is read back from the codes of a block.
-use Rattle.std.proofs.Common.{rules}
-use Rattle.std.proofs.Common.{◌≡◌, sym, ap, ◌∙◌, ℕ, ◌^◌, Bool, ℤ, pos, Some, List, ◌++◌, length, take, refl, ◌-◌, take_at, ext_get_or}
-use Rattle.std.proofs.lemmas.Option.{none-some, some_pair_parts}
-use Rattle.std.specs.Int.{Width}
-use Rattle.zf_spec.specs.Grid.{fours}
+use Rattle.std.proofs.Common.{rules, ◌≡◌, sym, ap, ◌∙◌, ℕ, ◌^◌, Bool, ℤ, pos, Some, List, ◌++◌, length, take, refl, ◌-◌, take_at, ext_get_or}
+use Rattle.std.{proofs.lemmas.Option.{none-some, some_pair_parts}, specs.Int.{Width}}
+use Rattle.zf_spec.{specs.Grid.{fours}, proofs.Padding.{length-existing_values, get_or-existing_inside}}
 use Rattle.zf_spec.specs.Codes.{rev, rate, prec, round, round_prec, existing_values, read_rev, read_rate, read_prec}
 use Rattle.zf_spec.proofs.BlockReading.{read_rev-rev, read_rate-rate, read_prec-prec, length-rate}
-use Rattle.zf_spec.proofs.Padding.{length-existing_values, get_or-existing_inside}
+use Rattle.zf_spec.proofs.Raster.{length-fours}
 use Rattle.zf_pad.proofs.Existing.{inside_fours}
-use Rattle.zf_bits.specs.Reader.{Reader, rest, Reads}
-use Rattle.zf_bits.proofs.Reading.{Reads-same}
+use Rattle.zf_bits.{specs.Reader.{Reader, rest, Reads}, proofs.Reading.{Reads-same}}
 use Rattle.zf_block.specs.Block.{IsBlock}
 use Rattle.zf_block.specs.ReadBlocks.{ReadsRev, LacksRev, ReadsRate, ReadsPrec, LacksPrec}
-use Rattle.zf_spec.proofs.Raster.{length-fours}
 
 -- ---- a reversible code
 

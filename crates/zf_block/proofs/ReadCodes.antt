@@ -1,26 +1,17 @@
 -- What reading a code is, from what was read of it.
-use Rattle.std.proofs.Common.{rules}
-use Rattle.std.proofs.Common.{◌≡◌, sym, ap, subst, ◌∙◌, ℕ, ◌+◌, ◌-◌, ◌^◌, ◌<◌, ◌≤◌, le-ltb, lt-ltb, ℤ, Bool, Some, None, List, ◌++◌, false, length, take, drop, drop_at, replicate, refl, arith}
-use Rattle.std.specs.Int.{Width}
-use Rattle.std.proofs.Math.Nat.{mul-le-mul_left, mul-le-mul_right}
+use Rattle.std.proofs.Common.{rules, ◌≡◌, sym, ap, subst, ◌∙◌, ℕ, ◌+◌, ◌-◌, ◌^◌, ◌<◌, ◌≤◌, le-ltb, lt-ltb, ℤ, Bool, Some, None, List, ◌++◌, false, length, take, drop, drop_at, replicate, refl, arith}
+use Rattle.std.{specs.Int.{Width}, proofs.Math.Nat.{mul-le-mul_left, mul-le-mul_right}}
 use Rattle.std.proofs.Math.Seq.{take-append-add}
 use Rattle.std.proofs.lemmas.List.{length-take, length-take-le, length-append, take_all}
 use mir.Val.{bits}
-use Rattle.zf_spec.specs.Numbers.{field, number}
-use Rattle.zf_spec.specs.Lorenzo.{unlorenzo}
-use Rattle.zf_spec.specs.Lift.{unlift}
-use Rattle.zf_spec.specs.Planes.{code}
-use Rattle.zf_spec.specs.ReadPlanes.{planes_in}
+use Rattle.zf_spec.{specs.Numbers.{field, number}, specs.Lorenzo.{unlorenzo}, specs.Lift.{unlift}}
+use Rattle.zf_spec.{specs.Planes.{code}, specs.ReadPlanes.{planes_in}, specs.Kept.{kept_planes}}
 use Rattle.zf_spec.specs.Codes.{count_bits, coefficients_of, existing_values, read_rev, read_rate, read_prec}
-use Rattle.zf_spec.specs.Kept.{kept_planes}
-use Rattle.zf_spec.proofs.Fields.{length-field}
-use Rattle.zf_spec.proofs.Full.{length-planes_in, planes_in-length}
+use Rattle.zf_spec.{proofs.Fields.{length-field}, proofs.Full.{length-planes_in, planes_in-length}}
 use Rattle.zf_spec.proofs.PlaneCode.{length-code-le}
-use Rattle.zf_bits.specs.Reader.{Reader, rest, Reads}
-use Rattle.zf_bits.proofs.Reading.{Reads-append, Reads-same}
+use Rattle.zf_bits.{specs.Reader.{Reader, rest, Reads}, proofs.Reading.{Reads-append, Reads-same}}
 use Rattle.zf_planes.specs.Decoding.{coded, coded_bits}
-use Rattle.zf_block.specs.Block.{AreAbove}
-use Rattle.zf_block.specs.Decoding.{PassesCode, LacksBits}
+use Rattle.zf_block.{specs.Block.{AreAbove}, specs.Decoding.{PassesCode, LacksBits}}
 use Rattle.zf_block.specs.ReadBlocks.{ReadsRev, LacksRev, ReadsRate, ReadsPrec, LacksPrec, uncut_len, rev_planes, rev_len, prec_planes, prec_len}
 use Rattle.zf_block.proofs.Kept.{kept_planes-whole}
 

@@ -1,18 +1,13 @@
 -- Planes of which the upper ones alone are reached.
-use Rattle.std.proofs.Common.{rules}
-use Rattle.std.proofs.Common.{◌≡◌, refl, sym, ap, ◌∙◌, ℕ, zero, suc, ◌+◌, ◌-◌, ◌*◌, ◌/◌, ◌^◌, ◌<◌, ◌≤◌, max, Bool, true, false, List, [], ◌∷◌, map, length, take, drop, get_or, get_or-take, take-append-drop, ext_get_or, arith, pow-suc}
-use Rattle.std.proofs.lemmas.Bool.{cases_lt}
+use Rattle.std.proofs.Common.{rules, ◌≡◌, refl, sym, ap, ◌∙◌, ℕ, zero, suc, ◌+◌, ◌-◌, ◌*◌, ◌/◌, ◌^◌, ◌<◌, ◌≤◌, max, Bool, true, false, List, [], ◌∷◌, map, length, take, drop, get_or, get_or-take, take-append-drop, ext_get_or, arith, pow-suc}
+use Rattle.std.{proofs.lemmas.Bool.{cases_lt}, proofs.lemmas.List.Elements.{All-head, All-tail, All-take}}
 use Rattle.std.proofs.lemmas.List.{length-append, length-map, length-take, length-take-le, get_or-map, take_all}
-use Rattle.std.proofs.lemmas.List.Elements.{All-head, All-tail, All-take}
-use Rattle.std.proofs.lemmas.Nat.{leading_top, shr-shr}
-use Rattle.std.proofs.lemmas.Nat.Bits.{bit_at_cat_high}
-use lib.Count.{leading_of_zero}
+use Rattle.std.{proofs.lemmas.Nat.{leading_top, shr-shr}, proofs.lemmas.Nat.Bits.{bit_at_cat_high}}
 use Rattle.std.specs.Int.{leading_zeros, w64}
-use Rattle.zf_spec.specs.Numbers.{field, is_odd}
+use lib.Count.{leading_of_zero}
+use Rattle.zf_spec.{specs.Numbers.{field, is_odd}, specs.ReadPlanes.{first_bits}}
 use Rattle.zf_spec.specs.Planes.{plane, planes_of, reach, reach_of_all, tail, plane_code, code_from, code, AreOfSize}
-use Rattle.zf_spec.specs.ReadPlanes.{first_bits}
-use Rattle.zf_spec.proofs.Beginnings.{first_bits-append}
-use Rattle.zf_spec.proofs.Fields.{get_or-field}
+use Rattle.zf_spec.{proofs.Beginnings.{first_bits-append}, proofs.Fields.{get_or-field}}
 use Rattle.zf_spec.proofs.PlaneDigits.{length-planes_of, get_or-planes_of, get_or-plane, planes_of-length}
 use Rattle.zf_spec.proofs.Reach.{reach_within, none_past_reach}
 use Rattle.zf_planes.proofs.Strings.{code_from-append}

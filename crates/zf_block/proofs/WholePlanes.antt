@@ -1,27 +1,19 @@
 -- How far down a code at a fixed rate has its planes whole.
-use Rattle.std.proofs.Common.{rules}
-use Rattle.std.proofs.Common.{◌≡◌, refl, sym, ap, subst, ◌∙◌, ℕ, zero, suc, ◌+◌, ◌-◌, ◌^◌, ◌<◌, ◌≤◌, max, Bool, false, leb, ℤ, List, [], ◌∷◌, ◌++◌, length, take, get_or, replicate, All, ⊎_elim, take-take, append-nil, append_assoc, arith}
-use Rattle.std.proofs.lemmas.Bool.{cases_lt, leb-true, le-leb, true≢false}
-use Rattle.std.proofs.lemmas.List.{length-append, length-take, length-replicate}
+use Rattle.std.proofs.Common.{rules, ◌≡◌, refl, sym, ap, subst, ◌∙◌, ℕ, zero, suc, ◌+◌, ◌-◌, ◌^◌, ◌<◌, ◌≤◌, max, Bool, false, leb, ℤ, List, [], ◌∷◌, ◌++◌, length, take, get_or, replicate, All, ⊎_elim, take-take, append-nil, append_assoc, arith}
+use Rattle.std.{proofs.lemmas.Bool.{cases_lt, leb-true, le-leb, true≢false}, specs.List.{position_or_len}}
+use Rattle.std.{proofs.lemmas.List.{length-append, length-take, length-replicate}, specs.Int.{Width}}
 use Rattle.std.proofs.lemmas.List.Elements.{All-take}
 use Rattle.std.proofs.lemmas.List.Sums.{fails_before_first, passes_at_first, prefix_len-le-length}
-use Rattle.std.specs.List.{position_or_len}
-use Rattle.std.specs.Int.{Width}
 use mir.Val.{bits}
-use Rattle.zf_spec.specs.Grid.{upto}
-use Rattle.zf_spec.specs.Lift.{lift}
-use Rattle.zf_spec.specs.Padding.{pad}
-use Rattle.zf_spec.specs.Planes.{reach, plane_code, code_from, code}
-use Rattle.zf_spec.specs.Kept.{kept_planes}
-use Rattle.zf_spec.specs.ReadPlanes.{first_bits, Begins, planes_in}
-use Rattle.zf_spec.specs.Codes.{planes, rate}
+use Rattle.zf_spec.{specs.Grid.{upto}, specs.Lift.{lift}, specs.Padding.{pad}, specs.Kept.{kept_planes}}
+use Rattle.zf_spec.{specs.Planes.{reach, plane_code, code_from, code}, specs.Codes.{planes, rate}}
+use Rattle.zf_spec.{specs.ReadPlanes.{first_bits, Begins, planes_in}, proofs.CutCodes.{kept_planes-too_long}}
 use Rattle.zf_spec.proofs.Beginnings.{length-first_bits, begins_is_first, begins_from_first, begins_prefix, begins_itself, first_bits-first_bits}
 use Rattle.zf_spec.proofs.Counting.{length-upto, get_or-upto}
 use Rattle.zf_spec.proofs.Full.{full_begins, full_only, length-planes_in, planes_in-length}
 use Rattle.zf_spec.proofs.PlaneDigits.{length-planes, planes-length}
 use Rattle.zf_block.specs.WholePlanes.{planes_from, whole_from, rate_whole_from}
 use Rattle.zf_block.proofs.Kept.{length-kept_planes, kept_planes-top}
-use Rattle.zf_spec.proofs.CutCodes.{kept_planes-too_long}
 
 -- ---- the least plane from which on the codes fit a budget
 

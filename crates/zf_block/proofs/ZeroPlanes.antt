@@ -1,32 +1,24 @@
 -- Planes of zeros: what begins with zeros is read as such, a budget keeps them as they are, and they stand for a block of zeros.
-use Rattle.std.proofs.Common.{rules}
-use Rattle.std.proofs.Common.{◌≡◌, refl, sym, ap, ◌∙◌, ℕ, zero, suc, ◌+◌, ◌-◌, ◌^◌, ◌≤◌, inl, inr, min, max}
-use Rattle.std.proofs.Common.{Bool, true, false, ℤ, pos, List, [], ◌∷◌, map, length, take, reverse, drop, get_or, ext_get_or, replicate, arith}
+use Rattle.std.proofs.Common.{rules, ◌≡◌, refl, sym, ap, ◌∙◌, ℕ, zero, suc, ◌+◌, ◌-◌, ◌^◌, ◌≤◌, inl, inr, min, max, Bool, true, false, ℤ, pos, List, [], ◌∷◌, map, length, take, reverse, drop, get_or, ext_get_or, replicate, arith}
 use Rattle.std.proofs.lemmas.List.{append-nil, length-replicate, take-replicate, drop-replicate, drop-take, take_all}
-use Rattle.std.proofs.Math.Nat.{one-le-pow}
-use Rattle.std.specs.Int.{Width}
+use Rattle.std.{proofs.Math.Nat.{one-le-pow}, specs.Int.{Width}}
 use mir.Val.{bits}
-use Rattle.zf_spec.specs.Numbers.{field, number}
-use Rattle.zf_spec.specs.Grid.{IsDimension, IsBlockSize, upto}
+use Rattle.zf_spec.{specs.Numbers.{field, number}, specs.Grid.{IsDimension, IsBlockSize, upto}}
 use Rattle.zf_spec.specs.Planes.{plane, planes_of, reach, has_one, needed_planes, plane_code, code}
-use Rattle.zf_spec.specs.Kept.{kept_plane, kept_planes_from, kept_planes}
+use Rattle.zf_spec.{specs.Kept.{kept_plane, kept_planes_from, kept_planes}, specs.Padding.{source_place, pad}}
 use Rattle.zf_spec.specs.ReadPlanes.{first_bits, plane_in, planes_in_from, planes_in}
-use Rattle.zf_spec.specs.Padding.{source_place, pad}
 use Rattle.zf_spec.specs.Codes.{count_bits, coefficients_of, planes, rev_of_planes}
-use Rattle.zf_spec.proofs.Fields.{field-zero, number-zeros}
+use Rattle.zf_spec.{proofs.Fields.{field-zero, number-zeros}, proofs.KeptCases.{kept_tail-zeros}}
 use Rattle.zf_spec.proofs.Reach.{has_one-zeros, reach_none, needed_planes-is}
-use Rattle.zf_spec.proofs.KeptCases.{kept_tail-zeros}
 use Rattle.zf_spec.proofs.Padding.{length-pad, get_or-pad}
 use Rattle.zf_spec.proofs.PlaneDigits.{get_or-blank, length-planes_of}
 use Rattle.zf_coef.specs.HeldDigits.{digits_in, unranked_values, ranked_digits}
-use Rattle.zf_base.proofs.Values.{alike_at}
 use Rattle.zf_coef.proofs.FirstAlone.{value_of_none, unranked_first}
-use Rattle.zf_planes.proofs.Runs.{tail_none}
-use Rattle.zf_planes.proofs.Zeros.{take_both, zero_code}
+use Rattle.zf_base.proofs.Values.{alike_at}
+use Rattle.zf_planes.{proofs.Runs.{tail_none}, proofs.Zeros.{take_both, zero_code}}
 use Rattle.zf_block.specs.ReadBlocks.{rev_planes, rev_len, prec_planes, prec_len}
-use Rattle.zf_block.proofs.Zeros.{alike_fewer}
+use Rattle.zf_block.{proofs.Zeros.{alike_fewer}, proofs.Kept.{coefficients_of-zeros}}
 use Rattle.zf_block.proofs.Digits.{planes_of-ranked, ranked-unranked, coefficients_of-planes_of}
-use Rattle.zf_block.proofs.Kept.{coefficients_of-zeros}
 
 -- so many planes of zeros
 abbrev pub zero_planes : ℕ → ℕ → List (List Bool)

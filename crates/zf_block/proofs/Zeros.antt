@@ -1,12 +1,8 @@
 -- Zero bits that fill a code, and planes of zeros at the top.
-use Rattle.std.proofs.Common.{rules}
-use Rattle.std.proofs.Common.{◌≡◌, refl, sym, ap, ◌∙◌, ℕ, zero, suc, ◌+◌, ◌-◌, ◌≤◌, Bool, false, List, [], ◌∷◌, ◌++◌, length, take, replicate, arith}
+use Rattle.std.proofs.Common.{rules, ◌≡◌, refl, sym, ap, ◌∙◌, ℕ, zero, suc, ◌+◌, ◌-◌, ◌≤◌, Bool, false, List, [], ◌∷◌, ◌++◌, length, take, replicate, arith}
 use Rattle.std.proofs.lemmas.List.{replicate-append-replicate, take-take, take-replicate}
-use Rattle.zf_spec.specs.Numbers.{field}
-use Rattle.zf_spec.specs.ReadPlanes.{first_bits}
-use Rattle.zf_spec.proofs.Fields.{field-zero}
-use Rattle.zf_bits.specs.Writer.{Writer, Appends}
-use Rattle.zf_bits.proofs.Appending.{Appends-append, Appends-same}
+use Rattle.zf_spec.{specs.Numbers.{field}, specs.ReadPlanes.{first_bits}, proofs.Fields.{field-zero}}
+use Rattle.zf_bits.{specs.Writer.{Writer, Appends}, proofs.Appending.{Appends-append, Appends-same}}
 
 -- of so many zeros, some are left to write
 pub record WritesZeros (old now : Writer) (count left : ℕ) : Type 0 where

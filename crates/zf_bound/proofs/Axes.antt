@@ -1,18 +1,13 @@
 -- Along all axes: how large the coefficients of a block are, and how far what comes back is from the block.
 use Rattle.std.proofs.Common.{◌≡◌, refl, sym, ap, subst, ◌∙◌, ℕ, zero, suc, ◌+◌, ◌*◌, ◌/◌, ◌%◌, ◌^◌, ◌<◌, ◌≤◌, ℤ, pos, List, length, get_or, ⊎_elim, pow-suc, arith}
-use Rattle.std.specs.Int.RustNames.{unsigned_abs}
-use Rattle.std.specs.Int.{Width}
-use Rattle.std.proofs.lemmas.Bool.{cases_lt}
-use Rattle.std.proofs.lemmas.List.{get_or_past}
-use Rattle.std.proofs.Math.Nat.{mul-mod_left}
+use Rattle.std.{specs.Int.RustNames.{unsigned_abs}, specs.Int.{Width}, proofs.lemmas.Bool.{cases_lt}}
+use Rattle.std.{proofs.lemmas.List.{get_or_past}, proofs.Math.Nat.{mul-mod_left}}
 use mir.Val.{hbits}
 use Rattle.zf_spec.specs.Lift.{lift_line, unlift_line, along, along_axes, along_axes_back}
-use Rattle.zf_axes.proofs.Strides.{line_start, place-of_line}
+use Rattle.zf_axes.{proofs.Strides.{line_start, place-of_line}, proofs.AxisByAxis.{length-along_axes_back}}
 use Rattle.zf_axes.proofs.LineByLine.{length-along, get_or-along}
-use Rattle.zf_axes.proofs.AxisByAxis.{length-along_axes_back}
-use Rattle.zf_bound.specs.Errors.{AreWithin, AreClose, grown}
+use Rattle.zf_bound.{specs.Errors.{AreWithin, AreClose, grown}, proofs.Members.{get_or-member}}
 use Rattle.zf_bound.proofs.Lines.{IsNear, zero_within, of_four, lift_line_within, unlift_line_near}
-use Rattle.zf_bound.proofs.Members.{get_or-member}
 
 -- ---- a pass along one axis
 

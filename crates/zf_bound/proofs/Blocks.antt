@@ -1,19 +1,15 @@
 -- How far what a fixed rate makes of a block is from the block, where planes from some plane up are kept whole.
 use Rattle.std.proofs.Common.{◌≡◌, refl, sym, ap, subst, ◌∙◌, ℕ, zero, suc, ◌+◌, ◌-◌, ◌*◌, ◌^◌, ◌<◌, ◌≤◌, Bool, ℤ, List, length, take, All, arith, rules}
-use Rattle.std.specs.Int.{Width, w8, w16, w32, w64, w128}
-use Rattle.std.proofs.lemmas.Bool.{cases_lt}
+use Rattle.std.{specs.Int.{Width, w8, w16, w32, w64, w128}, proofs.lemmas.Bool.{cases_lt}}
 use Rattle.std.proofs.lemmas.List.{get_or_past}
 use mir.Val.{bits, hbits}
-use Rattle.zf_spec.specs.Padding.{pad}
-use Rattle.zf_spec.specs.Lift.{lift, lift_line, unlift}
-use Rattle.zf_spec.specs.Kept.{kept_planes}
+use Rattle.zf_spec.{specs.Padding.{pad}, specs.Lift.{lift, lift_line, unlift}, specs.Kept.{kept_planes}}
 use Rattle.zf_spec.specs.Codes.{planes, coefficients_of, existing_values, round}
 use Rattle.zf_spec.proofs.Padding.{IsExtent, length-pad, get_or-pad, existing_values-pad, length-existing_values, get_or-existing_values}
 use Rattle.zf_spec.proofs.PlaneDigits.{length-coefficients_of}
 use Rattle.zf_axes.proofs.AxisByAxis.{length-along_axes}
 use Rattle.zf_bound.specs.Errors.{AreWithin, AreClose, lost_below, grown, IsSmallEnough}
-use Rattle.zf_bound.proofs.Lines.{zero_within}
-use Rattle.zf_bound.proofs.Axes.{lifted_within, restored_close}
+use Rattle.zf_bound.{proofs.Lines.{zero_within}, proofs.Axes.{lifted_within, restored_close}}
 use Rattle.zf_bound.proofs.LostDigits.{coefficients_close}
 
 -- ---- the premise

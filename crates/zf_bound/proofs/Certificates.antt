@@ -1,12 +1,10 @@
 -- What is certified is there once its parts are.
-use Rattle.std.proofs.Common.{◌≡◌, ap, ◌∙◌, ℕ, Bool, List, length, rules}
-use Rattle.std.specs.Prelude.{◌↔◌, IsTrue}
+use Rattle.std.{proofs.Common.{◌≡◌, ap, ◌∙◌, ℕ, Bool, List, length, rules}, specs.Prelude.{◌↔◌, IsTrue}}
 use Rattle.std.proofs.lemmas.Bool.{ltb_from_iff}
 use mir.Val.{bits}
 use Rattle.zf_base.specs.Widths.{width_of}
 use Rattle.zf_header.specs.declared.header.Header.{Header}
-use Rattle.zf_bound.specs.declared.certified.Certified.{Certified}
-use Rattle.zf_bound.specs.Errors.{IsSmallEnough}
+use Rattle.zf_bound.{specs.declared.certified.Certified.{Certified}, specs.Errors.{IsSmallEnough}}
 use Rattle.zf_bound.specs.Bounds.{plane_of, error_of, certified_of}
 
 made : ℕ → ℕ → Bool → Certified

@@ -1,9 +1,7 @@
 -- A code among bits, and the plane of the codes of an index.
 use Rattle.std.proofs.Common.{◌≡◌, ap, ◌∙◌, ℕ, ◌+◌, ◌≤◌, max, Bool, List, [], ◌∷◌, ◌++◌, map, length, take, drop, take-take, arith, rules}
-use Rattle.std.specs.Int.{Width}
-use Rattle.std.proofs.lemmas.List.{length-take, length-drop, map-append}
-use Rattle.zf_spec.specs.Grid.{upto}
-use Rattle.zf_spec.proofs.Counting.{count_from-add}
+use Rattle.std.{specs.Int.{Width}, proofs.lemmas.List.{length-take, length-drop, map-append}}
+use Rattle.zf_spec.{specs.Grid.{upto}, proofs.Counting.{count_from-add}}
 use Rattle.zf_bits.specs.Reader.{Reader, rest}
 use Rattle.zf_block.specs.WholePlanes.{rate_whole_from}
 use Rattle.zf_bound.specs.Bounds.{plane_of}

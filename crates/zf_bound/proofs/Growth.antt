@@ -1,6 +1,5 @@
 -- How large the error is at most.
-use Rattle.std.proofs.Common.{ℕ, ◌^◌, ◌≤◌, arith}
-use Rattle.std.proofs.Math.Nat.{pow-le-pow_right}
+use Rattle.std.{proofs.Common.{ℕ, ◌^◌, ◌≤◌, arith}, proofs.Math.Nat.{pow-le-pow_right}}
 
 -- up to four axes, of planes of up to 64 bits
 pub power_most : (d : ℕ) → d ≤ 4 → 4 ^ d ≤ 256

@@ -1,28 +1,18 @@
 -- What is certified of a file whose codes an index has.
 use Rattle.std.proofs.Common.{◌≡◌, sym, ap, subst, ◌∙◌, ℕ, ◌+◌, ◌*◌, ◌<◌, ◌≤◌, Bool, ℤ, Some, List, length, take, rules}
-use Rattle.std.specs.Prelude.{IfOk, is_ok}
-use Rattle.std.specs.Int.{Width}
-use Rattle.std.proofs.lemmas.Option.{none-some}
+use Rattle.std.{specs.Prelude.{IfOk}, specs.Int.{Width}, proofs.lemmas.Option.{none-some}}
 use mir.Val.{bits}
-use Rattle.zf_spec.specs.Grid.{IsShape, extent_of}
-use Rattle.zf_spec.specs.Codes.{read_rate}
-use Rattle.zf_spec.specs.Stream.{to_bits}
-use Rattle.zf_spec.proofs.Bytes.{length-to_bits}
-use Rattle.zf_spec.proofs.Counting.{map-upto_same, get_or-map-upto}
+use Rattle.zf_spec.{specs.Grid.{IsShape, extent_of}, specs.Codes.{read_rate}, specs.Stream.{to_bits}}
+use Rattle.zf_spec.{proofs.Bytes.{length-to_bits}, proofs.Counting.{map-upto_same, get_or-map-upto}}
 use Rattle.zf_base.specs.Widths.{width_of}
-use Rattle.zf_header.specs.declared.header.Header.{Header}
-use Rattle.zf_header.specs.declared.header.Mode.{Mode}
-use Rattle.zf_header.specs.declared.header.Mode.TheVariants.{Rate}
-use Rattle.zf_header.specs.HeaderBits.{IsRate, block_bits}
+use Rattle.zf_header.{specs.declared.header.Header.{Header}, specs.declared.header.Mode.{Mode}}
+use Rattle.zf_header.{specs.declared.header.Mode.TheVariants.{Rate}, specs.HeaderBits.{IsRate, block_bits}}
 use Rattle.zf_header.proofs.Modes.{mode_is_rate, rate_is_some}
 use Rattle.zf_parse.specs.Parsing.{Said, parse, read_code, values_of_blocks, longest_code}
-use Rattle.zf_index.specs.Spans.{Index, len_at, code_in, codes_in}
+use Rattle.zf_index.{specs.Spans.{Index, len_at, code_in, codes_in}, proofs.Places.{ends_within}}
 use Rattle.zf_index.specs.Files.{IsIndexOf, found, block_read, len_read, blocks_found}
-use Rattle.zf_index.proofs.Places.{ends_within}
-use Rattle.zf_bound.specs.Errors.{IsSmallEnough}
-use Rattle.zf_bound.specs.Bounds.{IsGood, plane_of, error_of, IsBound}
-use Rattle.zf_bound.specs.Spans.{AreInside}
-use Rattle.zf_bound.proofs.Streams.{blocks_read, stream_close}
+use Rattle.zf_bound.{specs.Errors.{IsSmallEnough}, specs.Bounds.{plane_of, error_of, IsBound}}
+use Rattle.zf_bound.{specs.Spans.{AreInside}, proofs.Streams.{blocks_read, stream_close}}
 
 -- ---- a fixed rate
 
@@ -37,9 +27,6 @@ rate_found w b n es s = search (rules, none-some, some_same)
 -- ---- a file
 
 module _ (bytes : List ℕ) (h : Header) (i : Index) (index : IsIndexOf bytes h i) where
-  pub is_good : IsGood bytes
-  is_good = ap is_ok index.said
-
   -- what is known of any stream is known of this one
   pub is_said : (P : Said → Type 0) → P (record { header = h; codes = codes_in i (to_bits bytes); values = values_of_blocks h.shape (blocks_found h i (to_bits bytes)) }) → IfOk (parse bytes) P
   is_said P known = subst (λ r. IfOk r P) (sym index.said) known

@@ -1,10 +1,8 @@
 -- The two facts of a line, as the laws state them.
-use Rattle.std.proofs.Common.{ℕ, ◌+◌, ◌-◌, ◌*◌, ◌^◌, ◌<◌, ℤ, [], ◌∷◌, arith}
-use Rattle.std.specs.Int.{Width}
+use Rattle.std.{proofs.Common.{ℕ, ◌+◌, ◌-◌, ◌*◌, ◌^◌, ◌<◌, ℤ, [], ◌∷◌, arith}, specs.Int.{Width}}
 use mir.Val.{bits}
 use Rattle.zf_spec.specs.Lift.{lift_line, unlift_line}
-use Rattle.zf_bound.specs.Errors.{AreWithin, AreClose}
-use Rattle.zf_bound.proofs.Lines.{lift_line_within, unlift_line_near}
+use Rattle.zf_bound.{specs.Errors.{AreWithin, AreClose}, proofs.Lines.{lift_line_within, unlift_line_near}}
 use Rattle.zf_bound.proofs.Blocks.{power_half}
 
 pub coefficients_within : (w : Width) (x y z v : ℤ) (m : ℕ) → 8 * (m + 4) < 2 ^ (bits w - 1) → AreWithin m (x ∷ y ∷ z ∷ v ∷ []) → AreWithin (m + 4) (lift_line w x y z v)

@@ -1,8 +1,6 @@
 -- The two facts of a line: how large its coefficients are, and how far what comes back is from it, where they have an error.
 use Rattle.std.proofs.Common.{sym, subst, ℕ, zero, suc, ◌+◌, ◌*◌, ◌^◌, ◌<◌, ◌≤◌, ℤ, pos, ◌-ℤ◌, List, [], ◌∷◌, get_or, arith}
-use Rattle.std.specs.Int.RustNames.{unsigned_abs}
-use Rattle.std.specs.Int.{Width}
-use Rattle.std.proofs.lemmas.Int.{ints}
+use Rattle.std.{specs.Int.RustNames.{unsigned_abs}, specs.Int.{Width}, proofs.lemmas.Int.{ints}}
 use mir.Val.{hbits}
 use Rattle.zf_spec.specs.Lift.{lift_line, unlift_line}
 use Rattle.zf_bound.proofs.WholeLines.{a_within, b_within, c_within, d_within, x_near, y_near, z_near, w_near}

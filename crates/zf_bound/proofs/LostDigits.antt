@@ -1,22 +1,16 @@
 -- What the digits below a plane come to: where digits from the plane up are the same, values differ by less than 2^k.
 use Rattle.std.proofs.Common.{◌≡◌, refl, sym, ap, subst, ◌∙◌, ℕ, zero, suc, ◌+◌, ◌-◌, ◌^◌, ◌<◌, ◌≤◌, Bool, true, false, ℤ, pos, negsuc, ◌+ℤ◌, ◌-ℤ◌, ◌*ℤ◌, List, [], ◌∷◌, map, length, get_or, take, ⊎_elim, get_or-take, pow-suc, arith, rules}
-use Rattle.std.specs.Int.RustNames.{unsigned_abs}
-use Rattle.std.specs.Int.{Width}
-use Rattle.std.proofs.lemmas.Bool.{cases_lt}
-use Rattle.std.proofs.lemmas.List.{get_or_past, get_or-map}
-use Rattle.std.proofs.lemmas.Int.{ints}
+use Rattle.std.{specs.Int.RustNames.{unsigned_abs}, specs.Int.{Width}, proofs.lemmas.Bool.{cases_lt}}
+use Rattle.std.{proofs.lemmas.List.{get_or_past, get_or-map}, proofs.lemmas.Int.{ints}}
 use Rattle.std.proofs.Math.Nat.{one-le-pow}
 use mir.Val.{bits, hbits}
 use Rattle.zf_spec.specs.Numbers.{IsSameModulo, digit_value, digits_sum, digits, value_of}
-use Rattle.zf_spec.specs.Ranks.{by_rank}
-use Rattle.zf_spec.specs.Codes.{planes, coefficients_of}
+use Rattle.zf_spec.{specs.Ranks.{by_rank}, specs.Codes.{planes, coefficients_of}}
 use Rattle.zf_spec.proofs.Wrapping.{same_modulo_refl, same_modulo_add, wrap_from_same}
-use Rattle.zf_spec.proofs.Negabinary.{length-digits, digits_sum-digits}
-use Rattle.zf_spec.proofs.Counting.{get_or-map-upto}
+use Rattle.zf_spec.{proofs.Negabinary.{length-digits, digits_sum-digits}, proofs.Counting.{get_or-map-upto}}
 use Rattle.zf_spec.proofs.Ranking.{rank_of, rank_of_below, order-rank_of, length-by_rank, get_or-by_rank, get_or-by_place}
 use Rattle.zf_spec.proofs.PlaneDigits.{digits_at, length-digits_at, get_or-digits_at, digits_at-planes_of, coefficients_of-is, values_by_rank, length-coefficients_of}
-use Rattle.zf_bound.specs.Errors.{AreWithin, AreClose, lost_below}
-use Rattle.zf_bound.proofs.NoWrap.{whole}
+use Rattle.zf_bound.{specs.Errors.{AreWithin, AreClose, lost_below}, proofs.NoWrap.{whole}}
 use Rattle.zf_bound.proofs.Lines.{IsNear, zero_within}
 
 -- ---- sums of digits

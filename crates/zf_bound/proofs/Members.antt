@@ -1,7 +1,6 @@
 -- The places of a line, in a block that is made of whole groups of lines.
 use Rattle.std.proofs.Common.{◌≡◌, ℕ, ◌+◌, ◌*◌, ◌/◌, ◌%◌, ◌<◌, ◌≤◌, ℤ, pos, List, length, get_or, ap, ◌∙◌, ◌⊎◌, inl, inr, arith, rules}
-use Rattle.std.proofs.lemmas.Bool.{cases_lt}
-use Rattle.std.proofs.lemmas.Nat.{div-mul-add}
+use Rattle.std.{proofs.lemmas.Bool.{cases_lt}, proofs.lemmas.Nat.{div-mul-add}}
 use Rattle.std.proofs.Math.Nat.{mul-le-mul_left, mod-lt}
 use Rattle.zf_spec.specs.Lift.{along}
 use Rattle.zf_axes.proofs.Strides.{line_start, line_start-is, line_start-member, groups_are_whole, group_inside}

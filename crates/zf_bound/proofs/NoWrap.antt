@@ -1,13 +1,10 @@
 -- Where values are small enough nothing wraps: the lift of a line and the way back are those over whole numbers.
 use Rattle.std.proofs.Common.{◌≡◌, refl, sym, subst, ℕ, ◌+◌, ◌*◌, ◌^◌, ◌<◌, ◌≤◌, ℤ, pos, ◌+ℤ◌, ◌-ℤ◌, ◌*ℤ◌, [], ◌∷◌, lt_of_le_of_lt, arith, rules}
-use Rattle.std.specs.Int.RustNames.{unsigned_abs}
-use Rattle.std.specs.Int.{Width}
+use Rattle.std.{specs.Int.RustNames.{unsigned_abs}, specs.Int.{Width}}
 use Rattle.std.proofs.lemmas.Int.{ints, fits_signed_from_abs}
 use mir.Val.{hbits}
-use Rattle.zf_spec.specs.Numbers.{wrap, floor_half, half}
-use Rattle.zf_spec.specs.Lift.{lift_line, unlift_line}
-use Rattle.zf_spec.proofs.Wrapping.{wrap_value}
-use Rattle.zf_spec.proofs.Halves.{floor_half_at_most, floor_half_above}
+use Rattle.zf_spec.{specs.Numbers.{wrap, floor_half, half}, specs.Lift.{lift_line, unlift_line}}
+use Rattle.zf_spec.{proofs.Wrapping.{wrap_value}, proofs.Halves.{floor_half_at_most, floor_half_above}}
 use Rattle.zf_bound.proofs.WholeLines.{IsHalf, Averages, Lifts, Unlifts, half_within, average_within, rest_within}
 
 -- ---- one step

@@ -2,20 +2,15 @@
 use Rattle.std.proofs.Common.{◌≡◌, refl, sym, subst, ℕ, ℤ, Bool, List, map, length, rules}
 use Rattle.std.specs.Prelude.{IfOk}
 use mir.Val.{bits}
-use Rattle.zf_spec.specs.Grid.{product, blocks, extent_of, block_of, upto}
-use Rattle.zf_spec.specs.Codes.{round}
+use Rattle.zf_spec.{specs.Grid.{product, blocks, extent_of, block_of, upto}, specs.Codes.{round}}
+use Rattle.zf_spec.{proofs.Counting.{get_or-map-upto, map-upto_same}, proofs.BlockReading.{read_rate-rate}}
 use Rattle.zf_spec.specs.Stream as stream
-use Rattle.zf_spec.proofs.Counting.{get_or-map-upto, map-upto_same}
-use Rattle.zf_spec.proofs.BlockReading.{read_rate-rate}
 use Rattle.zf_base.specs.Widths.{width_of}
-use Rattle.zf_header.specs.declared.header.Header.{Header}
-use Rattle.zf_header.specs.declared.header.Mode.TheVariants.{Rate}
+use Rattle.zf_header.{specs.declared.header.Header.{Header}, specs.declared.header.Mode.TheVariants.{Rate}}
 use Rattle.zf_header.specs.HeaderBits.{coding, IsHeader}
-use Rattle.zf_parse.specs.Raw.{stream_of}
-use Rattle.zf_parse.specs.Parsing.{parse, values_of_blocks}
+use Rattle.zf_parse.{specs.Raw.{stream_of}, specs.Parsing.{parse, values_of_blocks}}
 use Rattle.zf_parse.proofs.StreamsBack.{said-rate}
-use Rattle.zf_bound.specs.Errors.{AreWithin, AreClose, IsSmallEnough}
-use Rattle.zf_bound.specs.Bounds.{plane_of, error_of}
+use Rattle.zf_bound.{specs.Errors.{AreWithin, AreClose, IsSmallEnough}, specs.Bounds.{plane_of, error_of}}
 use Rattle.zf_bound.proofs.Streams.{blocks_read, stream_close}
 
 -- the codes of values, and what the rate makes of each block

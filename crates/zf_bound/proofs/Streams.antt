@@ -1,36 +1,23 @@
 -- How far the values of a stream are from whatever contents have its codes.
 use Rattle.std.proofs.Common.{◌≡◌, refl, sym, ap, subst, ◌∙◌, ℕ, zero, suc, ◌-◌, ◌^◌, ◌<◌, ◌≤◌, Bool, ℤ, pos, List, [], ◌∷◌, map, length, get_or, take, All, ⊎_elim, arith, rules}
-use Rattle.std.specs.Int.{Width}
-use Rattle.std.proofs.lemmas.Bool.{cases_lt}
-use Rattle.std.proofs.lemmas.List.{get_or_past}
+use Rattle.std.{specs.Int.{Width}, proofs.lemmas.Bool.{cases_lt}, proofs.lemmas.List.{get_or_past}}
 use mir.Val.{bits}
-use Rattle.zf_spec.specs.Grid.{IsShape, blocks, extent_of, block_of, blocks_of, upto}
-use Rattle.zf_spec.specs.Kept.{kept_planes}
-use Rattle.zf_spec.specs.Padding.{pad}
-use Rattle.zf_spec.specs.Lift.{lift}
-use Rattle.zf_spec.specs.Codes.{existing_values, rate, round, read_rate}
-use Rattle.zf_spec.specs.Stream as stream
-use Rattle.zf_spec.specs.ReadPlanes.{planes_in}
-use Rattle.zf_spec.proofs.Full.{length-planes_in}
-use Rattle.zf_spec.proofs.Counting.{length-map-upto, get_or-map-upto}
-use Rattle.zf_spec.proofs.BlockReading.{read_rate-rate}
+use Rattle.zf_spec.{specs.Grid.{IsShape, blocks, extent_of, block_of, blocks_of, upto}, specs.Padding.{pad}}
+use Rattle.zf_spec.{specs.Kept.{kept_planes}, specs.Lift.{lift}, specs.ReadPlanes.{planes_in}}
+use Rattle.zf_spec.{specs.Codes.{existing_values, rate, round, read_rate}, proofs.Full.{length-planes_in}}
+use Rattle.zf_spec.{proofs.Counting.{length-map-upto, get_or-map-upto}, proofs.BlockReading.{read_rate-rate}}
 use Rattle.zf_spec.proofs.PlaneDigits.{length-planes}
-use Rattle.zf_base.specs.Widths.{width_of}
-use Rattle.zf_base.proofs.Extents.{length-extent_of}
+use Rattle.zf_spec.specs.Stream as stream
+use Rattle.zf_base.{specs.Widths.{width_of}, proofs.Extents.{length-extent_of}}
 use Rattle.zf_pad.proofs.Blocks.{all_extents}
-use Rattle.zf_header.specs.declared.header.Header.{Header}
-use Rattle.zf_header.specs.declared.header.Mode.TheVariants.{Rate}
+use Rattle.zf_header.{specs.declared.header.Header.{Header}, specs.declared.header.Mode.TheVariants.{Rate}}
 use Rattle.zf_header.specs.HeaderBits.{coding}
-use Rattle.zf_block.specs.WholePlanes.{planes_from, rate_whole_from}
-use Rattle.zf_block.proofs.Kept.{length-kept_planes}
+use Rattle.zf_block.{specs.WholePlanes.{planes_from, rate_whole_from}, proofs.Kept.{length-kept_planes}}
 use Rattle.zf_block.proofs.WholePlanes.{planes_kept_from, block_planes, whole_from-le}
-use Rattle.zf_parse.specs.Parsing.{values_of_blocks}
-use Rattle.zf_parse.proofs.Joined.{values_of_blocks-blocks}
+use Rattle.zf_parse.{specs.Parsing.{values_of_blocks}, proofs.Joined.{values_of_blocks-blocks}}
 use Rattle.zf_parse.proofs.BlocksBack.{existing_values-block_of}
-use Rattle.zf_bound.specs.Errors.{AreWithin, AreClose, IsSmallEnough}
-use Rattle.zf_bound.specs.Bounds.{plane_of, error_of, AreContents}
-use Rattle.zf_bound.proofs.Lines.{zero_within}
-use Rattle.zf_bound.proofs.Blocks.{round_close}
+use Rattle.zf_bound.{specs.Errors.{AreWithin, AreClose, IsSmallEnough}, proofs.Lines.{zero_within}}
+use Rattle.zf_bound.{specs.Bounds.{plane_of, error_of, AreContents}, proofs.Blocks.{round_close}}
 
 -- ---- the plane of a stream
 

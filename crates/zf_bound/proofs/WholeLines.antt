@@ -1,8 +1,7 @@
 -- The lift of a line and the way back over whole numbers, where nothing wraps: how large the coefficients are,
 -- and how far what comes back is from the line, where the coefficients have an error.
 use Rattle.std.proofs.Common.{◌≡◌, ℕ, ◌+◌, ◌*◌, ◌≤◌, ℤ, pos, ◌+ℤ◌, ◌-ℤ◌, ◌≤ℤ◌, le_trans, arith, rules}
-use Rattle.std.specs.Int.RustNames.{unsigned_abs}
-use Rattle.std.proofs.lemmas.Int.{ints}
+use Rattle.std.{specs.Int.RustNames.{unsigned_abs}, proofs.lemmas.Int.{ints}}
 
 -- h is half of s, rounded down
 pub record IsHalf (s h : ℤ) : Type 0 where

@@ -1,23 +1,13 @@
 -- What a touched cache gives to read, and what it ends as once a loan of a block has ended.
 use Rattle.std.proofs.Common.{◌≡◌, refl, sym, ap, subst, ◌∙◌, ℕ, ◌<◌, ℤ, pos, Bool, true, false, List, map, length, get_or, replicate, rules}
-use Rattle.std.specs.Bool.{OnTrue}
-use Rattle.std.proofs.lemmas.List.{get_or-map, set-set, length-replicate}
-use Rattle.zf_base.specs.Formats.{Format, existing_of}
-use Rattle.zf_base.proofs.Formats.{get_or-existing_of_exists}
-use Rattle.zf_cached.specs.State.{State}
-use Rattle.zf_cached.specs.Touch.{soiled, with_values}
-use Rattle.zf_cached.specs.Changes.{flush, relined}
-use Rattle.zf_lines.specs.Rows.{line_at, over, with_line}
-use Rattle.zf_lines.proofs.Sizes.{length-over}
-use Rattle.zf_cache.specs.declared.body.Body.{Body}
-use Rattle.zf_cache.specs.Kept.{Kept, tag_at, dirty_tag, written_in}
-use Rattle.zf_cache.specs.Rules.{IsRule}
-use Rattle.zf_cache.specs.Bodies.{IsSound, ComesTo, kept_of, counts_of}
-use Rattle.zf_cache.specs.Standing.{values_by, state_at, FitsAt}
-use Rattle.zf_cache.specs.Steps.{touch_in}
-use Rattle.zf_cache.proofs.Tags.{names}
-use Rattle.zf_cache.proofs.Stands.{standing_at}
-use Rattle.zf_cache.proofs.Touches.{state_stands, relines}
+use Rattle.std.{specs.Bool.{OnTrue}, proofs.lemmas.List.{get_or-map, set-set, length-replicate}}
+use Rattle.zf_base.{specs.Formats.{Format, existing_of}, proofs.Formats.{get_or-existing_of_exists}}
+use Rattle.zf_cached.{specs.State.{State}, specs.Touch.{soiled, with_values}, specs.Changes.{flush, relined}}
+use Rattle.zf_lines.{specs.Rows.{line_at, over, with_line}, proofs.Sizes.{length-over}}
+use Rattle.zf_cache.{specs.declared.body.Body.{Body}, specs.Kept.{Kept, tag_at, dirty_tag, written_in}}
+use Rattle.zf_cache.{specs.Rules.{IsRule}, specs.Bodies.{IsSound, ComesTo, kept_of, counts_of}}
+use Rattle.zf_cache.{specs.Standing.{values_by, state_at, FitsAt}, specs.Steps.{touch_in}}
+use Rattle.zf_cache.{proofs.Tags.{names}, proofs.Stands.{standing_at}, proofs.Touches.{state_stands, relines}}
 use Rattle.zf_cache.proofs.Sound.{line_below, writes_row, values_there}
 
 on_true : (b : Bool) {P : Type 0} → (b ≡ true → P) → OnTrue b P

@@ -1,18 +1,12 @@
 -- What is proved of the parts of a cache, in the words of its contracts, whatever its placing.
 use Rattle.std.proofs.Common.{◌≡◌, refl, sym, ap, subst, ◌∙◌, ℕ, ℤ, List, length, rules}
-use Rattle.zf_base.specs.Formats.{Format}
-use Rattle.zf_base.specs.declared.backing.Reading.{Ghosts as Reading}
-use Rattle.zf_cached.specs.State.{State}
-use Rattle.zf_cached.specs.Placing.{Line}
+use Rattle.zf_base.{specs.Formats.{Format}, specs.declared.backing.Reading.{Ghosts as Reading}}
+use Rattle.zf_cached.{specs.State.{State}, specs.Placing.{Line}, specs.Changes.{flush}}
 use Rattle.zf_cached.specs.Touch.{touch_at, touch_for_writing_at, soiled}
-use Rattle.zf_cached.specs.Changes.{flush}
 use Rattle.zf_lines.specs.Rows.{line_at, over}
-use Rattle.zf_cache.specs.declared.body.Body.{Body}
+use Rattle.zf_cache.{specs.declared.body.Body.{Body}, specs.Rules.{IsRule, IsTold}, specs.Backed.{StepsTo}}
 use Rattle.zf_cache.specs.Kept.{line_by, Kept, tag_at, dirty_tag, written_in}
-use Rattle.zf_cache.specs.Rules.{IsRule, IsTold}
-use Rattle.zf_cache.specs.Bodies.{IsSound, ComesTo, kept_of, state_in}
-use Rattle.zf_cache.specs.Backed.{StepsTo}
-use Rattle.zf_cache.specs.Standing.{state_at, FitsAt}
+use Rattle.zf_cache.{specs.Bodies.{IsSound, ComesTo, kept_of, state_in}, specs.Standing.{state_at, FitsAt}}
 use Rattle.zf_cache.specs.Steps.{touch_in, with_value, put_at}
 use Rattle.zf_cache.specs.Loans.{StandsForAt, LendsBlockAt, lent_block_at}
 use Rattle.zf_cache.proofs.Lent.{state_now, fits_now, row_held, lent_state, lent_fits}

@@ -3,16 +3,11 @@ use Rattle.std.proofs.Common.{◌≡◌, refl, ap, ◌∙◌, ℕ, ◌<◌, ℤ,
 use Rattle.std.proofs.lemmas.List.{length-set, length-map, map-set}
 use Rattle.zf_base.specs.Formats.{Format, existing_of}
 use Rattle.zf_cached.specs.State.{State}
-use Rattle.zf_lines.specs.Rows.{line_at, over}
-use Rattle.zf_lines.proofs.Sizes.{length-over, over_same}
-use Rattle.zf_cache.specs.declared.body.Body.{Body}
-use Rattle.zf_cache.specs.Kept.{IsIn, tag_at, block_in, dirty_tag}
-use Rattle.zf_cache.specs.Rules.{IsRule}
-use Rattle.zf_cache.specs.Bodies.{IsSound, kept_of, counts_of}
-use Rattle.zf_cache.specs.Standing.{state_at}
-use Rattle.zf_cache.specs.Steps.{with_value}
+use Rattle.zf_lines.{specs.Rows.{line_at, over}, proofs.Sizes.{length-over, over_same}}
+use Rattle.zf_cache.{specs.declared.body.Body.{Body}, specs.Kept.{IsIn, tag_at, block_in, dirty_tag}}
+use Rattle.zf_cache.{specs.Rules.{IsRule}, specs.Bodies.{IsSound, kept_of, counts_of}}
+use Rattle.zf_cache.{specs.Standing.{state_at}, specs.Steps.{with_value}, proofs.Tags.{names-dirty, named}}
 use Rattle.zf_cache.proofs.Sound.{row_there, writes_row, values_there, existing_of-set}
-use Rattle.zf_cache.proofs.Tags.{names-dirty, named}
 
 module _ (place : ℕ → List ℕ → ℕ → ℕ) (may_hold : ℕ → ℕ → ℕ → Type 0) (rule : IsRule place may_hold) {X Code : Type 0} (value : X → ℤ)
     (t d : Body X) (h f : Format Code) (j : ℕ → Code) (b l : ℕ) (s : State Code) (sound : IsSound place value t h j) (same : h ≡ f)

@@ -1,9 +1,6 @@
 -- Rows of values for the lines that blocks come to.
-use Rattle.std.proofs.Common.{◌≡◌, ℕ, ◌<◌, min, List, length, rules}
-use Rattle.std.proofs.lemmas.Bool.{cases_lt}
-use Rattle.zf_cache.specs.Kept.{Kept}
-use Rattle.zf_cache.specs.Rules.{IsRule}
-use Rattle.zf_cache.specs.Standing.{HasRoomAt}
+use Rattle.std.{proofs.Common.{◌≡◌, ℕ, ◌<◌, min, List, length, rules}, proofs.lemmas.Bool.{cases_lt}}
+use Rattle.zf_cache.{specs.Kept.{Kept}, specs.Rules.{IsRule}, specs.Standing.{HasRoomAt}}
 
 module _ (place : ℕ → List ℕ → ℕ → ℕ) {X : Type 0} where
   -- as many lines, and as many rows

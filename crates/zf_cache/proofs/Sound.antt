@@ -4,16 +4,12 @@ use Rattle.std.proofs.lemmas.Bool.{cases_lt}
 use Rattle.std.proofs.lemmas.List.{length-set, length-replicate, set-set, set-get_or, get_or-set_same, get_or-set_other}
 use Rattle.zf_base.specs.Formats.{Format, existing_of, meant}
 use Rattle.zf_base.proofs.Formats.{length-existing_of, existing_of_same, get_or-existing_of_exists}
-use Rattle.zf_cached.specs.State.{Counts, State, risen}
-use Rattle.zf_cached.specs.Touch.{hit, soiled, with_values}
-use Rattle.zf_lines.specs.Rows.{line_at, HasSize}
-use Rattle.zf_lines.proofs.Sizes.{HasSize-set}
-use Rattle.zf_cache.specs.declared.body.Body.{Body}
+use Rattle.zf_cached.{specs.State.{Counts, State, risen}, specs.Touch.{hit, soiled, with_values}}
+use Rattle.zf_lines.{specs.Rows.{line_at, HasSize}, proofs.Sizes.{HasSize-set}}
+use Rattle.zf_cache.{specs.declared.body.Body.{Body}, specs.Rules.{IsRule, one_line}}
 use Rattle.zf_cache.specs.Kept.{line_by, Kept, IsAway, IsClean, OnlyLine, tag_at, clean_tag, dirty_tag, dirty_of}
 use Rattle.zf_cache.specs.Bodies.{IsWhole, IsSound, ComesTo, kept_of, counts_of}
-use Rattle.zf_cache.specs.Rules.{IsRule, one_line}
-use Rattle.zf_cache.specs.Standing.{state_at, state_of, evicted}
-use Rattle.zf_cache.specs.Steps.{taken_in, touch_in}
+use Rattle.zf_cache.{specs.Standing.{state_at, state_of, evicted}, specs.Steps.{taken_in, touch_in}}
 use Rattle.zf_cache.proofs.Tags.{same_or_not, names, named, tag-set_same, tag-set_other}
 use Rattle.zf_cache.proofs.Stands.{standing_at, Fit, codes_after, counts_after, empties, fits_after, dirty_below, takes_in, fits_taken, writes, fits_written, soils, fits_soiled, vals-in}
 use Rattle.zf_cache.proofs.Touches.{no_tag, fits_of, fit_of, state_stands, touches_here, touches_away}
@@ -201,7 +197,7 @@ pub existing_of-set : {Code : Type 0} (f : Format Code) (b : ℕ) (xs : List ℤ
     → existing_of f b (set xs p v) ≡ existing_of f b (set (existing_of f b xs) p v)
 existing_of-set f b xs p v long lt =
     existing_of_same f b (set xs p v) (set (existing_of f b xs) p v) (λ q h e.
-        search (rules, same_or_not, get_or-set_same, length-existing_of, get_or-set_other, get_or-existing_of_exists))
+    search (rules, same_or_not, get_or-set_same, length-existing_of, get_or-set_other, get_or-existing_of_exists))
 
 -- nothing is dirty where a clean block comes into a line
 pub stays_clean : {X : Type 0} (c d : Kept X) (l b : ℕ) → l < length c.tags → IsClean c → d.tags ≡ set c.tags l (clean_tag b) → IsClean d

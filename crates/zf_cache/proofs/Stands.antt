@@ -5,15 +5,12 @@ use Rattle.std.proofs.lemmas.Bool.{ne_eqb}
 use Rattle.std.proofs.lemmas.List.{get_or-set_same, get_or-set_other, length-set}
 use Rattle.zf_base.specs.Formats.{Format, existing_of, meant, encoded, with_at}
 use Rattle.zf_base.proofs.Formats.{with_at-same, with_at-other, encoded-existing_of}
-use Rattle.zf_cached.specs.State.{Counts, State, is_block, risen}
+use Rattle.zf_cached.{specs.State.{Counts, State, is_block, risen}, proofs.States.{same_state}}
 use Rattle.zf_cached.specs.Touch.{write_back, write_back_dirty, write_back_line, soiled, with_values}
-use Rattle.zf_cached.proofs.States.{same_state}
 use Rattle.zf_cached.proofs.Caching.{is_block-some}
 use Rattle.zf_lines.specs.Rows.{line_at}
 use Rattle.zf_cache.specs.Kept.{IsIn, IsAway, tag_at, block_in, clean_tag, dirty_tag, dirty_of}
-use Rattle.zf_cache.specs.Rules.{IsRule, one_line}
-use Rattle.zf_cache.specs.Standing.{evicted}
-use Rattle.zf_cache.specs.Steps.{taken_in}
+use Rattle.zf_cache.{specs.Rules.{IsRule, one_line}, specs.Standing.{evicted}, specs.Steps.{taken_in}}
 use Rattle.zf_cache.proofs.Tags.{even, same_or_not, is_or_not, names, named, names-clean, names-dirty, is_block-other, dirty_of-some, dirty_of-none, tag-set_same, tag-set_other}
 
 -- ---- the definitions of write-back, case by case
@@ -357,9 +354,6 @@ module _ (place : ℕ → List ℕ → ℕ → ℕ) {X Code : Type 0} (value : X
 
           in-after : in_line rows l b ≡ meant f b (k b)
           in-after = ap (λ r. existing_of f b (map value r)) row-same ∙ loaded
-
-          away-taken : (a : ℕ) → a ≢ b → IsAway tags a → IsAway tags' a
-          away-taken a ne out m e = search (rules, same_or_not, only-in, before)
 
           again : (m a : ℕ) → m ≢ l → IsIn tags m a → place n tags' a ≡ m
           again m a ne e = placed-taken m a (ap block_in (tag-other m ne) ∙ e)

@@ -1,18 +1,14 @@
 -- The calls that take no backing, as steps of the state over any backing; and what fits everything.
 use Rattle.std.proofs.Common.{◌≡◌, refl, sym, ap, subst, ◌∙◌, ℕ, zero, suc, ◌%◌, ◌<◌, ◌==◌, ℤ, false, Option, Some, None, List, map, length, replicate, inl, inr, arith}
-use Rattle.std.proofs.lemmas.Bool.{ne_eqb, cases_lt}
-use Rattle.std.proofs.lemmas.List.{length-replicate, get_or_past}
+use Rattle.std.{proofs.lemmas.Bool.{ne_eqb, cases_lt}, proofs.lemmas.List.{length-replicate, get_or_past}}
 use Rattle.zf_base.specs.Formats.{Format, existing_of}
-use Rattle.zf_cached.specs.State.{Counts, State}
-use Rattle.zf_cached.specs.Touch.{write_back_line, with_values}
+use Rattle.zf_cached.{specs.State.{Counts, State}, specs.Touch.{write_back_line, with_values}}
 use Rattle.zf_cached.specs.Changes.{write_back_lines, flush, emptied, discard, relined}
-use Rattle.zf_cached.proofs.States.{same_state}
+use Rattle.zf_cached.{proofs.States.{same_state}, specs.Placing.{IsDirect}}
 use Rattle.zf_lines.specs.Rows.{line_at, over_part, with_part}
-use Rattle.zf_cached.specs.Placing.{IsDirect}
 use Rattle.zf_cache.specs.Kept.{Kept, IsClean, IsDirty, IsEmpty, line_of, tag_at, block_in, dirty_tag}
-use Rattle.zf_cache.specs.Rules.{one_line, one_line_rule}
+use Rattle.zf_cache.{specs.Rules.{one_line, one_line_rule}, specs.Loans.{StandsFor}}
 use Rattle.zf_cache.specs.Standing.{state_at, state_of, FitsAt, Fits, HasRoomAt, HasRoom}
-use Rattle.zf_cache.specs.Loans.{StandsFor}
 use Rattle.zf_cache.proofs.Stands.{standing_at, standing, Fit, write_back_line-none, write_back_line-some, write_back_dirty-false, undirty_values, writes, fits_written}
 use Rattle.zf_cache.proofs.Rooms.{room_stays}
 use Rattle.zf_cache.proofs.Touches.{no_tag, state_stands, state_is, fit_of, fits_of, fits_empty, all_meant_at, all_meant, discards}

@@ -1,10 +1,7 @@
 -- What tags name.
 use Rattle.std.proofs.Common.{◌≡◌, ◌≢◌, ◌⊎◌, inl, inr, refl, sym, ap, ◌∙◌, ℕ, zero, suc, ◌+◌, ◌-◌, ◌/◌, ◌%◌, ◌^◌, ◌<◌, ◌≤◌, ◌==◌, true, false, Option, Some, None, List, [], ◌∷◌, length, set, replicate, arith, rules}
-use Rattle.std.proofs.lemmas.Bool.{ne_eqb}
-use Rattle.std.proofs.lemmas.Nat.{pow_pos, and_mask}
-use Rattle.std.proofs.Math.Pow.{pow_mono}
-use Rattle.std.specs.Int.Bits.{bit_and}
-use Rattle.std.proofs.lemmas.List.{get_or-set_same, get_or-set_other}
+use Rattle.std.{proofs.lemmas.Bool.{ne_eqb}, proofs.lemmas.Nat.{pow_pos, and_mask}, specs.Int.Bits.{bit_and}}
+use Rattle.std.{proofs.Math.Pow.{pow_mono}, proofs.lemmas.List.{get_or-set_same, get_or-set_other}}
 use Rattle.zf_cached.specs.State.{is_block}
 use Rattle.zf_cache.specs.Kept.{tag_at, one_less, block_in, clean_tag, dirty_tag, dirty_of, IsLineCount}
 

@@ -2,17 +2,12 @@
 use Rattle.std.proofs.Common.{◌≡◌, ◌≢◌, inl, inr, refl, sym, ap, subst, ◌∙◌, ℕ, zero, suc, ◌<◌, ◌≤◌, ℤ, Bool, true, false, cond, nat_lt, Option, Some, None, List, length, replicate, eq-eqb, arith, rules}
 use Rattle.std.proofs.lemmas.Bool.{cases_lt, lt-ltb, le-ltb}
 use Rattle.std.proofs.lemmas.List.{length-replicate, get_or-replicate, get_or_past}
-use Rattle.zf_base.specs.Formats.{Format, meant}
-use Rattle.zf_base.proofs.Formats.{with_at-same, with_at-other}
-use Rattle.zf_cached.specs.State.{Counts, State}
+use Rattle.zf_base.{specs.Formats.{Format, meant}, proofs.Formats.{with_at-same, with_at-other}}
+use Rattle.zf_cached.{specs.State.{Counts, State}, specs.Changes.{write_back_lines, emptied, flush, discard}}
 use Rattle.zf_cached.specs.Touch.{write_back, write_back_dirty, write_back_line, hit, miss}
-use Rattle.zf_cached.specs.Changes.{write_back_lines, emptied, flush, discard}
-use Rattle.zf_cached.proofs.States.{same_state}
-use Rattle.zf_cached.proofs.Caching.{is_block-some}
-use Rattle.zf_cache.specs.Kept.{Kept, IsAway, tag_at, block_in}
-use Rattle.zf_cache.specs.Rules.{one_line}
-use Rattle.zf_cache.specs.Standing.{state_at, state_of, FitsAt, evicted}
-use Rattle.zf_cache.specs.Steps.{taken_in, touch_in}
+use Rattle.zf_cached.{proofs.States.{same_state}, proofs.Caching.{is_block-some}}
+use Rattle.zf_cache.{specs.Kept.{Kept, IsAway, tag_at, block_in}, specs.Rules.{one_line}}
+use Rattle.zf_cache.{specs.Standing.{state_at, state_of, FitsAt, evicted}, specs.Steps.{taken_in, touch_in}}
 use Rattle.zf_cache.proofs.Tags.{same_or_not, is_block-other}
 use Rattle.zf_cache.proofs.Stands.{standing_at, standing, soiled_in, Fit, write_back_line-none, write_back_line-some, write_back_dirty-false, write_back_dirty-true, undirty_values, vals-out, dirty-out}
 

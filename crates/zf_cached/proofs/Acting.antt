@@ -1,18 +1,12 @@
 -- What the acts of a view keep, and what they leave of blocks that are not its own.
-use Rattle.std.proofs.Common.{◌≡◌, refl, ℕ, ℤ, pos, ◌+ℤ◌, Bool, true, false, get_or, set}
-use Rattle.std.specs.Int.{Width}
+use Rattle.std.{proofs.Common.{◌≡◌, refl, ℕ, ℤ, pos, ◌+ℤ◌, Bool, true, false, get_or, set}, specs.Int.{Width}}
 use Rattle.zf_spec.specs.Numbers.{wrap}
-use Rattle.zf_base.specs.Formats.{Format}
-use Rattle.zf_base.proofs.Formats.{existing_of-set}
-use Rattle.zf_cached.specs.State.{State}
+use Rattle.zf_base.{specs.Formats.{Format}, proofs.Formats.{existing_of-set}}
+use Rattle.zf_cached.{specs.State.{State}, specs.Changes.{discard}, specs.Acts.{Act}}
 use Rattle.zf_cached.specs.Touch.{touch, soiled, touch_for_writing_at, touch_for_writing, with_values}
-use Rattle.zf_cached.specs.Changes.{discard}
-use Rattle.zf_cached.specs.Placing.{direct, IsDirect, direct_placing}
-use Rattle.zf_cached.specs.Acts.{Act}
-use Rattle.zf_cached.specs.Views.{changed, acted}
-use Rattle.zf_cached.specs.Consistency.{IsPossible, IsConsistent}
+use Rattle.zf_cached.{specs.Placing.{direct, IsDirect, direct_placing}, specs.Views.{changed, acted}}
+use Rattle.zf_cached.{specs.Consistency.{IsPossible, IsConsistent}, proofs.Flushing.{flush-clean}}
 use Rattle.zf_cached.proofs.Caching.{touch-left_clean, touch_for_writing-dirty}
-use Rattle.zf_cached.proofs.Flushing.{flush-clean}
 use Rattle.zf_cached.proofs.Placed.{touch-consistent, touch_for_writing-consistent, with_values-consistent, flush-consistent, discard-consistent}
 
 module _ {Code : Type 0} (w : Width) (format : Format Code) where

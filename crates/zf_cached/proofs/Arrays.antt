@@ -1,22 +1,16 @@
 -- The codes of arrays: what they mean, how values are rounded, and the code of zeros.
 use Rattle.std.proofs.Common.{◌≡◌, sym, ap, ◌∙◌, ℕ, ◌^◌, ◌<◌, ℤ, pos, cond, Bool, false, List, map, length, get_or, replicate, All, ◌+◌, ◌*◌, rules}
-use Rattle.std.proofs.lemmas.List.Elements.{All-from_recursion}
-use Rattle.std.specs.Int.{Width, div_ceil}
-use Rattle.zf_spec.specs.Grid.{upto, blocks, indices, is_inside, extent_of}
-use Rattle.zf_spec.specs.Lift.{lift}
-use Rattle.zf_spec.specs.Planes.{code}
-use Rattle.zf_spec.specs.ReadPlanes.{first_bits}
+use Rattle.std.{proofs.lemmas.List.Elements.{All-from_recursion}, specs.Int.{Width, div_ceil}}
+use Rattle.zf_spec.{specs.Grid.{upto, blocks, indices, is_inside, extent_of}, specs.Lift.{lift}}
+use Rattle.zf_spec.{specs.Planes.{code}, specs.ReadPlanes.{first_bits}, proofs.Files.{length-file}}
 use Rattle.zf_spec.specs.Codes.{planes, existing_values, rate, round, read_rate}
-use Rattle.zf_spec.specs.Stream.{header, file, fixed_rate}
-use Rattle.zf_spec.proofs.Counting.{length-upto, map-get_or-upto}
-use Rattle.zf_spec.proofs.Files.{length-file}
+use Rattle.zf_spec.{specs.Stream.{header, file, fixed_rate}, proofs.Counting.{length-upto, map-get_or-upto}}
 use Rattle.zf_spec.proofs.Padding.{IsExtent, pad-existing_values, existing_values-existing_values}
 use Rattle.zf_spec.proofs.BlockReading.{read_rate-rate}
 use Rattle.zf_base.specs.Formats.{existing_of, meant, encoded, rounded}
 use Rattle.zf_base.proofs.Formats.{existing_of-existing_of}
 use Rattle.zf_base.proofs.Extents.{length-extent_of, extent_of_bounds}
-use Rattle.zf_cached.specs.State.{State}
-use Rattle.zf_cached.specs.Changes.{opened, zeros}
+use Rattle.zf_cached.{specs.State.{State}, specs.Changes.{opened, zeros}}
 use Rattle.zf_cached.specs.Arrays.{Coding, plain_coding, rate_coding, array_format, open_array, codes_of, saved_file, file_bytes}
 use Rattle.zf_cached.proofs.CodeOfZeros.{read_rate-zeros}
 

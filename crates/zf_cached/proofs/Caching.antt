@@ -1,10 +1,8 @@
 -- Touches and write-backs, and what becomes of each block.
 use Rattle.std.proofs.Common.{◌≡◌, ◌≢◌, refl, sym, ap, subst, ◌∙◌, ℕ, ◌%◌, Bool, true, false, eqb, eqb-true, eq-eqb, Option, Some, None, rules}
 use Rattle.std.proofs.lemmas.Bool.{cases_eq}
-use Rattle.zf_base.specs.Formats.{Format, rounded, with_at}
-use Rattle.zf_base.proofs.Formats.{with_at-same, with_at-other}
-use Rattle.zf_cached.specs.State.{State, is_block, is_here}
-use Rattle.zf_cached.specs.Placing.{Line, line_in, is_at, direct}
+use Rattle.zf_base.{specs.Formats.{Format, rounded, with_at}, proofs.Formats.{with_at-same, with_at-other}}
+use Rattle.zf_cached.{specs.State.{State, is_block, is_here}, specs.Placing.{Line, line_in, is_at, direct}}
 use Rattle.zf_cached.specs.Touch.{write_back, write_back_dirty, write_back_line, hit, miss, touch_at, soiled, touch_for_writing_at, touch}
 use Rattle.zf_cached.specs.Fates.{IsLeft, IsRounded}
 

@@ -1,26 +1,16 @@
 -- The code of zeros: bits that are all 0 read as a block of zeros.
 use Rattle.std.proofs.Common.{◌≡◌, refl, sym, ap, subst, ◌∙◌, ℕ, zero, suc, ◌-◌, ◌*◌, ◌/◌, ◌%◌, ◌^◌, ◌≤◌, Bool, true, false, ◌==◌, cond, ℤ, pos, negsuc, ◌+ℤ◌, ◌*ℤ◌, List, [], ◌∷◌, map, length, get_or, replicate, reverse, All, arith, rules}
-use Rattle.std.proofs.Math.Path.{fun_ext}
-use Rattle.std.proofs.Math.Nat.{one-le-pow}
-use Rattle.std.proofs.lemmas.List.{length-replicate, get_or-replicate}
-use Rattle.std.specs.Int.{Width, w8, int_wrap}
-use Rattle.std.specs.List.{position_or_len}
+use Rattle.std.{proofs.Math.Path.{fun_ext}, proofs.Math.Nat.{one-le-pow}, specs.Int.{Width, w8, int_wrap}}
+use Rattle.std.{proofs.lemmas.List.{length-replicate, get_or-replicate}, specs.List.{position_or_len}}
 use mir.Val.{bits}
-use Rattle.zf_spec.specs.Numbers.{digits_sum, value_of}
-use Rattle.zf_spec.specs.Grid.{upto, places, indices, is_inside}
+use Rattle.zf_spec.{specs.Numbers.{digits_sum, value_of}, specs.Grid.{upto, places, indices, is_inside}}
 use Rattle.zf_spec.specs.Lift.{unlift_line, line_value, along, along_axes_back, unlift}
-use Rattle.zf_spec.specs.Planes.{reach, plane_code, code_from}
-use Rattle.zf_spec.specs.Kept.{kept_plane, kept_planes_from, kept_planes}
-use Rattle.zf_spec.specs.ReadPlanes.{Begins, planes_in}
-use Rattle.zf_spec.specs.Codes.{coefficients_of, existing_values, read_rate}
-use Rattle.zf_spec.specs.Ranks.{order, by_place}
-use Rattle.zf_spec.proofs.Wrapping.{wrap_value, zero_fits}
-use Rattle.zf_spec.proofs.Counting.{length-upto, length-map-upto}
-use Rattle.zf_spec.proofs.Reach.{has_one-zeros, reach_none}
-use Rattle.zf_spec.proofs.PlaneCode.{tail-zeros}
-use Rattle.zf_spec.proofs.KeptCases.{kept_tail-zeros}
-use Rattle.zf_spec.proofs.Full.{full_only}
-use Rattle.zf_spec.proofs.PlaneDigits.{get_or-blanks, coefficients_of-is}
+use Rattle.zf_spec.{specs.Planes.{reach, plane_code, code_from}, specs.ReadPlanes.{Begins, planes_in}}
+use Rattle.zf_spec.{specs.Kept.{kept_plane, kept_planes_from, kept_planes}, specs.Ranks.{order, by_place}}
+use Rattle.zf_spec.{specs.Codes.{coefficients_of, existing_values, read_rate}, proofs.PlaneCode.{tail-zeros}}
+use Rattle.zf_spec.{proofs.Wrapping.{wrap_value, zero_fits}, proofs.Counting.{length-upto, length-map-upto}}
+use Rattle.zf_spec.{proofs.Reach.{has_one-zeros, reach_none}, proofs.KeptCases.{kept_tail-zeros}}
+use Rattle.zf_spec.{proofs.Full.{full_only}, proofs.PlaneDigits.{get_or-blanks, coefficients_of-is}}
 
 -- ---- lists of zeros
 

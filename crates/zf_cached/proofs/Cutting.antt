@@ -1,9 +1,8 @@
 -- Texts that are cut at a byte, and numbers between such bytes.
 use Rattle.std.proofs.Common.{◌≡◌, ◌≢◌, ℕ, ◌≤◌, List, [], ◌∷◌, length, map, true, false, ◌==◌, refl, ap, sym, ◌∙◌, arith, decimal, suc, ◌+◌, not, take, drop, Some, None, position, rules}
 use Rattle.std.specs.List.{AllByRecursion, join_with_byte, list_all, position_or_len, onto_first}
-use Rattle.std.specs.Str.Parse.{digits_value}
+use Rattle.std.{specs.Str.Parse.{digits_value}, proofs.lemmas.List.Elements.{All-append, All-cons, All-nil}}
 use Rattle.std.proofs.lemmas.Bool.{eq-eqb, ne_eqb, ltb-true, and_parts, not-true, ltb-false, cond_both}
-use Rattle.std.proofs.lemmas.List.Elements.{All-append, All-cons, All-nil}
 use Rattle.std.proofs.lemmas.List.Splits.{slice_split_none, slice_split_at, slice_split_first, slice_split-cons_no, join_with_byte-slice_split}
 use Rattle.zf_cached.specs.Grammar.{IsNoDigit, numbers_text, is_number, cut_at, numbers_in}
 use Rattle.zf_cached.proofs.Numerals.{HasNo, HasNo-decimal, number-decimal}

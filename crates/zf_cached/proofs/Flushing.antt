@@ -3,10 +3,8 @@ use Rattle.std.proofs.Common.{◌≡◌, refl, sym, ap, ◌∙◌, ℕ, zero, su
 use Rattle.std.proofs.lemmas.Bool.{cases_eq}
 use Rattle.zf_base.specs.Formats.{Format, meant, encoded, rounded}
 use Rattle.zf_base.proofs.Formats.{with_at-same, with_at-other}
-use Rattle.zf_cached.specs.State.{State}
-use Rattle.zf_cached.specs.Touch.{write_back, write_back_line}
-use Rattle.zf_cached.specs.Changes.{write_back_lines, emptied, flush, discard}
-use Rattle.zf_cached.specs.Consistency.{IsEmpty}
+use Rattle.zf_cached.{specs.State.{State}, specs.Touch.{write_back, write_back_line}}
+use Rattle.zf_cached.{specs.Changes.{write_back_lines, emptied, flush, discard}, specs.Consistency.{IsEmpty}}
 use Rattle.zf_cached.proofs.Caching.{true_is_not_false, write_back_line_by, write_back_line-lines, write_back_line-held, write_back_line-clean, write_back_line-keeps_clean}
 
 -- ---- the lines of a cache, one after the other

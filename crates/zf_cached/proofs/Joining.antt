@@ -1,19 +1,13 @@
 -- The end of a split: each view's dirty blocks are rounded, and all other codes stay.
 use Rattle.std.proofs.Common.{◌≡◌, ◌≢◌, refl, sym, ap, subst, ◌∙◌, ℕ, zero, suc, ◌<◌, ◌≤◌, Bool, true, false, length, ◌⊎◌, inl, inr, arith, rules}
-use Rattle.std.proofs.lemmas.Bool.{cases_eq}
-use Rattle.std.proofs.lemmas.List.{get_or-set_other}
+use Rattle.std.{proofs.lemmas.Bool.{cases_eq}, proofs.lemmas.List.{get_or-set_other}}
 use Rattle.zf_base.specs.Formats.{Format, meant, encoded, rounded}
-use Rattle.zf_cached.specs.State.{State}
-use Rattle.zf_cached.specs.Changes.{flush}
-use Rattle.zf_cached.specs.Arrays.{array_format}
+use Rattle.zf_cached.{specs.State.{State}, specs.Changes.{flush}, specs.Arrays.{array_format}}
 use Rattle.zf_cached.specs.Placing.{Line, IsPlacing, direct, IsDirect, direct_placing}
-use Rattle.zf_cached.specs.Views.{View, with_codes, acted}
-use Rattle.zf_cached.specs.Splits.{is_owner, no_view, view_at, coded}
+use Rattle.zf_cached.{specs.Views.{View, with_codes, acted}, specs.Splits.{is_owner, no_view, view_at, coded}}
 use Rattle.zf_cached.specs.Steps.{Setting, Session, format_of, is_split, views_of, state_of_view, by_view, with_view, flushed_views, joined}
-use Rattle.zf_cached.specs.Consistency.{IsConsistent, IsEmpty, IsSound}
-use Rattle.zf_cached.specs.Fates.{IsRounded}
-use Rattle.zf_cached.proofs.Flushing.{flush-dirty_codes, flush-clean}
-use Rattle.zf_cached.proofs.Placed.{flush-empty}
+use Rattle.zf_cached.{specs.Consistency.{IsConsistent, IsEmpty, IsSound}, specs.Fates.{IsRounded}}
+use Rattle.zf_cached.{proofs.Flushing.{flush-dirty_codes, flush-clean}, proofs.Placed.{flush-empty}}
 use Rattle.zf_cached.proofs.Parts.{one_owner}
 use Rattle.zf_cached.proofs.Sessions.{no_views, flushed_views-count, flushed_views-sound}
 

@@ -1,7 +1,6 @@
 -- Numbers and values as digits.
 use Rattle.std.proofs.Common.{◌≡◌, ◌≢◌, ℕ, suc, ◌<◌, ◌^◌, ℤ, pos, negsuc, List, length, get_or, true, false, ◌==◌, All, sym, refl, arith, decimal, rules}
-use Rattle.std.specs.Fmt.{signed_decimal}
-use Rattle.std.specs.Str.Parse.{AllDigits, digits_value, signed_digits_value}
+use Rattle.std.{specs.Fmt.{signed_decimal}, specs.Str.Parse.{AllDigits, digits_value, signed_digits_value}}
 use Rattle.std.proofs.lemmas.Bool.{ne_eqb, ltb-true}
 use Rattle.std.proofs.lemmas.Str.Parse.{IsNumeralModel, numerals_by_value, tells_digits, not_in_digits}
 use Rattle.std.proofs.lemmas.Fmt.{digits_decimal, digits_value-decimal, decimal_nonempty}

@@ -1,10 +1,8 @@
 -- The parts of an array: which blocks each view owns.
 use Rattle.std.proofs.Common.{◌≡◌, ◌≢◌, ◌⊎◌, inl, inr, ℕ, ◌+◌, ◌*◌, ◌/◌, ◌<◌, ◌≤◌, true, ltb, leb, arith}
-use Rattle.std.proofs.lemmas.Bool.{and_parts, ltb-true, leb-true, cases_lt}
-use Rattle.std.proofs.lemmas.Nat.{le-div}
+use Rattle.std.{proofs.lemmas.Bool.{and_parts, ltb-true, leb-true, cases_lt}, proofs.lemmas.Nat.{le-div}}
 use Rattle.std.proofs.Math.Nat.{div-mul-le_self, mul-le-mul_right}
-use Rattle.zf_cached.specs.Ownership.{Owns, first_of, count_of}
-use Rattle.zf_cached.specs.Splits.{is_owner}
+use Rattle.zf_cached.{specs.Ownership.{Owns, first_of, count_of}, specs.Splits.{is_owner}}
 
 div_le : (m n k : ℕ) → 0 < k → m ≤ n → m / k ≤ n / k
 div_le m n k some le = le-div (m / k) n k some (omega (arith, le, div-mul-le_self m k))

@@ -1,14 +1,10 @@
 -- A pass over all blocks misses each of them, where each line has two blocks or more.
 use Rattle.std.proofs.Common.{◌≡◌, refl, sym, ap, subst, ◌∙◌, ℕ, zero, suc, ◌+◌, ◌*◌, ◌%◌, ◌<◌, ◌≤◌, Option, Some, ◌⊎◌, inl, inr, mod-lt, mod-eq_of_lt, arith, rules}
-use Rattle.std.proofs.Math.Nat.{add-mod_right}
-use Rattle.std.proofs.lemmas.Bool.{cases_eq}
-use Rattle.zf_base.specs.Formats.{Format, with_at}
-use Rattle.zf_base.proofs.Formats.{with_at-same, with_at-other}
-use Rattle.zf_cached.specs.State.{State, risen, most_counted, own_line}
+use Rattle.std.{proofs.Math.Nat.{add-mod_right}, proofs.lemmas.Bool.{cases_eq}}
+use Rattle.zf_base.{specs.Formats.{Format, with_at}, proofs.Formats.{with_at-same, with_at-other}}
+use Rattle.zf_cached.{specs.State.{State, risen, most_counted, own_line}, specs.Placing.{direct}}
 use Rattle.zf_cached.specs.Touch.{touch, miss, write_back, write_back_line}
-use Rattle.zf_cached.specs.Passes.{touched_below, HasLastBlocks}
-use Rattle.zf_cached.specs.Placing.{direct}
-use Rattle.zf_cached.specs.Consistency.{every, IsConsistent}
+use Rattle.zf_cached.{specs.Passes.{touched_below, HasLastBlocks}, specs.Consistency.{every, IsConsistent}}
 use Rattle.zf_cached.proofs.Caching.{is_block-true, touch-lines, touch_by, write_back_line-held, write_back_line_by}
 
 -- after k touches: a line has one of the last blocks before k, or else one from before the pass, where its first block is still to come

@@ -3,12 +3,10 @@ use Rattle.std.proofs.Common.{◌≡◌, refl, sym, ap, subst, ◌∙◌, ℕ, z
 use Rattle.std.proofs.lemmas.Bool.{cases_eq}
 use Rattle.zf_base.specs.Formats.{Format, existing_of, meant, encoded, with_at}
 use Rattle.zf_base.proofs.Formats.{with_at-same, with_at-other, existing_of-meant}
-use Rattle.zf_cached.specs.State.{State, most_counted}
+use Rattle.zf_cached.{specs.State.{State, most_counted}, specs.Fates.{IsLeft, IsRounded}}
 use Rattle.zf_cached.specs.Touch.{write_back, write_back_line, hit, miss, touch_at, soiled, touch_for_writing_at, with_values}
 use Rattle.zf_cached.specs.Changes.{write_back_lines, emptied, flush, discard, relined, opened, zeros, resized}
-use Rattle.zf_cached.specs.Fates.{IsLeft, IsRounded}
-use Rattle.zf_cached.specs.Unwritten.{holds_dirty, dirty_lines}
-use Rattle.zf_cached.specs.Placing.{Line, IsPlacing, line_in}
+use Rattle.zf_cached.{specs.Unwritten.{holds_dirty, dirty_lines}, specs.Placing.{Line, IsPlacing, line_in}}
 use Rattle.zf_cached.specs.Consistency.{IsConsistent, IsEmpty}
 use Rattle.zf_cached.proofs.Caching.{true_is_not_false, at_change, is_block-true, is_block-false, write_back_line_by, write_back_line-lines, write_back_line-held, write_back_line-clean, write_back_line-other, touch_by, touch-here}
 use Rattle.zf_cached.proofs.Flushing.{write_back_lines-lines, write_back_lines-held, write_back_lines-clean, flush-dirty_codes, flush-clean, discard-values_by}

@@ -1,7 +1,6 @@
 -- The least power of two that passes a test.
 use Rattle.std.proofs.Common.{◌≡◌, refl, ap, ◌∙◌, ℕ, zero, suc, ◌+◌, ◌*◌, ◌^◌, ◌≤◌, Bool, true, false, ◌⊎◌, inl, inr, pow-suc, leb, leb-true, le-leb, arith}
-use Rattle.std.proofs.Math.Pow.{pow_mono, pow_pos}
-use Rattle.std.proofs.lemmas.Bool.{cases_eq}
+use Rattle.std.{proofs.Math.Pow.{pow_mono, pow_pos}, proofs.lemmas.Bool.{cases_eq}}
 use Rattle.zf_cached.specs.Changes.{first_doubled, raised, default_lines}
 use Rattle.zf_cached.proofs.Caching.{true_is_not_false}
 

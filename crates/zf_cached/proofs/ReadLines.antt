@@ -1,10 +1,8 @@
 -- The words of a command, and the only command that a line is read as.
 use Rattle.std.proofs.Common.{◌≡◌, ℕ, zero, suc, ◌<◌, ◌≤◌, ℤ, List, [], ◌∷◌, length, get_or, take, Bool, true, false, not, ◌&&◌, ◌==◌, ◌↔◌, Option, Some, None, IsTrue, find, bytes_eq, refl, ap, sym, ◌∙◌, subst, arith, lit<, codes, decimal}
-use Rattle.std.specs.Fmt.{signed_decimal}
-use Rattle.std.specs.Str.Parse.{digits_value, signed_digits_value}
-use Rattle.std.specs.List.{AllByRecursion, list_all}
+use Rattle.std.{specs.Fmt.{signed_decimal}, specs.Str.Parse.{digits_value, signed_digits_value}}
+use Rattle.std.{specs.List.{AllByRecursion, list_all}, proofs.lemmas.Slice.Eq.{bytes_eq-Decides}}
 use Rattle.std.proofs.lemmas.Bool.{eqb-true, ltb-true, leb-true, not-true, and_parts, and_from, cond-true, cond-false, cond_both}
-use Rattle.std.proofs.lemmas.Slice.Eq.{bytes_eq-Decides}
 use Rattle.std.proofs.lemmas.List.Elements.{All-nil, All-cons}
 use Rattle.zf_cached.specs.Commands.{Command}
 use Rattle.zf_cached.specs.Grammar.{IsNoDigit, space, comma, letter_x, numbers_text, view_word, words_of, line_of, is_number, is_value, has_axes, has_sizes, is_writable, cut_at, numbers_in, candidates, is_line, read_line}

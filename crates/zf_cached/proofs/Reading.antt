@@ -1,28 +1,17 @@
 -- Lines that only read leave the sizes, the codes and the values as they are, and nothing dirty.
 use Rattle.std.proofs.Common.{◌≡◌, refl, sym, subst, ℕ, zero, suc, ℤ, Bool, true, false, eqb, List, [], ◌∷◌, length, Option, Some, None, rules}
-use Rattle.std.specs.List.{list_any}
-use Rattle.zf_base.specs.Formats.{Format}
-use Rattle.std.specs.Int.{Width}
+use Rattle.std.{specs.List.{list_any}, specs.Int.{Width}}
+use Rattle.zf_base.{specs.Formats.{Format}, specs.Places.{block_number}}
 use Rattle.zf_spec.specs.Grid.{upto}
-use Rattle.zf_base.specs.Places.{block_number}
-use Rattle.zf_cached.specs.State.{State}
-use Rattle.zf_cached.specs.Touch.{write_back_line, hit, miss, touch_at}
-use Rattle.zf_cached.specs.Changes.{write_back_lines, emptied, flush, relined}
-use Rattle.zf_cached.specs.Windows.{mapped}
-use Rattle.zf_cached.specs.Placing.{Line}
-use Rattle.zf_cached.specs.Arrays.{codes_of, saved_file}
-use Rattle.zf_cached.specs.Commands.{Command}
-use Rattle.zf_cached.specs.Replies.{Refusal, Reply}
-use Rattle.zf_cached.specs.Grammar.{read_line}
-use Rattle.zf_cached.specs.Views.{View}
+use Rattle.zf_cached.{specs.State.{State}, specs.Touch.{write_back_line, hit, miss, touch_at}}
+use Rattle.zf_cached.{specs.Changes.{write_back_lines, emptied, flush, relined}, specs.Windows.{mapped}}
+use Rattle.zf_cached.{specs.Placing.{Line}, specs.Arrays.{codes_of, saved_file}, specs.Commands.{Command}}
+use Rattle.zf_cached.{specs.Replies.{Refusal, Reply}, specs.Grammar.{read_line}, specs.Views.{View}}
 use Rattle.zf_cached.specs.Steps.{Setting, Session, format_of, touched, summed, is_split, views_in, flushed_views, joined, done, step}
 use Rattle.zf_cached.specs.Runs.{lines_of, only_reads, read_step, line_step, run_lines, run_script, ended, run, look, array_setting}
-use Rattle.zf_cached.specs.Consistency.{IsCached}
-use Rattle.zf_cached.specs.Unwritten.{IsUnwritten, ReadAlone}
-use Rattle.zf_cached.proofs.Caching.{true_is_not_false, write_back_line_by}
-use Rattle.zf_cached.proofs.Placed.{touch_at_by}
-use Rattle.zf_cached.proofs.Sessions.{step_by}
-use Rattle.zf_cached.proofs.Runs.{array_setting-cached}
+use Rattle.zf_cached.{specs.Consistency.{IsCached}, specs.Unwritten.{IsUnwritten, ReadAlone}}
+use Rattle.zf_cached.{proofs.Caching.{true_is_not_false, write_back_line_by}, proofs.Placed.{touch_at_by}}
+use Rattle.zf_cached.{proofs.Sessions.{step_by}, proofs.Runs.{array_setting-cached}}
 
 -- ---- states
 

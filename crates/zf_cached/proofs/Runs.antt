@@ -1,22 +1,14 @@
 -- Runs of scripts: what each line keeps, and lines one after the other.
 use Rattle.std.proofs.Common.{◌≡◌, refl, sym, ap, ◌∙◌, ℕ, suc, ◌+◌, Bool, true, false, ◌&&◌, eqb, List, [], ◌∷◌, ◌++◌, length, Option, Some, None, append_assoc, arith}
-use Rattle.std.specs.List.{list_any}
-use Rattle.std.specs.Option.{option_to_list}
-use Rattle.std.specs.Int.{Width}
+use Rattle.std.{specs.List.{list_any}, specs.Option.{option_to_list}, specs.Int.{Width}}
 use Rattle.zf_spec.specs.Grid.{IsShape}
-use Rattle.zf_cached.specs.State.{State}
-use Rattle.zf_cached.specs.Arrays.{array_format}
-use Rattle.zf_cached.specs.Commands.{Command}
-use Rattle.zf_cached.specs.Replies.{Refusal, Reply}
-use Rattle.zf_cached.specs.Grammar.{read_line}
+use Rattle.zf_cached.{specs.State.{State}, specs.Arrays.{array_format}, specs.Commands.{Command}}
+use Rattle.zf_cached.{specs.Replies.{Refusal, Reply}, specs.Grammar.{read_line}, proofs.Arrays.{meant-zeros}}
 use Rattle.zf_cached.specs.Steps.{Setting, Session, joined, format_of, refuses_split, tests, first_refusal, refusal, step}
 use Rattle.zf_cached.specs.Consistency.{every, IsConsistent, IsCached, IsEmpty, IsSound}
 use Rattle.zf_cached.specs.Runs.{lines_of, read_step, line_step, run_lines, run_script, ended, run, array_setting}
-use Rattle.zf_cached.proofs.Placed.{flush-consistent, flush-empty}
-use Rattle.zf_cached.proofs.Windows.{LiesIn-whole}
-use Rattle.zf_cached.proofs.Arrays.{meant-zeros}
-use Rattle.zf_cached.proofs.ReadLines.{read_line-Some}
-use Rattle.zf_cached.proofs.Sessions.{step_by, step-sound, joined-sound}
+use Rattle.zf_cached.{proofs.Placed.{flush-consistent, flush-empty}, proofs.Windows.{LiesIn-whole}}
+use Rattle.zf_cached.{proofs.ReadLines.{read_line-Some}, proofs.Sessions.{step_by, step-sound, joined-sound}}
 use Rattle.zf_cached.specs.Placing.{Line, IsPlacing, direct}
 
 -- lines, and then more lines

@@ -1,36 +1,25 @@
 -- The steps of a script keep the array in a state that is reached, and the window in the array.
 use Rattle.std.proofs.Common.{◌≡◌, ◌≢◌, refl, sym, ap, subst, ◌∙◌, ℕ, zero, suc, ◌<◌, ◌≤◌, ℤ, Bool, true, false, ◌&&◌, cond, eqb, eqb-true, List, [], ◌∷◌, map, length, set, replicate, Option, Some, None, is_none, is_some, ◌⊎◌, inl, inr, arith}
-use Rattle.std.specs.Int.{Width}
-use Rattle.std.proofs.lemmas.Bool.{and_parts, not-false, cases_eq, ltb-true}
-use Rattle.std.proofs.lemmas.List.{length-set, get_or-set_same, get_or-set_other}
+use Rattle.std.{specs.Int.{Width}, proofs.lemmas.Bool.{and_parts, not-false, cases_eq, ltb-true}}
+use Rattle.std.{proofs.lemmas.List.{length-set, get_or-set_same, get_or-set_other}, specs.List.{list_all}}
 use Rattle.zf_spec.proofs.Counting.{length-map-upto, get_or-map-upto}
-use Rattle.std.specs.List.{list_all}
 use Rattle.zf_spec.specs.Grid.{IsShape, upto, blocks, is_inside}
-use Rattle.zf_base.specs.Places.{block_number, place_of}
-use Rattle.zf_base.specs.Shapes.{shape_fault}
-use Rattle.zf_base.specs.Formats.{Format, existing_of, meant}
+use Rattle.zf_base.{specs.Places.{block_number, place_of}, specs.Shapes.{shape_fault}}
+use Rattle.zf_base.{specs.Formats.{Format, existing_of, meant}, proofs.Places.{IsAt-position}}
 use Rattle.zf_base.proofs.Formats.{with_at-same, existing_of-existing_of, existing_of-meant, existing_of-set}
-use Rattle.zf_base.proofs.Places.{IsAt-position}
 use Rattle.zf_base.proofs.Sizes.{shape_from_no_fault}
-use Rattle.zf_cached.specs.State.{State}
-use Rattle.zf_cached.specs.Touch.{soiled}
-use Rattle.zf_cached.specs.Changes.{flush, raised}
-use Rattle.zf_cached.specs.Arrays.{array_format}
-use Rattle.zf_cached.specs.Windows.{mapped, whole, has_place, is_window}
-use Rattle.zf_cached.specs.Commands.{Command}
-use Rattle.zf_cached.specs.Replies.{Refusal, Reply}
-use Rattle.zf_cached.specs.Grammar.{is_writable, has_axes, is_number, is_value}
+use Rattle.zf_cached.{specs.State.{State}, specs.Touch.{soiled}, specs.Changes.{flush, raised}}
+use Rattle.zf_cached.{specs.Arrays.{array_format}, specs.Windows.{mapped, whole, has_place, is_window}}
+use Rattle.zf_cached.{specs.Commands.{Command}, specs.Replies.{Refusal, Reply}, specs.Acts.{Act}}
+use Rattle.zf_cached.{specs.Grammar.{is_writable, has_axes, is_number, is_value}, proofs.Powers.{raised-some}}
 use Rattle.zf_cached.specs.Steps.{Setting, Session, format_of, touched, changed, changed_at, filled_below, summed, is_split, views_in, views_of, state_of_view, with_view, by_view, at_position, split_into, flushed_views, joined, refuses_split, is_new_shape, has_view, view_has, tests, first_refusal, refusal, done, step}
-use Rattle.zf_cached.specs.Acts.{Act}
-use Rattle.zf_cached.specs.Views.{View, with_codes, without_codes, acted}
+use Rattle.zf_cached.{specs.Views.{View, with_codes, without_codes, acted}, proofs.Parts.{one_owner}}
 use Rattle.zf_cached.specs.Splits.{is_owner, opened_view, opened_views, no_view, view_at, coded}
 use Rattle.zf_cached.specs.Consistency.{every, IsPossible, IsConsistent, IsCached, IsEmpty, IsSound}
 use Rattle.zf_cached.proofs.Placed.{touch-consistent, touched_here, soiled-consistent, with_values-consistent, flush-consistent, flush-empty, discard-consistent, relined-consistent, resized-consistent}
 use Rattle.zf_cached.proofs.Windows.{mapped_inside, length-mapped, LiesIn-whole, LiesIn-sliced}
-use Rattle.zf_cached.proofs.Powers.{raised-some}
 use Rattle.zf_cached.specs.Placing.{Line, IsPlacing, direct, line_in}
 use Rattle.zf_cached.proofs.Acting.{acted-codes, acted-consistent}
-use Rattle.zf_cached.proofs.Parts.{one_owner}
 
 soiled-dirty : {Code : Type 0} (t : State Code) (b : ℕ) → (soiled t b).dirty b ≡ true
 unfolding soiled

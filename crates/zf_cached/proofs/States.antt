@@ -1,6 +1,5 @@
 -- States whose parts are equal.
-use Rattle.std.proofs.Common.{◌≡◌, ℕ}
-use Rattle.std.proofs.Math.Path.{fun_ext}
+use Rattle.std.{proofs.Common.{◌≡◌, ℕ}, proofs.Math.Path.{fun_ext}}
 use Rattle.zf_cached.specs.State.{State}
 
 -- two states are equal where they have the same number of lines, the same in each line, and the same of each block

@@ -1,9 +1,7 @@
 -- Windows of an array: their positions lie in it.
 use Rattle.std.proofs.Common.{◌≡◌, refl, ap, ◌∙◌, ℕ, zero, suc, ◌+◌, ◌-◌, ◌*◌, ◌<◌, ◌≤◌, true, ◌&&◌, ltb, ltb-true, lt-ltb, leb, leb-true, le-leb, List, [], ◌∷◌, map, length, get_or, set, arith, rules}
-use Rattle.std.proofs.Math.Nat.{mul-le-mul_right, eq_of_mul-eq-mul_right}
-use Rattle.std.proofs.lemmas.Bool.{and_from, and_parts}
-use Rattle.std.proofs.lemmas.List.{length-map, length-set}
-use Rattle.std.specs.List.{AllByRecursion}
+use Rattle.std.{proofs.Math.Nat.{mul-le-mul_right, eq_of_mul-eq-mul_right}, specs.List.{AllByRecursion}}
+use Rattle.std.{proofs.lemmas.Bool.{and_from, and_parts}, proofs.lemmas.List.{length-map, length-set}}
 use Rattle.zf_spec.specs.Grid.{is_inside}
 use Rattle.zf_cached.specs.Windows.{Window, LiesIn, stepped, mapped, whole, sliced, has_place, none_zero, lies_in}
 

@@ -1,23 +1,15 @@
 -- The digits that any coefficient has, and the planes that are needed.
-use Rattle.std.proofs.Common.{rules}
-use Rattle.std.proofs.Common.{◌≡◌, refl, sym, ap, ◌∙◌, ℕ, ◌-◌, ◌/◌, ◌%◌, ◌^◌, ◌*◌, ◌+◌, ◌<◌, ◌≤◌, ⊎_elim, Bool, true, false, ◌||◌, eqb, List, [], ◌∷◌, ◌++◌, get_or, get_or-take, ext_get_or, length, take, replicate, mod-lt, arith}
-use Rattle.std.specs.Int.{bit_at, trailing_zeros, leading_zeros, w64}
-use Rattle.std.specs.Int.RustNames.{bit_or}
-use Rattle.std.specs.Int.Count.{trailing_of_zero}
-use Rattle.std.proofs.lemmas.Bool.{cases_lt, cases_eq}
+use Rattle.std.proofs.Common.{rules, ◌≡◌, refl, sym, ap, ◌∙◌, ℕ, ◌-◌, ◌/◌, ◌%◌, ◌^◌, ◌*◌, ◌+◌, ◌<◌, ◌≤◌, ⊎_elim, Bool, true, false, ◌||◌, eqb, List, [], ◌∷◌, ◌++◌, get_or, get_or-take, ext_get_or, length, take, replicate, mod-lt, arith}
+use Rattle.std.{specs.Int.{bit_at, trailing_zeros, leading_zeros, w64}, specs.Int.RustNames.{bit_or}}
+use Rattle.std.{specs.Int.Count.{trailing_of_zero}, proofs.lemmas.Bool.{cases_lt, cases_eq}}
 use Rattle.std.proofs.lemmas.List.{map-append, get_or_past, get_or-map, length-map, length-take, length-replicate, get_or-replicate}
 use Rattle.std.proofs.lemmas.Nat.Bits.{bit_at_or, bit_at-zero, bit_at-trailing_zeros, bit_at_above}
 use Rattle.std.proofs.lemmas.Nat.{leading_length, pow_pos}
-use Rattle.zf_spec.specs.Numbers.{field, is_odd}
+use Rattle.zf_spec.{specs.Numbers.{field, is_odd, digit_value}, proofs.Fields.{get_or-field}}
 use Rattle.zf_spec.specs.Planes.{plane, planes_of, has_one, needed_planes}
-use Rattle.zf_spec.proofs.Fields.{get_or-field}
-use Rattle.zf_spec.proofs.PlaneDigits.{get_or-planes_of, length-planes_of}
-use Rattle.zf_spec.proofs.Reach.{used_only, zeros_from_none, none_at}
-use Rattle.zf_coef.specs.HeldDigits.{digits_in}
-use Rattle.zf_coef.specs.Turned.{bit_of}
-use Rattle.zf_spec.proofs.PlaneDigits.{get_or-plane}
-use Rattle.zf_spec.specs.Numbers.{digit_value}
-use Rattle.zf_spec.proofs.Halves.{digit_value-is_odd}
+use Rattle.zf_spec.proofs.PlaneDigits.{get_or-planes_of, length-planes_of, get_or-plane}
+use Rattle.zf_spec.{proofs.Reach.{used_only, zeros_from_none, none_at}, proofs.Halves.{digit_value-is_odd}}
+use Rattle.zf_coef.{specs.HeldDigits.{digits_in}, specs.Turned.{bit_of}}
 use Rattle.zf_coef.proofs.ShiftedBits.{bit_at-mod, bit_at-shl_high}
 
 has_one-last : (ds : List Bool) (d : Bool) → has_one (ds ++ d ∷ []) ≡ (has_one ds || d)

@@ -1,16 +1,11 @@
 -- The digits of a block by rank, and a block whose places are filled by rank.
-use Rattle.std.proofs.Common.{rules}
-use Rattle.std.proofs.Common.{◌≡◌, sym, ap, ◌∙◌, ℕ, ◌+◌, ◌^◌, ◌<◌, ◌≢◌, ℤ, pos, List, [], length, get_or, set, All, get_or-set_same, get_or-set_other, arith}
-use Rattle.std.proofs.lemmas.Bool.{cases_lt}
-use Rattle.std.proofs.lemmas.List.{length-map, get_or-map}
+use Rattle.std.proofs.Common.{rules, ◌≡◌, sym, ap, ◌∙◌, ℕ, ◌+◌, ◌^◌, ◌<◌, ◌≢◌, ℤ, pos, List, [], length, get_or, set, All, get_or-set_same, get_or-set_other, arith, subst}
+use Rattle.std.{proofs.lemmas.Bool.{cases_lt}, proofs.lemmas.List.{length-map, get_or-map}, specs.Int.{Width}}
 use Rattle.std.proofs.lemmas.List.Elements.{All-from_get_or}
-use Rattle.std.specs.Int.{Width}
 use mir.Val.{bits}
-use Rattle.zf_spec.specs.Numbers.{digits}
-use Rattle.zf_spec.specs.Ranks.{order, by_rank, by_place}
+use Rattle.zf_spec.{specs.Numbers.{digits}, specs.Ranks.{order, by_rank, by_place}}
 use Rattle.zf_spec.proofs.Counting.{from_places}
 use Rattle.zf_spec.proofs.Ranking.{length-order, order_below, rank_of, rank_of_below, order-rank_of, rank_of-order, length-by_rank, get_or-by_rank}
-use Rattle.std.proofs.Common.{subst}
 use Rattle.zf_coef.specs.HeldDigits.{ranked_digits, HasRanks}
 
 pub order_within : (d : ℕ) (ps : List ℕ) → ps ≡ order d → All (λ p. p < 4 ^ d) ps

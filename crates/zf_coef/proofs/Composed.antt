@@ -1,12 +1,9 @@
 -- What the calls of this crate make of a block together.
-use Rattle.std.proofs.Common.{rules}
-use Rattle.std.proofs.Common.{◌≡◌, ℕ, ◌^◌, List, length}
-use Rattle.std.specs.Int.{Width}
+use Rattle.std.{proofs.Common.{rules, ◌≡◌, ℕ, ◌^◌, List, length}, specs.Int.{Width}}
 use mir.Val.{bits}
 use Rattle.zf_spec.specs.Codes as Codes
-use Rattle.zf_spec.specs.HeldPlanes.{planes_held}
+use Rattle.zf_spec.{specs.HeldPlanes.{planes_held}, specs.Planes.{digits_in_planes}}
 use Rattle.zf_coef.specs.HeldDigits.{digits_in, unranked_values}
-use Rattle.zf_spec.specs.Planes.{digits_in_planes}
 
 -- `from_planes` and then `unranked`: the block has the coefficients that the planes stand for
 pub by_place-planes : (w : Width) (d : ℕ) (words : List ℕ) (planes : List (List ℕ))

@@ -1,6 +1,5 @@
 -- A list that is filled from the front.
-use Rattle.std.proofs.Common.{rules}
-use Rattle.std.proofs.Common.{◌≡◌, sym, ◌∙◌, ℕ, ◌+◌, ◌<◌, List, map, length, get_or, set, take, arith}
+use Rattle.std.proofs.Common.{rules, ◌≡◌, sym, ◌∙◌, ℕ, ◌+◌, ◌<◌, List, map, length, get_or, set, take, arith}
 use Rattle.std.proofs.lemmas.List.{take_more, take_more_set, take_all, map-set, length-map}
 
 -- the place at the index is filled, and those before it as they were

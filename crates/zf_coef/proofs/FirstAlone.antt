@@ -1,23 +1,14 @@
 -- Planes in which no coefficient but the first has a one: their bits as a number, and the coefficients that they stand for.
-use Rattle.std.proofs.Common.{◌≡◌, refl, sym, ap, ◌∙◌, ℕ, zero, suc, ◌+◌, ◌-◌, ◌*◌, ◌/◌, ◌%◌, ◌^◌, ◌<◌, ◌≤◌, ⊎_elim, false, ℤ, pos, List, ◌∷◌, map, length, get_or, set, replicate, get_or-set_same, get_or-set_other, arith}
-use Rattle.std.specs.Int.{Width, bit_at}
-use Rattle.std.proofs.lemmas.Bool.{cases_lt, cases_eq}
-use Rattle.std.proofs.lemmas.List.{length-replicate}
-use Rattle.std.proofs.lemmas.Nat.Bits.{bit_at-zero, bit_at_above}
+use Rattle.std.proofs.Common.{◌≡◌, refl, sym, ap, ◌∙◌, ℕ, zero, suc, ◌+◌, ◌-◌, ◌*◌, ◌/◌, ◌%◌, ◌^◌, ◌<◌, ◌≤◌, ⊎_elim, false, ℤ, pos, List, ◌∷◌, map, length, get_or, set, replicate, get_or-set_same, get_or-set_other, arith, ◌≢◌}
+use Rattle.std.{specs.Int.{Width, bit_at}, proofs.lemmas.Bool.{cases_lt, cases_eq}}
+use Rattle.std.{proofs.lemmas.List.{length-replicate}, proofs.lemmas.Nat.Bits.{bit_at-zero, bit_at_above}}
 use mir.Val.{bits}
-use Rattle.zf_spec.specs.Grid.{IsDimension}
-use Rattle.zf_spec.specs.Numbers.{field, value_of, digits_sum, wrap}
-use Rattle.zf_spec.specs.Ranks.{order, by_place}
-use Rattle.zf_spec.proofs.Fields.{field-zero}
-use Rattle.zf_spec.proofs.Ranking.{rank_of-order}
+use Rattle.zf_spec.{specs.Grid.{IsDimension}, specs.Numbers.{field, value_of, digits_sum, wrap}}
+use Rattle.zf_spec.{specs.Ranks.{order, by_place}, proofs.Fields.{field-zero}, proofs.Ranking.{rank_of-order}}
 use Rattle.zf_spec.proofs.Wrapping.{wrap_value, zero_fits}
 use Rattle.zf_base.proofs.Values.{alike_at}
-use Rattle.zf_coef.specs.Turned.{bit_of}
-use Rattle.zf_coef.specs.Groups.{word_of}
-use Rattle.zf_coef.specs.HeldDigits.{digits_in, unranked_values}
-use Rattle.zf_coef.proofs.ByRank.{ranks_all}
-use Rattle.zf_coef.proofs.Halves.{no_word}
-use Rattle.std.proofs.Common.{◌≢◌}
+use Rattle.zf_coef.{specs.Turned.{bit_of}, specs.Groups.{word_of}, proofs.ByRank.{ranks_all}}
+use Rattle.zf_coef.{specs.HeldDigits.{digits_in, unranked_values}, proofs.Halves.{no_word}}
 use Rattle.zf_coef.proofs.Transposed.{HoldsGroups}
 
 -- ---- the coefficients

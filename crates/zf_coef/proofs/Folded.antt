@@ -1,16 +1,10 @@
 -- Sixteen digits that become planes, and planes that become sixteen digits, by way of rows that lie folded in eight words.
-use Rattle.std.proofs.Common.{rules}
-use Rattle.std.proofs.Common.{◌≡◌, ◌∙◌, ℕ, ◌+◌, ◌-◌, ◌*◌, ◌/◌, ◌%◌, ◌^◌, ◌<◌, ◌≤◌, ◌≢◌, ⊎_elim, List, length, get_or, arith}
-use Rattle.std.specs.Int.{bit_at}
-use Rattle.std.specs.Int.RustNames.{bit_or}
-use Rattle.std.proofs.lemmas.Bool.{cases_lt}
-use Rattle.std.proofs.lemmas.List.{get_or_past}
-use Rattle.std.proofs.lemmas.Nat.Bits.{bit_at_or, bit_at-zero}
-use Rattle.zf_coef.specs.Turned.{bit_of, folded_bit, IsFoldedTurned}
+use Rattle.std.proofs.Common.{rules, ◌≡◌, ◌∙◌, ℕ, ◌+◌, ◌-◌, ◌*◌, ◌/◌, ◌%◌, ◌^◌, ◌<◌, ◌≤◌, ◌≢◌, ⊎_elim, List, length, get_or, arith, max}
+use Rattle.std.{specs.Int.{bit_at}, specs.Int.RustNames.{bit_or}, proofs.lemmas.Bool.{cases_lt}}
+use Rattle.std.{proofs.lemmas.List.{get_or_past}, proofs.lemmas.Nat.Bits.{bit_at_or, bit_at-zero}}
+use Rattle.zf_coef.{specs.Turned.{bit_of, folded_bit, IsFoldedTurned}, proofs.Halves.{word_of-past}}
 use Rattle.zf_coef.specs.Groups.{word_of, HoldsHalf, IsOfGroup, HoldsFrom, HoldsFolded, IsFoldOf}
 use Rattle.zf_coef.proofs.ShiftedBits.{bit_at-shr, bit_at-mod_pow, bit_at-mod_above, bit_at-mod, bit_at-shl_low, bit_at-shl_high}
-use Rattle.std.proofs.Common.{max}
-use Rattle.zf_coef.proofs.Halves.{word_of-past}
 
 -- ---- planes of folded rows
 

@@ -1,13 +1,9 @@
 -- Halves of digits that become planes, 32 at a time, and planes that become halves of digits.
-use Rattle.std.proofs.Common.{rules}
-use Rattle.std.proofs.Common.{◌≡◌, sym, ap, ◌∙◌, ℕ, ◌+◌, ◌-◌, ◌*◌, ◌/◌, ◌%◌, ◌<◌, ◌≤◌, ⊎_elim, List, [], length, get_or, replicate, arith}
-use Rattle.std.specs.Int.{bit_at}
-use Rattle.std.proofs.lemmas.Bool.{cases_lt}
+use Rattle.std.proofs.Common.{rules, ◌≡◌, sym, ap, ◌∙◌, ℕ, ◌+◌, ◌-◌, ◌*◌, ◌/◌, ◌%◌, ◌<◌, ◌≤◌, ⊎_elim, List, [], length, get_or, replicate, arith}
+use Rattle.std.{specs.Int.{bit_at}, proofs.lemmas.Bool.{cases_lt}, proofs.lemmas.Nat.Bits.{bit_at-zero}}
 use Rattle.std.proofs.lemmas.List.{get_or-replicate, get_or_past, length-replicate}
-use Rattle.std.proofs.lemmas.Nat.Bits.{bit_at-zero}
-use Rattle.zf_coef.specs.Turned.{bit_of, IsTurned}
+use Rattle.zf_coef.{specs.Turned.{bit_of, IsTurned}, proofs.Putting.{both_kept}}
 use Rattle.zf_coef.specs.Groups.{word_of, HoldsGroup, HoldsHalf, IsOfGroup, AreHalf, HoldsFrom, IsMoved, PutsGroup, PutsHalf, PutsNone}
-use Rattle.zf_coef.proofs.Putting.{both_kept}
 
 -- ---- planes of halves
 

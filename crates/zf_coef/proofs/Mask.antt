@@ -1,17 +1,13 @@
 -- A word whose odd digits are flipped by a mask: the number that its digits stand for is the word less the mask.
-use Rattle.std.proofs.Common.{rules}
-use Rattle.std.proofs.Common.{◌≡◌, refl, sym, ap, subst, ◌∙◌, ℕ, zero, suc, ◌+◌, ◌-◌, ◌*◌, ◌/◌, ◌%◌, ◌^◌, ◌<◌, ◌≤◌, ℤ, pos, negsuc, ◌+ℤ◌, ◌*ℤ◌, neg_ℤ, FitsSigned, ◌⊎◌, ⊎_elim, lit≤, pow_pos, mod-lt, div-add-mod', arith}
-use Rattle.std.proofs.lemmas.Int.{ints, of_z-to_z}
-use Rattle.std.specs.Int.{Width, w32, w64, cast_unsigned, int_wrap}
+use Rattle.std.proofs.Common.{rules, ◌≡◌, refl, sym, ap, subst, ◌∙◌, ℕ, zero, suc, ◌+◌, ◌-◌, ◌*◌, ◌/◌, ◌%◌, ◌^◌, ◌<◌, ◌≤◌, ℤ, pos, negsuc, ◌+ℤ◌, ◌*ℤ◌, neg_ℤ, FitsSigned, ◌⊎◌, ⊎_elim, lit≤, pow_pos, mod-lt, div-add-mod', arith}
+use Rattle.std.{proofs.lemmas.Int.{ints, of_z-to_z}, specs.Int.{Width, w32, w64, cast_unsigned, int_wrap}}
 use Rattle.std.specs.Int.Bits.{bit_xor, xor_self, xor_assoc, xor_zero_r}
 use Rattle.std.proofs.lemmas.Nat.{xor_block, mod-pow-add}
 use mir.Val.{bits}
 use Rattle.zf_spec.specs.Numbers.{wrap, IsSameModulo, digits_sum, digits, value_of, field}
-use Rattle.zf_spec.proofs.Halves.{digit_value-is_odd}
-use Rattle.zf_spec.proofs.Fields.{length-field, field-mod}
-use Rattle.zf_spec.proofs.Negabinary.{digits_only}
+use Rattle.zf_spec.{proofs.Halves.{digit_value-is_odd}, proofs.Fields.{length-field, field-mod}}
+use Rattle.zf_spec.{proofs.Negabinary.{digits_only}, proofs.Ring.{neg-*ℤ}}
 use Rattle.zf_spec.proofs.Wrapping.{same_modulo_refl, same_modulo_sym, same_modulo_trans, same_modulo_add, same_modulo_neg, same_modulo_low, bits_is_half, wrap_from_same}
-use Rattle.zf_spec.proofs.Ring.{neg-*ℤ}
 
 -- how many digits so many pairs have
 abbrev pub twice : ℕ → ℕ

@@ -1,6 +1,5 @@
 -- Words of planes that are written plane by plane.
-use Rattle.std.proofs.Common.{rules}
-use Rattle.std.proofs.Common.{◌≡◌, refl, ap, ◌∙◌, ℕ, ◌+◌, ◌<◌, ◌≢◌, List, [], length, get_or, set, get_or-set_same, get_or-set_other, length-set, arith}
+use Rattle.std.proofs.Common.{rules, ◌≡◌, refl, ap, ◌∙◌, ℕ, ◌+◌, ◌<◌, ◌≢◌, List, [], length, get_or, set, get_or-set_same, get_or-set_other, length-set, arith}
 use Rattle.std.proofs.lemmas.Bool.{cases_lt, cases_eq}
 use Rattle.zf_coef.specs.Groups.{word_of, HoldsFrom, KeepsOthers}
 

@@ -1,11 +1,8 @@
 -- Words whose bits are swapped between pairs of them, s apart.
-use Rattle.std.proofs.Common.{rules}
-use Rattle.std.proofs.Common.{◌≡◌, sym, ap, ◌∙◌, ℕ, ◌+◌, ◌-◌, ◌*◌, ◌/◌, ◌%◌, ◌^◌, ◌<◌, ◌≤◌, ◌≢◌, min, ⊎_elim, List, length, get_or, arith}
-use Rattle.std.proofs.lemmas.Bool.{cases_lt, cases_eq}
-use Rattle.std.specs.Int.{bit_at}
-use Rattle.zf_coef.proofs.ShiftedBits.{bit_at-shr, bit_at-mod, bit_at-shl_low, bit_at-shl_high}
+use Rattle.std.proofs.Common.{rules, ◌≡◌, sym, ap, ◌∙◌, ℕ, ◌+◌, ◌-◌, ◌*◌, ◌/◌, ◌%◌, ◌^◌, ◌<◌, ◌≤◌, ◌≢◌, min, ⊎_elim, List, length, get_or, arith, inl, inr, subst}
+use Rattle.std.{proofs.lemmas.Bool.{cases_lt, cases_eq}, specs.Int.{bit_at}}
 use Rattle.std.proofs.lemmas.Nat.Bits.{bit_at_and, bit_at_xor, bit_at-lt}
-use Rattle.std.proofs.Common.{inl, inr, subst}
+use Rattle.zf_coef.proofs.ShiftedBits.{bit_at-shr, bit_at-mod, bit_at-shl_low, bit_at-shl_high}
 use Rattle.zf_coef.specs.Turned.{moved, swapped_low, swapped_high, IsSwapped, IsStep, IsMask, with_digit, IsStepped}
 
 -- ---- bits of swapped words

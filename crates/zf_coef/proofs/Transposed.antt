@@ -1,32 +1,21 @@
 -- Planes that are made of coefficients, and coefficients that are made of planes.
-use Rattle.std.proofs.Common.{rules}
-use Rattle.std.proofs.Common.{◌≡◌, refl, sym, ◌∙◌, ℕ, suc, ◌+◌, ◌-◌, ◌*◌, ◌/◌, ◌%◌, ◌^◌, ◌<◌, ◌≤◌, Bool, false, min, All, List, [], ◌∷◌, map, reverse, length, get_or, take, drop, replicate, ext_get_or, get_or-take, get_or-drop, length-take, length-drop, mod-lt, arith}
-use Rattle.std.proofs.lemmas.Bool.{cases_lt}
+use Rattle.std.proofs.Common.{rules, ◌≡◌, refl, sym, ◌∙◌, ℕ, suc, ◌+◌, ◌-◌, ◌*◌, ◌/◌, ◌%◌, ◌^◌, ◌<◌, ◌≤◌, Bool, false, min, All, List, [], ◌∷◌, map, reverse, length, get_or, take, drop, replicate, ext_get_or, get_or-take, get_or-drop, length-take, length-drop, mod-lt, arith}
+use Rattle.std.{proofs.lemmas.Bool.{cases_lt}, proofs.lemmas.Nat.Bits.{bit_at-zero, same_from_bits_below}}
 use Rattle.std.proofs.lemmas.List.{get_or_past, get_or_append_left, get_or-append_right, length-map, get_or-map, length-replicate, get_or-replicate}
-use Rattle.std.proofs.lemmas.Nat.Bits.{bit_at-zero}
-use Rattle.zf_spec.specs.Numbers.{field, number, word_bits, is_odd}
-use Rattle.zf_spec.specs.Grid.{upto}
-use Rattle.zf_spec.specs.Planes.{plane, planes_of}
-use Rattle.zf_spec.proofs.Counting.{four_elements, length-map-upto, get_or-map-upto}
-use Rattle.zf_spec.proofs.PlaneDigits.{get_or-plane, length-map-reverse-upto, get_or-map-reverse-upto}
-use Rattle.zf_spec.specs.HeldPlanes.{digits_held, planes_held, IsClearFrom}
-use Rattle.std.specs.Int.{bit_at}
-use borrow.Rule.Slice.PartMut.{put_mid}
-use Rattle.std.proofs.Math.Nat.{mod-le}
-use Rattle.std.proofs.lemmas.Nat.{pow_pos}
-use Rattle.std.proofs.lemmas.Nat.Bits.{same_from_bits_below}
+use Rattle.std.{specs.Int.{bit_at}, proofs.Math.Nat.{mod-le}, proofs.lemmas.Nat.{pow_pos}}
 use Rattle.std.proofs.lemmas.List.Elements.{All-from_get_or, All-get_or}
-use Rattle.zf_coef.proofs.ShiftedBits.{bit_at-mod_pow, bit_at-mod_above}
-use Rattle.zf_coef.proofs.Halves.{word_of-past}
-use Rattle.zf_coef.specs.HeldDigits.{digits_in, column}
-use Rattle.zf_coef.specs.Turned.{bit_of}
-use Rattle.zf_coef.specs.Groups.{word_of, HoldsGroup, KeepsOthers, IsOfGroup}
-use Rattle.zf_spec.specs.Planes.{digits_in_planes}
+use Rattle.zf_spec.{specs.Numbers.{field, number, word_bits, is_odd}, specs.Grid.{upto}}
+use Rattle.zf_spec.specs.Planes.{plane, planes_of, digits_in_planes}
+use Rattle.zf_spec.proofs.Counting.{four_elements, length-map-upto, get_or-map-upto}
+use Rattle.zf_spec.proofs.PlaneDigits.{get_or-plane, length-map-reverse-upto, get_or-map-reverse-upto, get_or-planes_of, length-planes_of}
+use Rattle.zf_spec.specs.HeldPlanes.{digits_held, planes_held, IsClearFrom}
 use Rattle.zf_spec.proofs.Fields.{get_or-field, length-field}
 use Rattle.zf_spec.proofs.WordBits.{length-word_bits, get_or-word_bits}
-use Rattle.zf_spec.proofs.HeldPlanes.{length-planes_held}
-use Rattle.zf_spec.proofs.PlaneDigits.{get_or-planes_of, length-planes_of}
-use Rattle.zf_spec.proofs.HeldPlanes.{get_or-planes_held}
+use Rattle.zf_spec.proofs.HeldPlanes.{length-planes_held, get_or-planes_held}
+use borrow.Rule.Slice.PartMut.{put_mid}
+use Rattle.zf_coef.{proofs.ShiftedBits.{bit_at-mod_pow, bit_at-mod_above}, proofs.Halves.{word_of-past}}
+use Rattle.zf_coef.{specs.HeldDigits.{digits_in, column}, specs.Turned.{bit_of}}
+use Rattle.zf_coef.specs.Groups.{word_of, HoldsGroup, KeepsOthers, IsOfGroup}
 
 -- ---- one plane
 

@@ -1,14 +1,10 @@
 -- Steps that together turn the tiles of words.
-use Rattle.std.proofs.Common.{rules}
-use Rattle.std.proofs.Common.{◌≡◌, refl, ap, ◌∙◌, ℕ, zero, suc, ◌+◌, ◌-◌, ◌*◌, ◌/◌, ◌%◌, ◌^◌, ◌<◌, ◌≤◌, ◌≢◌, min, ⊎_elim, Bool, true, eqb, ◌&&◌, List, length, arith}
-use Rattle.std.proofs.lemmas.Bool.{cases_lt, cases_eq, eqb-true}
-use Rattle.std.proofs.Math.Nat.{mod-eq_of_lt, mod-le}
-use Rattle.std.specs.Int.{bit_at}
-use Rattle.std.specs.Int.RustNames.{bit_xor}
+use Rattle.std.proofs.Common.{rules, ◌≡◌, refl, ap, ◌∙◌, ℕ, zero, suc, ◌+◌, ◌-◌, ◌*◌, ◌/◌, ◌%◌, ◌^◌, ◌<◌, ◌≤◌, ◌≢◌, min, ⊎_elim, Bool, true, eqb, ◌&&◌, List, length, arith}
+use Rattle.std.{proofs.lemmas.Bool.{cases_lt, cases_eq, eqb-true, and_parts}, specs.Int.{bit_at}}
+use Rattle.std.{proofs.Math.Nat.{mod-eq_of_lt, mod-le}, specs.Int.RustNames.{bit_xor}}
 use Rattle.std.proofs.lemmas.Nat.Bits.{bit_at_xor, bit_at-lt}
 use Rattle.zf_coef.specs.Turned.{bit_of, moved, IsMask, with_digit, IsStepped, IsTurned, crossed, IsFoldedTurned}
 use Rattle.zf_coef.proofs.ShiftedBits.{bit_at-mod, bit_at-shl_low, bit_at-shl_high}
-use Rattle.std.proofs.lemmas.Bool.{and_parts}
 use Rattle.zf_coef.proofs.Steps.{bit_at-moved}
 
 -- ---- masks

@@ -1,28 +1,18 @@
 -- Each command that is not refused, and the refusals of each.
 use Rattle.std.proofs.Common.{◌≡◌, refl, sym, ap, subst, ◌∙◌, ℕ, ◌<◌, ◌≤◌, ℤ, ◌+ℤ◌, Bool, true, false, not, ltb, lt-ltb, ltb-true, ◌⊎◌, inl, inr, List, length, Option, Some, None, arith, rules}
-use Rattle.std.proofs.lemmas.Bool.{and_from, and_parts}
-use Rattle.std.specs.Int.{Width}
-use Rattle.zf_spec.specs.Numbers.{wrap}
-use Rattle.zf_spec.specs.Grid.{IsShape, is_inside, upto, blocks}
-use Rattle.zf_base.specs.declared.position.Pos.{Pos}
-use Rattle.zf_base.specs.Positions.{used_axes, with_unused, IsPosition}
-use Rattle.zf_base.specs.Places.{block_number}
-use Rattle.zf_base.proofs.Extents.{length-used_axes, used_axes-with_unused}
-use Rattle.zf_cached.specs.Commands.{Command}
-use Rattle.zf_cached.specs.Replies.{Refusal, Reply}
-use Rattle.zf_cached.specs.Arrays.{array_format}
-use Rattle.zf_cached.specs.Runs.{read_step}
-use Rattle.zf_cached.specs.State.{Counts}
+use Rattle.std.{proofs.lemmas.Bool.{and_from, and_parts}, specs.Int.{Width}}
+use Rattle.zf_spec.{specs.Numbers.{wrap}, specs.Grid.{IsShape, is_inside, upto, blocks}}
+use Rattle.zf_base.{specs.declared.position.Pos.{Pos}, specs.Positions.{used_axes, with_unused, IsPosition}}
+use Rattle.zf_base.{specs.Places.{block_number}, proofs.Extents.{length-used_axes, used_axes-with_unused}}
+use Rattle.zf_cached.{specs.Commands.{Command}, specs.Replies.{Refusal, Reply}, specs.Arrays.{array_format}}
+use Rattle.zf_cached.{specs.Runs.{read_step}, specs.State.{Counts}}
 use Rattle.zf_cached.specs.Windows.{Window, LiesIn, mapped, sliced, has_place, positions, is_window}
 use Rattle.zf_cached.specs.Steps.{Setting, Session, touched, changed, changed_at, filled_below, total, value_there, is_of_type, is_line_count, needs_split, tests, step, done}
 use Rattle.zf_cached.proofs.Windows.{length-mapped, LiesIn-sliced}
-use Rattle.zf_window.specs.declared.window.ViewFault.{ViewFault}
-use Rattle.zf_window.specs.WindowFields.{view_fault}
+use Rattle.zf_window.{specs.declared.window.ViewFault.{ViewFault}, specs.WindowFields.{view_fault}}
 use Rattle.zf_script.specs.declared.command.Cmd.{Cmd}
-use Rattle.zf_commands.specs.declared.subject.Subject.{Ghosts as Subject}
-use Rattle.zf_commands.specs.Calls.{IsReady, Leads, Obeys}
-use Rattle.zf_commands.specs.Kinds.{asked}
-use Rattle.zf_commands.specs.Sittings.{place_in, block_in}
+use Rattle.zf_commands.{specs.declared.subject.Subject.{Ghosts as Subject}, specs.Kinds.{asked}}
+use Rattle.zf_commands.{specs.Calls.{IsReady, Leads, Obeys}, specs.Sittings.{place_in, block_in}}
 use Rattle.zf_commands.specs.Steps.{Does, HasWindow, Takes, Touches, Changes, FillsAll, Sums, Performs, starves}
 use Rattle.zf_commands.proofs.Stepping.{no_split, refused_size, refused_range, refused_value, refused_memory, accepted}
 

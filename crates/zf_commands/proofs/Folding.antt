@@ -1,16 +1,11 @@
 -- Lines one after the other, with the replies that are written.
 use Rattle.std.proofs.Common.{◌≡◌, ◌≢◌, refl, sym, ap, subst, ◌∙◌, ℕ, suc, ◌+◌, ◌≤◌, ◌<◌, Bool, true, false, ◌||◌, cond, eqb, List, [], ◌∷◌, ◌++◌, length, take, count_by, Option, Some, None, append_assoc, length-append, ne_eqb, eq-eqb, zero-add, arith, Result, Ok, Err, OnErr, rules}
-use mir.Val.{bool_byte}
-use Rattle.std.specs.List.{list_any}
-use Rattle.std.specs.Option.{option_to_list}
-use Rattle.std.proofs.lemmas.List.{append-nil}
-use Rattle.std.proofs.lemmas.Grind.{flat_map-append}
-use Rattle.std.proofs.lemmas.List.Sums.{sum_by-append}
+use Rattle.std.{specs.List.{list_any}, specs.Option.{option_to_list}, proofs.lemmas.List.{append-nil}}
+use Rattle.std.{proofs.lemmas.Grind.{flat_map-append}, proofs.lemmas.List.Sums.{sum_by-append}}
 use Rattle.std.proofs.Math.Seq.{take-append_seam, take-append-add}
-use Rattle.zf_dev.specs.Sink.{Appends, AppendsPart}
-use Rattle.zf_dev.proofs.Appending.{Appends-none, Appends-append}
-use Rattle.zf_cached.specs.Replies.{Reply, reply_text}
-use Rattle.zf_cached.specs.Steps.{Setting, Session}
+use mir.Val.{bool_byte}
+use Rattle.zf_dev.{specs.Sink.{Appends, AppendsPart}, proofs.Appending.{Appends-none, Appends-append}}
+use Rattle.zf_cached.{specs.Replies.{Reply, reply_text}, specs.Steps.{Setting, Session}}
 use Rattle.zf_cached.specs.Runs.{lines_of, line_step, run_lines, replies_text}
 use Rattle.zf_cached.proofs.Runs.{run_lines-append}
 use Rattle.zf_commands.specs.Steps.{LeadsTo, starves, is_starved, is_refusal}

@@ -1,16 +1,12 @@
 -- A line as it is read.
 use Rattle.std.proofs.Common.{◌≡◌, refl, sym, ap, ◌∙◌, ℕ, zero, suc, ◌<◌, ◌==◌, Bool, false, List, [], ◌∷◌, length, Option, Some, None, arith, rules}
-use Rattle.zf_cached.specs.Commands.{Command}
-use Rattle.zf_cached.specs.Grammar.{read_line}
-use Rattle.zf_cached.specs.Replies as script
-use Rattle.zf_cached.specs.Steps.{Setting, Session}
+use Rattle.zf_cached.{specs.Commands.{Command}, specs.Grammar.{read_line}, specs.Steps.{Setting, Session}}
 use Rattle.zf_cached.specs.Runs.{line_step, read_step}
-use Rattle.zf_script.specs.declared.reply.Refusal.{Refusal}
-use Rattle.zf_script.specs.declared.reply.Refusal.TheVariants.{Word}
+use Rattle.zf_cached.specs.Replies as script
+use Rattle.zf_script.{specs.declared.reply.Refusal.{Refusal}, specs.declared.reply.Refusal.TheVariants.{Word}}
 use Rattle.zf_script.specs.Seen.{refusal_of}
 use Rattle.zf_commands.specs.declared.subject.Subject.{Ghosts as Subject}
-use Rattle.zf_commands.specs.Calls.{IsReady, StaysReady, Obeys}
-use Rattle.zf_commands.specs.Steps.{Takes, LeadsTo, starves}
+use Rattle.zf_commands.{specs.Calls.{IsReady, StaysReady, Obeys}, specs.Steps.{Takes, LeadsTo, starves}}
 
 module _ {Code : Type 0} (setting : Setting Code) (s : Session Code) where
   pub line_empty : (line : List ℕ) → length line ≡ 0 → LeadsTo setting s line s None

@@ -1,25 +1,16 @@
 -- Passes over all blocks, and sums of the values of one.
 use Rattle.std.proofs.Common.{◌≡◌, refl, sym, ap, ◌∙◌, ℕ, zero, suc, ◌+◌, ◌-◌, ◌*◌, ◌<◌, ◌≤◌, ◌^◌, ℤ, pos, ◌+ℤ◌, List, [], ◌∷◌, ◌++◌, map, length, take, drop, replicate, get_or, FitsSigned, to_z, of_z, arith, rules}
-use Rattle.std.specs.Int.{w128}
-use Rattle.std.specs.List.{refill}
-use Rattle.std.proofs.lemmas.Int.{ints, to_z-of_z}
-use Rattle.std.proofs.lemmas.List.{map-append}
-use Rattle.std.proofs.Math.Seq.{take-append_seam}
+use Rattle.std.{specs.Int.{w128}, specs.List.{refill}, proofs.lemmas.Int.{ints, to_z-of_z}}
+use Rattle.std.{proofs.lemmas.List.{map-append}, proofs.Math.Seq.{take-append_seam}}
 use Rattle.zf_spec.specs.Grid.{IsShape, upto, count_from, extent_of}
 use Rattle.zf_spec.proofs.Counting.{count_from-add, map-upto_same, count_from-below}
-use Rattle.zf_base.specs.Formats.{existing_of}
-use Rattle.zf_cached.specs.State.{State}
-use Rattle.zf_cached.specs.Arrays.{Coding, array_format}
-use Rattle.zf_cached.specs.Steps.{Setting, Session, touched, changed, filled_below, summed, total, format_of}
-use Rattle.zf_commands.specs.Sittings.{OnState}
-use Rattle.zf_commands.specs.Steps.{Touches, Fills}
-use Rattle.zf_base.specs.declared.position.Extent.{Extent}
+use Rattle.zf_base.{specs.Formats.{existing_of}, specs.declared.position.Extent.{Extent}}
 use Rattle.zf_base.specs.Positions.{used_axes, IsExtent}
-use Rattle.zf_pad.specs.Layouts.{place_indices}
-use Rattle.zf_pad.proofs.Existing.{has_place}
-use Rattle.zf_window.specs.Bounds.{IsUpTo}
-use Rattle.zf_window.proofs.Bounds.{up_to_fits}
-use Rattle.zf_commands.specs.Sums.{within}
+use Rattle.zf_cached.{specs.State.{State}, specs.Arrays.{Coding, array_format}}
+use Rattle.zf_cached.specs.Steps.{Setting, Session, touched, changed, filled_below, summed, total, format_of}
+use Rattle.zf_commands.{specs.Sittings.{OnState}, specs.Steps.{Touches, Fills}, specs.Sums.{within}}
+use Rattle.zf_pad.{specs.Layouts.{place_indices}, proofs.Existing.{has_place}}
+use Rattle.zf_window.{specs.Bounds.{IsUpTo}, proofs.Bounds.{up_to_fits}}
 
 -- a list of one value alone
 pub all_alike : {X : Type 0} (xs : List X) (v : X) → ((k : ℕ) → k < length xs → get_or xs k v ≡ v) → xs ≡ replicate (length xs) v

@@ -2,23 +2,18 @@
 use Rattle.std.proofs.Common.{◌≡◌, refl, ap, subst, ◌∙◌, ℕ, Bool, false, length}
 use Rattle.zf_cached.specs.Kinds as sorts
 use Rattle.zf_base.specs.Positions.{used_axes}
-use Rattle.zf_cached.specs.Kinds.{is_reading, is_windowless, is_of_split}
-use Rattle.zf_cached.specs.Steps.{Session}
-use Rattle.zf_script.specs.declared.command.Cmd.{Cmd}
-use Rattle.zf_script.specs.Seen.{command_of}
-use Rattle.zf_commands.specs.declared.kinds.Kind.{Kind}
-use Rattle.zf_commands.specs.declared.kinds.Kind.TheVariants as kinds
-use Rattle.zf_commands.specs.declared.kinds.ReadCmd.{ReadCmd}
-use Rattle.zf_commands.specs.declared.kinds.ReadCmd.TheVariants as reads
-use Rattle.zf_commands.specs.declared.kinds.WindowCmd.{WindowCmd}
-use Rattle.zf_commands.specs.declared.kinds.WindowCmd.TheVariants as windows
-use Rattle.zf_commands.specs.declared.kinds.WriteCmd.{WriteCmd}
-use Rattle.zf_commands.specs.declared.kinds.WriteCmd.TheVariants as writes
-use Rattle.zf_commands.specs.declared.kinds.ArrayCmd.{ArrayCmd}
-use Rattle.zf_commands.specs.declared.kinds.ArrayCmd.TheVariants as arrays
-use Rattle.zf_commands.specs.declared.kinds.ViewCmd.{ViewCmd}
-use Rattle.zf_commands.specs.declared.kinds.ViewCmd.TheVariants as views
+use Rattle.zf_cached.{specs.Kinds.{is_reading, is_windowless, is_of_split}, specs.Steps.{Session}}
+use Rattle.zf_script.{specs.declared.command.Cmd.{Cmd}, specs.Seen.{command_of}}
+use Rattle.zf_commands.{specs.declared.kinds.Kind.{Kind}, specs.declared.kinds.ReadCmd.{ReadCmd}}
+use Rattle.zf_commands.{specs.declared.kinds.WindowCmd.{WindowCmd}, specs.declared.kinds.WriteCmd.{WriteCmd}}
+use Rattle.zf_commands.{specs.declared.kinds.ArrayCmd.{ArrayCmd}, specs.declared.kinds.ViewCmd.{ViewCmd}}
 use Rattle.zf_commands.specs.Kinds.{cmd_of_kind, asked, IsPlain}
+use Rattle.zf_commands.specs.declared.kinds.Kind.TheVariants as kinds
+use Rattle.zf_commands.specs.declared.kinds.ReadCmd.TheVariants as reads
+use Rattle.zf_commands.specs.declared.kinds.WindowCmd.TheVariants as windows
+use Rattle.zf_commands.specs.declared.kinds.WriteCmd.TheVariants as writes
+use Rattle.zf_commands.specs.declared.kinds.ArrayCmd.TheVariants as arrays
+use Rattle.zf_commands.specs.declared.kinds.ViewCmd.TheVariants as views
 
 -- the kind, as the language has it in d dimensions
 abbrev read_sort : ℕ → ReadCmd → sorts.ReadCommand

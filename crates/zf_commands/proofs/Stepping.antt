@@ -1,9 +1,7 @@
 -- The steps of commands that are refused, and of those that are not.
 use Rattle.std.proofs.Common.{◌≡◌, sym, ap, ◌∙◌, true, false, not, ◌&&◌, Option, Some, None, is_some, rules}
-use Rattle.zf_cached.specs.Commands.{Command}
-use Rattle.zf_cached.specs.Replies.{Refusal, Reply}
+use Rattle.zf_cached.{specs.Commands.{Command}, specs.Replies.{Refusal, Reply}, proofs.Runs.{step-refused}}
 use Rattle.zf_cached.specs.Steps.{Setting, Session, needs_split, refuses_split, tests, first_refusal, refusal, done}
-use Rattle.zf_cached.proofs.Runs.{step-refused}
 use Rattle.zf_cached.proofs.Sessions.{step_by}
 use Rattle.zf_commands.specs.Steps.{Does, HasWindow, starves}
 

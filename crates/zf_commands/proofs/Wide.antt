@@ -1,7 +1,6 @@
 -- Values as numbers of 128 bits.
 use Rattle.std.proofs.Common.{◌≡◌, ◌⊎◌, ◌↔◌, ap, ◌∙◌, ℤ, pos, negsuc, FitsSigned, to_z, of_z, arith}
-use Rattle.std.specs.Int.{Width, w32, w64, w128}
-use Rattle.std.proofs.lemmas.Int.{ints, to_z-of_z}
+use Rattle.std.{specs.Int.{Width, w32, w64, w128}, proofs.lemmas.Int.{ints, to_z-of_z}}
 use Rattle.zf_window.proofs.Bounds.{fits_long}
 
 fits_wide : (z : ℤ) → FitsSigned w64 z → FitsSigned w128 z

@@ -1,24 +1,18 @@
 -- What is read of a stream is what its codes mean.
 use Rattle.std.proofs.Common.{◌≡◌, sym, ap, ◌∙◌, ℕ, ◌<◌, ℤ, Bool, Some, List, length, take, rules}
 use Rattle.std.specs.Int.{Width}
-use Rattle.zf_spec.specs.Grid.{extent_of}
-use Rattle.zf_spec.specs.Codes.{existing_values, read_rev, read_prec}
-use Rattle.zf_spec.proofs.Counting.{get_or-map-upto}
-use Rattle.zf_spec.proofs.Padding.{existing_values-existing_values}
-use Rattle.zf_base.specs.Widths.{width_of}
-use Rattle.zf_base.specs.Formats.{meant}
-use Rattle.zf_header.specs.declared.header.Header.{Header}
-use Rattle.zf_header.specs.declared.header.Mode.{Mode}
+use Rattle.zf_spec.{specs.Grid.{extent_of}, specs.Codes.{existing_values, read_rev, read_prec}}
+use Rattle.zf_spec.{proofs.Counting.{get_or-map-upto}, proofs.Padding.{existing_values-existing_values}}
+use Rattle.zf_base.{specs.Widths.{width_of}, specs.Formats.{meant}}
+use Rattle.zf_header.{specs.declared.header.Header.{Header}, specs.declared.header.Mode.{Mode}}
 use Rattle.zf_header.specs.declared.header.Mode.TheVariants.{Reversible, Rate, Precision}
 use Rattle.zf_header.specs.HeaderBits.{coding}
 use Rattle.zf_cached.specs.Arrays.{mode_coding, rate_coding, array_format, read_values}
 use Rattle.zf_cached.proofs.Arrays.{existing_of-array, existing_values-read_rate}
-use Rattle.zf_parse.specs.Parsing.{read_code}
-use Rattle.zf_index.specs.Spans.{Index, code_in, codes_in}
-use Rattle.zf_index.specs.Files.{AreRead, found, block_read}
+use Rattle.zf_parse.{specs.Parsing.{read_code}, proofs.Prefixes.{found_some, read_code-prefix}}
+use Rattle.zf_index.{specs.Spans.{Index, code_in, codes_in}, specs.Files.{AreRead, found, block_read}}
 use Rattle.zf_index.proofs.Read.{read_parts}
 use Rattle.zf_const.specs.Standing.{coding_of, code_of}
-use Rattle.zf_parse.proofs.Prefixes.{found_some, read_code-prefix}
 
 -- a code of just so many bits means the block that is read
 code_means : (w : Width) (mode : Mode) (es : List ℕ) (s : List Bool) (block : List ℤ) (k : ℕ) → read_code w mode es s ≡ Some (block, k) → (mode_coding w (coding mode)).meaning es (take k s) ≡ block

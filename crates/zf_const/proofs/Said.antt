@@ -1,24 +1,16 @@
 -- The values that a stream says are those that its codes mean.
 use Rattle.std.proofs.Common.{◌≡◌, refl, sym, ap, subst, ◌∙◌, ℕ, zero, suc, ◌+◌, ◌<◌, ℤ, pos, Bool, Ok, List, [], ◌∷◌, ◌++◌, map, length, get_or, arith}
 use Rattle.std.proofs.lemmas.List.{length-map, take_at}
-use Rattle.zf_spec.specs.Grid.{blocks, upto, raster}
-use Rattle.zf_spec.proofs.Counting.{from_places}
-use Rattle.zf_base.specs.declared.position.Pos.{Pos}
-use Rattle.zf_base.specs.Positions.{used_axes, IsPosition}
-use Rattle.zf_base.specs.Places.{block_number, place_of}
-use Rattle.zf_base.specs.Formats.{meant}
+use Rattle.zf_spec.{specs.Grid.{blocks, upto, raster}, proofs.Counting.{from_places}}
+use Rattle.zf_base.{specs.declared.position.Pos.{Pos}, specs.Positions.{used_axes, IsPosition}}
+use Rattle.zf_base.{specs.Places.{block_number, place_of}, specs.Formats.{meant}}
 use Rattle.zf_base.proofs.Extents.{length-used_axes}
-use Rattle.zf_header.specs.declared.header.Header.{Header}
-use Rattle.zf_header.specs.HeaderBits.{IsHeader}
-use Rattle.zf_header.proofs.Good.{good}
+use Rattle.zf_header.{specs.declared.header.Header.{Header}, specs.HeaderBits.{IsHeader}, proofs.Good.{good}}
 use Rattle.zf_header.proofs.Found.{read_is_header}
-use Rattle.zf_cached.specs.Changes.{opened}
-use Rattle.zf_cached.specs.Arrays.{array_format}
+use Rattle.zf_cached.{specs.Changes.{opened}, specs.Arrays.{array_format}}
 use Rattle.zf_parse.specs.Parsing.{Said, parse, header_of, code_bits, values_of_blocks}
-use Rattle.zf_parse.proofs.Whole.{Stand, read_whole}
-use Rattle.zf_parse.proofs.Parts.{parts_of}
-use Rattle.zf_const.specs.Standing.{coding_of, code_of, open_stream}
-use Rattle.zf_const.proofs.Meaning.{meant-read}
+use Rattle.zf_parse.{proofs.Whole.{Stand, read_whole}, proofs.Parts.{parts_of}}
+use Rattle.zf_const.{specs.Standing.{coding_of, code_of, open_stream}, proofs.Meaning.{meant-read}}
 use Rattle.zf_const.proofs.Values.{value_there}
 
 -- each block is what its code means

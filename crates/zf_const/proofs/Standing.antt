@@ -1,24 +1,14 @@
 -- An array stands for the state of its cache and its codes.
 use Rattle.std.proofs.Common.{◌≡◌, refl, sym, ap, subst, ◌∙◌, ℕ, ◌%◌, ◌^◌, ℤ, Bool, Option, List, map, length, arith, rules}
-use Rattle.std.specs.Int.{Width}
-use Rattle.std.proofs.Math.ListN.{get_or-map}
-use Rattle.std.proofs.lemmas.Simd.{map-map}
-use Rattle.std.proofs.lemmas.Bool.{cases_Bool, ne_eqb}
-use Rattle.std.proofs.lemmas.List.{length-map, length-replicate}
-use Rattle.zf_spec.specs.Grid.{upto, blocks}
-use Rattle.zf_spec.proofs.Counting.{map-get_or-upto}
-use Rattle.zf_base.specs.Formats.{Format, meant}
-use Rattle.zf_base.proofs.Sizes.{blocks_le}
+use Rattle.std.{specs.Int.{Width}, proofs.Math.ListN.{get_or-map}, proofs.lemmas.Simd.{map-map}}
+use Rattle.std.{proofs.lemmas.Bool.{cases_Bool, ne_eqb}, proofs.lemmas.List.{length-map, length-replicate}}
+use Rattle.zf_spec.{specs.Grid.{upto, blocks}, proofs.Counting.{map-get_or-upto}}
+use Rattle.zf_base.{specs.Formats.{Format, meant}, proofs.Sizes.{blocks_le}}
 use Rattle.zf_header.specs.declared.header.Header.{Header}
-use Rattle.zf_cached.specs.State.{State, no_counts}
-use Rattle.zf_cached.specs.Touch.{touch}
-use Rattle.zf_cached.specs.Changes.{opened}
-use Rattle.zf_cached.specs.Arrays.{array_format}
-use Rattle.zf_cached.proofs.States.{same_state}
-use Rattle.zf_cached.proofs.Caching.{is_block-true}
+use Rattle.zf_cached.{specs.State.{State, no_counts}, specs.Touch.{touch}, specs.Changes.{opened}}
+use Rattle.zf_cached.{specs.Arrays.{array_format}, proofs.States.{same_state}, proofs.Caching.{is_block-true}}
 use Rattle.zf_cache.specs.Kept.{Kept, HasBlocks, IsClean, IsEmpty, tag_at, block_in, line_of, dirty_tag}
-use Rattle.zf_cache.specs.Standing.{state_of, values_of, Fits, HasRoom, state_at}
-use Rattle.zf_cache.proofs.Tags.{named}
+use Rattle.zf_cache.{specs.Standing.{state_of, values_of, Fits, HasRoom, state_at}, proofs.Tags.{named}}
 use Rattle.zf_cache.proofs.Touches.{no_tag}
 use Rattle.zf_const.specs.Standing.{Held, format, state, touched}
 use Rattle.zf_const.specs.Parts.{Coded, code_at, format_of, held_by, IsJoined}

@@ -1,16 +1,11 @@
 -- The values of an array are those of its stream, and stay.
 use Rattle.std.proofs.Common.{◌≡◌, refl, sym, ap, ◌∙◌, ℕ, zero, suc, ℤ, pos, Bool, true, Option, Some, None, Ok, List, [], map, length, get_or}
 use Rattle.zf_spec.specs.Grid.{IsShape, upto, product, blocks, coordinates, raster, is_inside}
-use Rattle.zf_spec.proofs.Counting.{get_or-map-upto}
-use Rattle.zf_spec.proofs.Raster.{coordinates-raster, raster_below}
-use Rattle.zf_base.specs.declared.position.Pos.{Pos}
-use Rattle.zf_base.specs.Positions.{used_axes, IsPosition}
-use Rattle.zf_base.specs.Places.{block_number, place_of}
-use Rattle.zf_base.proofs.Places.{IsAt-position}
+use Rattle.zf_spec.{proofs.Counting.{get_or-map-upto}, proofs.Raster.{coordinates-raster, raster_below}}
+use Rattle.zf_base.{specs.declared.position.Pos.{Pos}, specs.Positions.{used_axes, IsPosition}}
+use Rattle.zf_base.{specs.Places.{block_number, place_of}, proofs.Places.{IsAt-position}}
 use Rattle.zf_base.proofs.Extents.{length-used_axes}
-use Rattle.zf_cached.specs.State.{State, own_line}
-use Rattle.zf_cached.specs.Placing.{direct}
-use Rattle.zf_cached.proofs.Caching.{touch_by}
+use Rattle.zf_cached.{specs.State.{State, own_line}, specs.Placing.{direct}, proofs.Caching.{touch_by}}
 use Rattle.zf_cached.specs.Touch.{write_back_line, hit, miss, touch}
 use Rattle.zf_cached.specs.Changes.{write_back_lines, emptied, flush, relined}
 use Rattle.zf_cache.proofs.Stands.{write_back_line-none, write_back_line-some, write_back_dirty-false}

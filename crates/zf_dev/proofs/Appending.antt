@@ -1,7 +1,6 @@
 -- How what is appended to a sink adds up over several calls.
 use Rattle.std.proofs.Common.{ℕ, ◌+◌, List, [], ◌++◌, length, take, Option, Some, None, ap, sym, ◌∙◌, append_assoc, append-nil, length-append, arith}
-use Rattle.std.proofs.lemmas.List.{take_all, take-append-le}
-use Rattle.std.proofs.Math.Seq.{take-append-add}
+use Rattle.std.{proofs.lemmas.List.{take_all, take-append-le}, proofs.Math.Seq.{take-append-add}}
 use Rattle.zf_dev.specs.Sink.{Appends, AppendsPrefix}
 
 -- nothing was written

@@ -1,7 +1,6 @@
 -- How what calls leave of the devices adds up.
 use Rattle.std.proofs.Common.{◌≡◌, refl, ◌∙◌, arith}
-use Rattle.zf_dev.specs.declared.source.Source.{Ghosts as Source}
-use Rattle.zf_dev.specs.declared.sink.Sink.{Ghosts as Sink}
+use Rattle.zf_dev.{specs.declared.source.Source.{Ghosts as Source}, specs.declared.sink.Sink.{Ghosts as Sink}}
 use Rattle.zf_dev.specs.Devices.{Reads, Writes}
 
 module _ {A : Type 0} {S : Source A} where

@@ -1,5 +1,4 @@
 pub mod Appending
-pub mod Counts
 pub mod Devices
 pub mod Giving
 mod Held

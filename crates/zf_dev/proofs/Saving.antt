@@ -1,10 +1,7 @@
 -- The files of a shelf in memory after one of them was put there.
 use Rattle.std.proofs.Common.{◌≡◌, ℕ, false, cond, List, Option, Some, ap, sym, ◌∙◌, Vec, Global}
-use Rattle.std.specs.Option.{option_map}
-use Rattle.std.specs.Str.{bytes_eq}
-use Rattle.std.specs.Map.{update}
-use Rattle.std.proofs.lemmas.Bool.{false_from_ne_true}
-use Rattle.std.proofs.lemmas.Slice.Eq.{bytes_eq-Decides}
+use Rattle.std.{specs.Option.{option_map}, specs.Str.{bytes_eq}, specs.Map.{update}}
+use Rattle.std.{proofs.lemmas.Bool.{false_from_ne_true}, proofs.lemmas.Slice.Eq.{bytes_eq-Decides}}
 use Rattle.zf_dev.specs.Shelf.{SavesFile}
 
 -- the bytes under each name, of what is kept there

@@ -1,16 +1,12 @@
 -- The number in the bits from a place on, and the bits of bytes one by one.
-use Rattle.std.proofs.Common.{rules}
-use Rattle.std.proofs.Common.{◌≡◌, ℕ, ◌+◌, ◌*◌, ◌/◌, ◌%◌, ◌^◌, ◌<◌, Bool, false, List, [], ◌∷◌, ◌++◌, length, get_or, take, drop, sym, ap, ◌∙◌, arith, length-drop}
+use Rattle.std.proofs.Common.{rules, ◌≡◌, ℕ, ◌+◌, ◌*◌, ◌/◌, ◌%◌, ◌^◌, ◌<◌, Bool, false, List, [], ◌∷◌, ◌++◌, length, get_or, take, drop, sym, ap, ◌∙◌, arith, length-drop}
 use Rattle.std.proofs.lemmas.List.{take_more, get_or-drop, length-take-le, length-take}
 use Rattle.std.proofs.Math.Nat.{pow-le-pow_right}
-use Rattle.zf_spec.specs.Numbers.{is_odd, number}
-use Rattle.zf_spec.specs.Stream.{to_bits}
-use Rattle.zf_spec.proofs.Fields.{number-lt}
-use Rattle.zf_bits.proofs.Fields.{from_bool-digit_value, number_more}
-use Rattle.zf_spec.proofs.WordBits.{get_or-flat_map-field}
-use Rattle.zf_header.specs.HeaderFields.{number_at}
-use Rattle.zf_spec.proofs.Halves.{digit_value-is_odd}
+use Rattle.zf_spec.{specs.Numbers.{is_odd, number}, specs.Stream.{to_bits}, proofs.Fields.{number-lt}}
+use Rattle.zf_spec.{proofs.WordBits.{get_or-flat_map-field}, proofs.Halves.{digit_value-is_odd}}
 use Rattle.zf_spec.proofs.Bytes.{length-to_bits}
+use Rattle.zf_bits.proofs.Fields.{from_bool-digit_value, number_more}
+use Rattle.zf_header.specs.HeaderFields.{number_at}
 
 -- the bit at a place of bytes
 abbrev pub bit_of : List ℕ → ℕ → ℕ

@@ -1,22 +1,14 @@
 -- The first fault of lists of lines, and the faults of sizes that were read from their fields.
-use Rattle.std.proofs.Common.{rules}
-use Rattle.std.proofs.Common.{◌≡◌, ℕ, zero, suc, ◌/◌, ◌^◌, ◌≤◌, ◌==◌, Bool, true, false, cond, nat_lt, List, [], ◌∷◌, ◌++◌, map, take, Some, None, Result, Ok, Err, refl, ap, ◌∙◌, arith}
-use Rattle.std.specs.List.{list_any}
-use Rattle.std.proofs.lemmas.Nat.{pow_pos}
-use Rattle.std.proofs.lemmas.Bool.{le-ltb}
-use Rattle.std.proofs.lemmas.Bool.Decides.{nat_tests}
-use Rattle.std.specs.Result.{MatchResult, IsErrAnd, result_err}
+use Rattle.std.proofs.Common.{rules, ◌≡◌, ℕ, zero, suc, ◌/◌, ◌^◌, ◌≤◌, ◌==◌, Bool, true, false, cond, nat_lt, List, [], ◌∷◌, ◌++◌, map, take, Some, None, Result, Ok, Err, refl, ap, ◌∙◌, arith}
+use Rattle.std.{specs.List.{list_any}, proofs.lemmas.Nat.{pow_pos}, proofs.lemmas.Bool.{le-ltb}}
+use Rattle.std.{proofs.lemmas.Bool.Decides.{nat_tests}, specs.Result.{MatchResult, IsErrAnd, result_err}}
 use Rattle.std.proofs.lemmas.Result.{err_from_is_err_and}
-use Rattle.zf_base.specs.declared.shape.ShapeFault.{ShapeFault}
-use Rattle.zf_header.specs.declared.header.HeaderFault.TheVariants.{TooLarge}
-use Rattle.zf_spec.specs.Grid.{upto, product, max_values}
-use Rattle.zf_spec.proofs.Counting.{length-map-upto}
-use Rattle.zf_base.specs.declared.shape.ShapeFault.TheVariants as shape
-use Rattle.zf_base.specs.Shapes.{shape_fault}
-use Rattle.zf_header.specs.declared.header.HeaderFault.{HeaderFault}
-use Rattle.zf_header.specs.HeaderFields.{size_in, sizes_in}
+use Rattle.zf_base.{specs.declared.shape.ShapeFault.{ShapeFault}, specs.Shapes.{shape_fault}}
+use Rattle.zf_header.{specs.declared.header.HeaderFault.TheVariants.{TooLarge}, proofs.Bits.{number_at_below}}
+use Rattle.zf_header.{specs.declared.header.HeaderFault.{HeaderFault}, specs.HeaderFields.{size_in, sizes_in}}
 use Rattle.zf_header.specs.HeaderFaults.{first_fault, prefix_faults, size_faults, mode_faults, header_fault}
-use Rattle.zf_header.proofs.Bits.{number_at_below}
+use Rattle.zf_spec.{specs.Grid.{upto, product, max_values}, proofs.Counting.{length-map-upto}}
+use Rattle.zf_base.specs.declared.shape.ShapeFault.TheVariants as shape
 
 -- ---- the first of several
 

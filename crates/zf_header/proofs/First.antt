@@ -1,15 +1,10 @@
 -- The first 19 bytes decide.
-use Rattle.std.proofs.Common.{rules}
-use Rattle.std.proofs.Common.{◌≡◌, ℕ, zero, suc, ◌+◌, ◌-◌, ◌*◌, ◌/◌, ◌<◌, ◌≤◌, Bool, List, [], ◌∷◌, ◌++◌, length, take, refl, sym, ap, ◌∙◌, arith, length-take, inl, inr}
-use Rattle.std.proofs.lemmas.List.{take-take, drop-take, take_all}
-use Rattle.std.proofs.lemmas.Bool.{cases_lt, le-ltb}
+use Rattle.std.proofs.Common.{rules, ◌≡◌, ℕ, zero, suc, ◌+◌, ◌-◌, ◌*◌, ◌/◌, ◌<◌, ◌≤◌, Bool, List, [], ◌∷◌, ◌++◌, length, take, refl, sym, ap, ◌∙◌, arith, length-take, inl, inr}
+use Rattle.std.{proofs.lemmas.List.{take-take, drop-take, take_all}, proofs.lemmas.Bool.{cases_lt, le-ltb}}
 use Rattle.std.proofs.Math.Seq.{take-append-add}
-use Rattle.zf_spec.specs.Numbers.{field}
-use Rattle.zf_spec.specs.Stream.{to_bits}
-use Rattle.zf_spec.proofs.Counting.{map-upto_same}
+use Rattle.zf_spec.{specs.Numbers.{field}, specs.Stream.{to_bits}, proofs.Counting.{map-upto_same}}
 use Rattle.zf_header.specs.HeaderFields.{number_at, sizes_in, is_long_rate, header_in}
-use Rattle.zf_header.specs.HeaderFaults.{header_fault}
-use Rattle.zf_header.proofs.Bits.{number_at_below}
+use Rattle.zf_header.{specs.HeaderFaults.{header_fault}, proofs.Bits.{number_at_below}}
 
 -- the bits of the first bytes are the first bits
 to_bits-take : (n : ℕ) (bytes : List ℕ) → to_bits (take n bytes) ≡ take (8 * n) (to_bits bytes)

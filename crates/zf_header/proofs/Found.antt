@@ -1,27 +1,19 @@
 -- What is read is spelled so.
-use Rattle.std.proofs.Common.{rules}
-use Rattle.std.proofs.Common.{◌≡◌, ℕ, zero, suc, ◌+◌, ◌-◌, ◌*◌, ◌<◌, ◌≤◌, ◌==◌, Bool, true, cond, List, [], ◌∷◌, ◌++◌, length, map, take, drop, refl, sym, ap, subst, ◌∙◌, arith}
-use Rattle.std.specs.List.{AllByRecursion}
-use Rattle.std.proofs.lemmas.Bool.{ltb-true, eqb-true, and_parts}
+use Rattle.std.proofs.Common.{rules, ◌≡◌, ℕ, zero, suc, ◌+◌, ◌-◌, ◌*◌, ◌<◌, ◌≤◌, ◌==◌, Bool, true, cond, List, [], ◌∷◌, ◌++◌, length, map, take, drop, refl, sym, ap, subst, ◌∙◌, arith}
+use Rattle.std.{specs.List.{AllByRecursion}, proofs.lemmas.Bool.{ltb-true, eqb-true, and_parts}}
 use Rattle.std.proofs.lemmas.List.{length-take-le, length-take}
-use Rattle.zf_base.specs.declared.lane.Ty.TheVariants.{I32, I64}
-use Rattle.zf_base.specs.Widths.{width_of}
-use Rattle.zf_spec.specs.Numbers.{field}
+use Rattle.zf_base.{specs.declared.lane.Ty.TheVariants.{I32, I64}, specs.Widths.{width_of}}
+use Rattle.zf_spec.{specs.Numbers.{field}, proofs.Counting.{length-map-upto}, proofs.Bytes.{length-to_bits}}
 use Rattle.zf_spec.specs.Stream.{codec, type_number, mode_number, all_planes, no_exponent, long_form, fixed_rate, to_bits}
-use Rattle.zf_spec.proofs.Counting.{length-map-upto}
-use Rattle.zf_header.specs.declared.header.Header.{Header}
-use Rattle.zf_header.specs.declared.header.Mode.{Mode}
-use Rattle.zf_header.specs.declared.header.Mode.TheVariants.{Rate}
+use Rattle.zf_header.{specs.declared.header.Header.{Header}, specs.declared.header.Mode.{Mode}}
+use Rattle.zf_header.{specs.declared.header.Mode.TheVariants.{Rate}, proofs.Bits.{number_at_below}}
 use Rattle.zf_header.specs.HeaderBits.{coding, IsHeader, header_bits, BeginsWith}
 use Rattle.zf_header.specs.HeaderFields.{number_at, magic_in, codec_in, type_in, dims_in, size_in, sizes_in, mode_in, long_rate_in, is_long_rate, header_in}
 use Rattle.zf_header.proofs.Parts.{long_fields, header_bits-parts, short_number, long_number, long_form_short, long_form_long}
-use Rattle.zf_header.proofs.Bits.{number_at_below}
 use Rattle.zf_header.proofs.Pieces.{take-add, take-add_at, field-number_at_place}
-use Rattle.zf_header.proofs.Sizes.{size_bits-sizes}
-use Rattle.zf_header.proofs.Faults.{size_bounds}
+use Rattle.zf_header.{proofs.Sizes.{size_bits-sizes}, proofs.Faults.{size_bounds}}
 use Rattle.zf_header.proofs.Good.{GoodMode, short, precise, without_loss, long, Good}
 use Rattle.zf_header.proofs.Modes.{mode_said-short, mode_said-precision, mode_said-reversible, mode_said-long, header_in-mode}
-use Rattle.zf_spec.proofs.Bytes.{length-to_bits}
 
 -- the type's number that was read is that of the type
 type_back : (t : ℕ) → t ≤ 1 → t ≡ type_number (width_of (cond (t == 0) I32 I64)) - 1

@@ -1,15 +1,11 @@
 -- What bytes without a fault are.
-use Rattle.std.proofs.Common.{rules}
-use Rattle.std.proofs.Common.{◌≡◌, ℕ, ◌^◌, ◌<◌, ◌≤◌, ◌==◌, Bool, true, false, not, ◌&&◌, ◌||◌, cond, nat_le, List, [], ◌∷◌, length, Some, None, refl, arith}
-use Rattle.std.specs.List.{AllByRecursion}
+use Rattle.std.proofs.Common.{rules, ◌≡◌, ℕ, ◌^◌, ◌<◌, ◌≤◌, ◌==◌, Bool, true, false, not, ◌&&◌, ◌||◌, cond, nat_le, List, [], ◌∷◌, length, Some, None, refl, arith}
+use Rattle.std.{specs.List.{AllByRecursion}, proofs.lemmas.Bool.Decides.{nat_tests}}
 use Rattle.std.proofs.lemmas.Bool.{ltb-false, leb-false, le-leb, cases_lt, cases_eq, eq-eqb, ne_eqb, le-ltb, lt-leb, and_left, and_right, not_from_true, not-false}
-use Rattle.std.proofs.lemmas.Bool.Decides.{nat_tests}
-use Rattle.zf_spec.specs.Grid.{product, max_values}
-use Rattle.zf_spec.specs.Stream.{magic, codec, to_bits}
-use Rattle.zf_header.specs.declared.header.HeaderFault.{HeaderFault}
+use Rattle.zf_spec.{specs.Grid.{product, max_values}, specs.Stream.{magic, codec, to_bits}}
+use Rattle.zf_header.{specs.declared.header.HeaderFault.{HeaderFault}, proofs.Bits.{number_at_below}}
 use Rattle.zf_header.specs.HeaderFields.{magic_in, codec_in, type_in, dims_in, sizes_in, mode_in, is_long_rate}
 use Rattle.zf_header.specs.HeaderFaults.{first_fault, mode_faults, header_fault}
-use Rattle.zf_header.proofs.Bits.{number_at_below}
 
 -- no line holds
 abbrev AllFalse : List (Bool × HeaderFault) → Type 0

@@ -1,14 +1,11 @@
 -- The mode that fields say.
-use Rattle.std.proofs.Common.{rules}
-use Rattle.std.proofs.Common.{◌≡◌, ℕ, ◌+◌, ◌-◌, ◌<◌, ◌≤◌, ◌^◌, Bool, true, false, ◌&&◌, nat_le, List, refl, ap, ◌∙◌, le-leb, arith}
+use Rattle.std.proofs.Common.{rules, ◌≡◌, ℕ, ◌+◌, ◌-◌, ◌<◌, ◌≤◌, ◌^◌, Bool, true, false, ◌&&◌, nat_le, List, refl, ap, ◌∙◌, le-leb, arith}
 use Rattle.std.proofs.lemmas.Bool.{cases_lt, ne_eqb, lt-leb, and_from, and_left, and_parts, leb-true}
 use Rattle.zf_spec.specs.Stream.{mode_number}
-use Rattle.zf_header.specs.declared.header.Mode.{Mode}
+use Rattle.zf_header.{specs.declared.header.Mode.{Mode}, proofs.Parts.{short_number, long_number}}
 use Rattle.zf_header.specs.declared.header.Mode.TheVariants.{Reversible, Rate, Precision}
-use Rattle.zf_header.specs.HeaderBits.{coding, IsMode, IsRate, block_bits}
+use Rattle.zf_header.{specs.HeaderBits.{coding, IsMode, IsRate, block_bits}, proofs.Bits.{number_at_below}}
 use Rattle.zf_header.specs.HeaderFields.{mode_in, long_rate_in, is_long_rate, mode_said, header_in}
-use Rattle.zf_header.proofs.Parts.{short_number, long_number}
-use Rattle.zf_header.proofs.Bits.{number_at_below}
 
 -- a mode of a fixed rate is that of its bits a block
 pub mode_is_rate : (m : Mode) → IsRate m → m ≡ Rate (block_bits m)

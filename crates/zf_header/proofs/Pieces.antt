@@ -1,8 +1,7 @@
 -- Bits that end to end make up a list, and fields among them.
 use Rattle.std.proofs.Common.{◌≡◌, ℕ, ◌+◌, ◌^◌, ◌<◌, ◌≤◌, Bool, List, ◌++◌, length, take, drop, sym, ap, ◌∙◌, arith, append_assoc, length-drop}
 use Rattle.std.proofs.lemmas.List.{take_at, drop_at, take-append-drop, take-take, drop-take, drop-drop, length-take-le}
-use Rattle.zf_spec.specs.Numbers.{field, number}
-use Rattle.zf_spec.proofs.Fields.{length-field, field-number}
+use Rattle.zf_spec.{specs.Numbers.{field, number}, proofs.Fields.{length-field, field-number}}
 use Rattle.zf_bits.proofs.Fields.{number-field_whole}
 use Rattle.zf_header.specs.HeaderFields.{number_at}
 

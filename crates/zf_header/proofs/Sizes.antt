@@ -1,14 +1,10 @@
 -- The fields of the sizes, end to end.
 use Rattle.std.proofs.Common.{◌≡◌, ℕ, zero, suc, ◌+◌, ◌-◌, ◌*◌, ◌/◌, ◌^◌, ◌≤◌, Bool, List, [], ◌∷◌, ◌++◌, length, map, take, drop, refl, sym, ap, ◌∙◌, arith, append_assoc, length-append, suc-mul}
-use Rattle.std.specs.List.{flat_map, AllByRecursion}
-use Rattle.std.proofs.lemmas.List.{drop-drop}
-use Rattle.zf_spec.specs.Numbers.{field}
-use Rattle.zf_spec.specs.Grid.{IsShape, upto}
-use Rattle.zf_spec.proofs.Fields.{length-field}
-use Rattle.zf_header.specs.HeaderFields.{number_at, size_in}
-use Rattle.zf_header.proofs.Parts.{size_bits}
-use Rattle.zf_header.proofs.Pieces.{take-add, field-number_at_place, number_at_piece}
+use Rattle.std.{specs.List.{flat_map, AllByRecursion}, proofs.lemmas.List.{drop-drop}}
+use Rattle.zf_spec.{specs.Numbers.{field}, specs.Grid.{IsShape, upto}, proofs.Fields.{length-field}}
 use Rattle.zf_spec.proofs.RawValues.{share}
+use Rattle.zf_header.{specs.HeaderFields.{number_at, size_in}, proofs.Parts.{size_bits}}
+use Rattle.zf_header.proofs.Pieces.{take-add, field-number_at_place, number_at_piece}
 
 -- sizes, each less 1 in a field of w bits
 abbrev fields : ℕ → List ℕ → List Bool

@@ -1,27 +1,20 @@
 -- What is spelled so is read.
-use Rattle.std.proofs.Common.{rules}
-use Rattle.std.proofs.Common.{◌≡◌, ℕ, ◌+◌, ◌-◌, ◌^◌, ◌<◌, ◌≤◌, ◌==◌, Bool, true, false, cond, nat_le, List, [], ◌++◌, length, map, drop, refl, sym, ap, subst, ◌∙◌, arith, append_assoc, length-append, length-take, lit<, lit≤, None, inl, inr}
+use Rattle.std.proofs.Common.{rules, ◌≡◌, ℕ, ◌+◌, ◌-◌, ◌^◌, ◌<◌, ◌≤◌, ◌==◌, Bool, true, false, cond, nat_le, List, [], ◌++◌, length, map, drop, refl, sym, ap, subst, ◌∙◌, arith, append_assoc, length-append, length-take, lit<, lit≤, None, inl, inr}
 use Rattle.std.proofs.lemmas.Bool.{cases_lt, lt-ltb, eq-eqb, and_from}
 use Rattle.std.proofs.lemmas.List.{take-append-drop}
-use Rattle.zf_base.specs.declared.lane.Ty.{Ty}
-use Rattle.zf_base.specs.declared.lane.Ty.TheVariants.{I32, I64}
+use Rattle.zf_base.{specs.declared.lane.Ty.{Ty}, specs.declared.lane.Ty.TheVariants.{I32, I64}}
 use Rattle.zf_base.specs.Widths.{width_of}
-use Rattle.zf_spec.specs.Numbers.{field}
-use Rattle.zf_spec.specs.Grid.{upto}
+use Rattle.zf_spec.{specs.Numbers.{field}, specs.Grid.{upto}, proofs.Fields.{length-field}}
 use Rattle.zf_spec.specs.Stream.{magic, codec, type_number, mode_number, all_planes, no_exponent, long_form, to_bits}
-use Rattle.zf_spec.proofs.Fields.{length-field}
-use Rattle.zf_header.specs.declared.header.Header.{Header}
-use Rattle.zf_header.specs.declared.header.Mode.{Mode}
+use Rattle.zf_spec.proofs.Bytes.{length-to_bits}
+use Rattle.zf_header.{specs.declared.header.Header.{Header}, specs.declared.header.Mode.{Mode}}
 use Rattle.zf_header.specs.declared.header.Mode.TheVariants.{Reversible, Rate, Precision}
 use Rattle.zf_header.specs.HeaderBits.{coding, IsMode, IsRate, IsHeader, header_bits, BeginsWith}
 use Rattle.zf_header.specs.HeaderFields.{number_at, magic_in, codec_in, type_in, dims_in, size_in, mode_in, long_rate_in, is_long_rate, header_in}
-use Rattle.zf_header.specs.HeaderFaults.{header_fault}
+use Rattle.zf_header.{specs.HeaderFaults.{header_fault}, proofs.Pieces.{number_at_piece}}
 use Rattle.zf_header.proofs.Parts.{size_bits, long_fields, header_bits-parts, length-header_bits, short_number, long_number, long_form_long, length-long_form_begun}
-use Rattle.zf_header.proofs.Pieces.{number_at_piece}
-use Rattle.zf_header.proofs.Sizes.{length-size_bits, sizes-size_bits}
+use Rattle.zf_header.{proofs.Sizes.{length-size_bits, sizes-size_bits}, proofs.Modes.{mode_again}}
 use Rattle.zf_header.proofs.Good.{GoodMode, short, precise, without_loss, long, Good, no_fault_of_good}
-use Rattle.zf_header.proofs.Modes.{mode_again}
-use Rattle.zf_spec.proofs.Bytes.{length-to_bits}
 
 abbrev header_of : Ty → List ℕ → Mode → Header
 header_of ty ns mode = record { ty = ty; shape = ns; mode = mode }

@@ -1,15 +1,10 @@
 -- The length of a stream with a fixed rate.
-use Rattle.std.proofs.Common.{◌≡◌, ℕ, ◌+◌, ◌*◌, ℤ, List, length, ap, ◌∙◌}
-use Rattle.std.specs.Int.{Width, div_ceil}
+use Rattle.std.{proofs.Common.{◌≡◌, ℕ, ◌+◌, ◌*◌, ℤ, List, length, ap, ◌∙◌}, specs.Int.{Width, div_ceil}}
 use Rattle.zf_base.specs.Widths.{width_of}
-use Rattle.zf_spec.specs.Codes.{rate}
-use Rattle.zf_spec.specs.Grid.{upto, blocks, extent_of, block_of}
-use Rattle.zf_spec.specs.Stream.{fixed_rate, header, stream}
-use Rattle.zf_spec.proofs.BlockReading.{length-rate}
-use Rattle.zf_spec.proofs.Counting.{length-upto}
-use Rattle.zf_spec.proofs.Files.{length-file}
-use Rattle.zf_header.specs.declared.header.Header.{Header}
-use Rattle.zf_header.specs.declared.header.Mode.{Mode}
+use Rattle.zf_spec.{specs.Codes.{rate}, specs.Grid.{upto, blocks, extent_of, block_of}}
+use Rattle.zf_spec.{specs.Stream.{fixed_rate, header, stream}, proofs.BlockReading.{length-rate}}
+use Rattle.zf_spec.{proofs.Counting.{length-upto}, proofs.Files.{length-file}}
+use Rattle.zf_header.{specs.declared.header.Header.{Header}, specs.declared.header.Mode.{Mode}}
 use Rattle.zf_header.specs.declared.header.Mode.TheVariants.{Reversible, Rate, Precision}
 use Rattle.zf_header.specs.HeaderBits.{coding, block_bits, IsRate, header_bits, rate_bytes_of}
 

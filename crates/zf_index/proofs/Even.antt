@@ -4,17 +4,12 @@ use Rattle.std.proofs.Math.Nat.{mul-le-mul_right}
 use Rattle.std.proofs.lemmas.List.{length-replicate, length-take-le, take-append-drop}
 use Rattle.zf_spec.specs.Grid.{blocks, extent_of}
 use Rattle.zf_base.specs.Widths.{width_of}
-use Rattle.zf_header.specs.declared.header.Header.{Header}
-use Rattle.zf_header.specs.declared.header.Mode.TheVariants.{Rate}
+use Rattle.zf_header.{specs.declared.header.Header.{Header}, specs.declared.header.Mode.TheVariants.{Rate}}
 use Rattle.zf_bits.specs.Reader.{Reader, rest}
-use Rattle.zf_parse.specs.declared.fault.StreamFault.{StreamFault}
+use Rattle.zf_parse.{specs.declared.fault.StreamFault.{StreamFault}, proofs.RateStreams.{read_code-rate}}
 use Rattle.zf_parse.specs.Parsing.{read_code, fill_answer, said_behind}
-use Rattle.zf_parse.proofs.RateStreams.{read_code-rate}
-use Rattle.zf_index.specs.Spans.{place, even_index}
-use Rattle.zf_index.specs.Files.{len_read, AreRead}
-use Rattle.zf_index.specs.Walks.{IsWalked}
-use Rattle.zf_index.proofs.Places.{even_len, even_place}
-use Rattle.zf_index.proofs.Read.{judged_behind, fill_seen}
+use Rattle.zf_index.{specs.Spans.{place, even_index}, specs.Files.{len_read, AreRead}, specs.Walks.{IsWalked}}
+use Rattle.zf_index.{proofs.Places.{even_len, even_place}, proofs.Read.{judged_behind, fill_seen}}
 
 pub even_count : (start len count : ℕ) → length (even_index start len count).lens ≡ count
 even_count start len count = length-replicate count len

@@ -2,19 +2,13 @@
 use Rattle.std.proofs.Common.{◌≡◌, ℕ, ◌+◌, ◌*◌, ◌^◌, ◌≤◌, min, Bool, ltb, ℤ, Some, List, length, take, drop, arith, rules}
 use Rattle.std.proofs.Math.Nat.{pow-le-pow_right, mul-le-mul}
 use mir.Val.{bits}
-use Rattle.zf_spec.specs.Numbers.{number}
-use Rattle.zf_spec.specs.Planes.{code}
-use Rattle.zf_spec.specs.ReadPlanes.{planes_in}
+use Rattle.zf_spec.{specs.Numbers.{number}, specs.Planes.{code}, specs.ReadPlanes.{planes_in}}
 use Rattle.zf_spec.specs.Codes.{count_bits, read_rev, read_prec}
-use Rattle.zf_base.specs.declared.lane.Ty.{Ty}
-use Rattle.zf_base.specs.Widths.{width_of}
-use Rattle.zf_header.specs.declared.header.Mode.{Mode}
+use Rattle.zf_base.{specs.declared.lane.Ty.{Ty}, specs.Widths.{width_of}}
+use Rattle.zf_header.{specs.declared.header.Mode.{Mode}, specs.HeaderBits.{IsMode}}
 use Rattle.zf_header.specs.declared.header.Mode.TheVariants.{Reversible, Rate, Precision}
-use Rattle.zf_header.specs.HeaderBits.{IsMode}
-use Rattle.zf_parse.specs.Parsing.{read_code}
-use Rattle.zf_parse.proofs.BlocksBack.{width_at_most_64}
-use Rattle.zf_parse.proofs.Enough.{planes_fit, count_fits}
-use Rattle.zf_parse.proofs.Prefixes.{found_some}
+use Rattle.zf_parse.{specs.Parsing.{read_code}, proofs.BlocksBack.{width_at_most_64}}
+use Rattle.zf_parse.{proofs.Enough.{planes_fit, count_fits}, proofs.Prefixes.{found_some}}
 
 -- the planes of a block have few bits
 few : (ty : Ty) (d : ℕ) → d ≤ 4 → 4 ^ d * (bits (width_of ty) + 1) ≤ 16640

@@ -1,33 +1,22 @@
 -- Codes that are read where they begin, and what a stream of them says.
 use Rattle.std.proofs.Common.{◌≡◌, refl, sym, ap, subst, ◌∙◌, ⊎_elim, ℕ, zero, suc, ◌+◌, ◌-◌, ◌%◌, ◌^◌, ◌<◌, ◌≤◌, Bool, ℤ, Option, Some, None, Result, Ok, Err, List, [], ◌∷◌, ◌++◌, map, length, get_or, take, drop, length-append, length-drop, arith, rules}
-use Rattle.std.proofs.lemmas.Bool.{cases_lt}
-use Rattle.std.specs.Result.{result_map_both}
-use Rattle.std.proofs.lemmas.Simd.{map-map}
+use Rattle.std.{proofs.lemmas.Bool.{cases_lt}, specs.Result.{result_map_both}, proofs.lemmas.Simd.{map-map}}
 use Rattle.std.proofs.lemmas.List.{drop-drop, length-take, length-take-le}
-use Rattle.zf_spec.specs.Grid.{count_from, upto, grid, blocks, extent_of}
-use Rattle.zf_spec.specs.Stream.{to_bits}
+use Rattle.zf_spec.{specs.Grid.{count_from, upto, grid, blocks, extent_of}, specs.Stream.{to_bits}}
 use Rattle.zf_spec.proofs.Counting.{from_places}
-use Rattle.zf_base.specs.Widths.{width_of}
-use Rattle.zf_base.specs.Positions.{with_unused}
-use Rattle.zf_base.proofs.Sizes.{grid_of_shape}
+use Rattle.zf_base.{specs.Widths.{width_of}, specs.Positions.{with_unused}, proofs.Sizes.{grid_of_shape}}
 use Rattle.zf_bits.specs.Reader.{Reader, rest}
-use Rattle.zf_header.specs.declared.header.Header.{Header}
-use Rattle.zf_header.specs.HeaderBits.{IsHeader}
-use Rattle.zf_header.proofs.Good.{good}
+use Rattle.zf_header.{specs.declared.header.Header.{Header}, specs.HeaderBits.{IsHeader}, proofs.Good.{good}}
 use Rattle.zf_header.proofs.Found.{read_is_header}
-use Rattle.zf_parse.specs.declared.fault.StreamFault.{StreamFault}
-use Rattle.zf_parse.specs.declared.fault.StreamFault.TheVariants as faults
+use Rattle.zf_parse.{specs.declared.fault.StreamFault.{StreamFault}, proofs.Parsed.{parse_behind}}
 use Rattle.zf_parse.specs.Parsing.{read_code, coded_blocks, read_codes, Said, said_behind, parse, values_of_blocks, fill_answer, longest_code}
 use Rattle.zf_parse.proofs.Steps.{Coded, blocks_in, codes_answer, with_coded, next_coded, by_coded, behind_err}
-use Rattle.zf_parse.specs.ReadStreams.{BeginsWithHeader, IsFault}
-use Rattle.zf_parse.proofs.Parsed.{parse_behind}
-use Rattle.zf_parse.proofs.Joining.{read_codes-cut}
-use Rattle.zf_parse.proofs.Fill.{fill_place}
-use Rattle.zf_parse.proofs.Excerpts.{cut_told, fill_cut}
-use Rattle.zf_index.specs.declared.fault.IndexFault.{IndexFault}
+use Rattle.zf_parse.{specs.ReadStreams.{BeginsWithHeader, IsFault}, proofs.Joining.{read_codes-cut}}
+use Rattle.zf_parse.{proofs.Fill.{fill_place}, proofs.Excerpts.{cut_told, fill_cut}}
+use Rattle.zf_parse.specs.declared.fault.StreamFault.TheVariants as faults
+use Rattle.zf_index.{specs.declared.fault.IndexFault.{IndexFault}, specs.Walks.{IsWalked, HasFault, HasCode}}
 use Rattle.zf_index.specs.Spans.{Index, len_at, place, code_in, codes_in}
 use Rattle.zf_index.specs.Files.{HasHeader, found, block_read, len_read, AreRead, blocks_found, IsIndexOf, stream_fault}
-use Rattle.zf_index.specs.Walks.{IsWalked, HasFault, HasCode}
 use Rattle.zf_index.proofs.Places.{ends_within, place-push, len-push, len-last}
 
 -- what was read is its block and its length

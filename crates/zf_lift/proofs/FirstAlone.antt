@@ -1,11 +1,9 @@
 -- A line of which all coefficients but the first are zero: it becomes four values that are the first.
 use Rattle.std.proofs.Common.{◌≡◌, refl, sym, ap, ◌∙◌, ℤ, pos, ◌+ℤ◌, ◌-ℤ◌, ◌*ℤ◌, [], ◌∷◌, FitsSigned, arith}
-use Rattle.std.proofs.lemmas.Int.{ints}
-use Rattle.std.specs.Int.{Width}
+use Rattle.std.{proofs.lemmas.Int.{ints}, specs.Int.{Width}}
 use mir.Val.{bits}
-use Rattle.zf_spec.specs.Numbers.{wrap, half, floor_half, IsSameModulo}
-use Rattle.zf_spec.specs.Lift.{lift_line, unlift_line}
-use Rattle.zf_spec.proofs.Wrapping.{wrap_value, wrap_only, wrap_is_same, zero_fits, same_modulo_sym, same_modulo_refl, same_modulo_add, same_modulo_trans, same_modulo_neg}
+use Rattle.zf_spec.{specs.Numbers.{wrap, half, IsSameModulo}, specs.Lift.{lift_line, unlift_line}}
+use Rattle.zf_spec.proofs.Wrapping.{wrap_value, wrap_only, wrap_is_same, zero_fits, same_modulo_sym}
 
 -- twice a value less the value is the value, wrapped or not
 twice_less : (w : Width) (v : ℤ) → FitsSigned w v → wrap w (wrap w (pos 2 *ℤ v) -ℤ v) ≡ v

@@ -1,8 +1,7 @@
 -- A list of values cut into blocks, and one run of them replaced.
 use Rattle.std.proofs.Common.{◌≡◌, ℕ, zero, suc, ◌+◌, ◌-◌, ◌*◌, ◌<◌, ◌≤◌, List, ◌∷◌, ◌++◌, length, take, drop, slice_set, replicate, refl, sym, ap, ◌∙◌, arith, length-append, length-take, length-drop, drop-drop, take-append-drop, append_assoc, take_at, drop_at}
 use Rattle.std.proofs.lemmas.List.{take-append-le, drop-append-le, take-replicate, drop-replicate}
-use Rattle.std.proofs.Math.Seq.{take-append-add, drop-append-add}
-use Rattle.std.proofs.Math.Nat.{suc-mul, zero-mul}
+use Rattle.std.{proofs.Math.Seq.{take-append-add, drop-append-add}, proofs.Math.Nat.{suc-mul, zero-mul}}
 use Rattle.zf_lines.specs.Rows.{rows, line_at}
 
 module _ {X : Type 0} where

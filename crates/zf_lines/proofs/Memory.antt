@@ -32,8 +32,7 @@ use denote.Struct.Owning.{shape}
 use denote.Struct.Declared as Declared
 use denote.Struct.Tuple.{Tuple, tuple_type}
 use borrow.Table.OneValue.{part_in, part_out}
-use Rattle.std.specs.Prelude.{Option, Some, None}
-use Rattle.std.specs.Mem.{type_size}
+use Rattle.std.{specs.Prelude.{Option, Some, None}, specs.Mem.{type_size}}
 use Rattle.core.proofs.mem.Param.{El, R, el_x, elτ}
 use Rattle.std_alloc.proofs.RcSteps.{Good, word}
 use Rattle.zf_lines.specs.Ownership.{slot, slots, slot_lent, slots_lent}

@@ -1,9 +1,7 @@
 -- Places that all hold values, and a run of them written over.
 use Rattle.std.proofs.Common.{◌≡◌, ℕ, zero, suc, ◌+◌, ◌-◌, ◌<◌, List, [], ◌∷◌, ◌++◌, map, length, take, drop, replicate, get_or, Option, Some, None, slice_set, refl, sym, ap, ◌∙◌, arith, rules}
 use Rattle.std.proofs.lemmas.List.{take-map, drop-map, map-append, set_split}
-use Rattle.zf_lines.specs.Places.{somes, IsHeld}
-use Rattle.zf_lines.specs.Lends.{spliced}
-use Rattle.zf_lines.proofs.Blocks.{splice}
+use Rattle.zf_lines.{specs.Places.{somes, IsHeld}, specs.Lends.{spliced}, proofs.Blocks.{splice}}
 
 module _ {X : Type 0} where
   pub somes-map : (xs : List X) → somes (map Some xs) ≡ xs

@@ -1,7 +1,6 @@
 -- A `&` to the places is made where one to an item is. Assumes `Logic`.
 use Prim.Native.Nat.{ℕ, ◌+◌}
-use Rattle.std.specs.Prelude.{List, [], ◌∷◌, Option, Some, None}
-use Rattle.std.specs.Mem.{type_size}
+use Rattle.std.{specs.Prelude.{List, [], ◌∷◌, Option, Some, None}, specs.Mem.{type_size}}
 use seplogic.Ra.Ura.{Ura}
 use base.Fml.{Lft, Incl, ftrue, ffalse}
 use types.Logic.{Logic}

@@ -1,17 +1,12 @@
 -- The sums of coefficients of which all but the first are zero: each is the first coefficient.
-use Rattle.std.proofs.Common.{rules}
-use Rattle.std.proofs.Common.{◌≡◌, refl, sym, ap, ◌∙◌, ℕ, zero, suc, ◌-◌, ◌/◌, ◌^◌, ◌≤◌, ℤ, pos, ◌+ℤ◌, ◌*ℤ◌, [], ◌∷◌, replicate, FitsSigned, arith}
-use Rattle.std.proofs.lemmas.Int.{ints}
-use Rattle.std.proofs.lemmas.List.{length-replicate, get_or-replicate}
-use Rattle.std.proofs.Math.IntN.{*ℤ-zero, +ℤ_idl, *ℤ_comm, *ℤ-one}
-use Rattle.std.specs.Int.{Width}
-use Rattle.zf_spec.specs.Numbers.{wrap}
+use Rattle.std.proofs.Common.{rules, ◌≡◌, refl, sym, ap, ◌∙◌, ℕ, zero, suc, ◌-◌, ◌/◌, ◌^◌, ◌≤◌, ℤ, pos, ◌+ℤ◌, ◌*ℤ◌, [], ◌∷◌, replicate, FitsSigned, arith}
+use Rattle.std.{proofs.lemmas.Int.{ints}, proofs.lemmas.List.{length-replicate, get_or-replicate}}
+use Rattle.std.{proofs.Math.IntN.{*ℤ-zero, +ℤ_idl, *ℤ_comm, *ℤ-one}, specs.Int.{Width}}
+use Rattle.zf_spec.{specs.Numbers.{wrap}, proofs.Counting.{from_places}}
 use Rattle.zf_spec.specs.Lorenzo.{weight, weighted_sum, plain_choose, signed_choose, lorenzo, unlorenzo}
-use Rattle.zf_spec.proofs.Counting.{from_places}
 use Rattle.zf_spec.proofs.Wrapping.{wrap_value, zero_fits}
 use Rattle.zf_axes.proofs.FirstAlone.{passes-first}
-use Rattle.zf_lorenzo.specs.Lines.{line_sums}
-use Rattle.zf_lorenzo.proofs.WeightedAxes.{along_axes-sums}
+use Rattle.zf_lorenzo.{specs.Lines.{line_sums}, proofs.WeightedAxes.{along_axes-sums}}
 
 -- the first coefficient weighs one everywhere
 weight_of_first : (d m : ℕ) → weight plain_choose d m 0 ≡ pos 1

@@ -2,8 +2,7 @@
 use Rattle.std.proofs.Common.{◌≡◌, ℤ, ◌+ℤ◌, ◌-ℤ◌, neg_ℤ, [], ◌∷◌, FitsSigned, sym, ap, ◌∙◌, arith}
 use Rattle.std.proofs.lemmas.Int.{ints, int_wrap-add_left, int_wrap-add_right, int_wrap-sub_right}
 use Rattle.std.specs.Int.{Width}
-use Rattle.zf_spec.specs.Numbers.{wrap}
-use Rattle.zf_spec.specs.Lorenzo.{signed_choose, plain_choose}
+use Rattle.zf_spec.{specs.Numbers.{wrap}, specs.Lorenzo.{signed_choose, plain_choose}}
 use Rattle.zf_spec.proofs.Wrapping.{wrap_value}
 use Rattle.zf_lorenzo.specs.Lines.{line_sums}
 

@@ -1,25 +1,15 @@
 -- Passes along all axes are one weighted sum over the block.
-use Rattle.std.proofs.Common.{rules}
-use Rattle.std.proofs.Common.{◌≡◌, ℕ, zero, suc, ◌+◌, ◌-◌, ◌*◌, ◌/◌, ◌%◌, ◌^◌, ◌<◌, ◌≤◌, ℤ, pos, ◌*ℤ◌, List, All, length, map, get_or, sym, ap, subst, ◌∙◌, arith, FitsSigned}
-use Rattle.std.proofs.lemmas.Int.{ints}
-use Rattle.std.proofs.lemmas.List.{ext_get_or}
-use Rattle.std.proofs.lemmas.List.Elements.{All-get_or, All-map}
-use Rattle.std.proofs.lemmas.Nat.{div-mul-add}
-use Rattle.std.proofs.Math.IntN.{*ℤ_comm, *ℤ-one}
-use Rattle.std.proofs.Math.Nat.{pow-suc, mul-le-mul_left}
-use Rattle.std.specs.Int.{Width}
+use Rattle.std.proofs.Common.{rules, ◌≡◌, ℕ, zero, suc, ◌+◌, ◌-◌, ◌*◌, ◌/◌, ◌%◌, ◌^◌, ◌<◌, ◌≤◌, ℤ, pos, ◌*ℤ◌, List, All, length, map, get_or, sym, ap, subst, ◌∙◌, arith, FitsSigned}
+use Rattle.std.{proofs.lemmas.Int.{ints}, proofs.lemmas.List.{ext_get_or}, proofs.lemmas.Nat.{div-mul-add}}
+use Rattle.std.{proofs.lemmas.List.Elements.{All-get_or, All-map}, proofs.Math.IntN.{*ℤ_comm, *ℤ-one}}
+use Rattle.std.{proofs.Math.Nat.{pow-suc, mul-le-mul_left}, specs.Int.{Width}}
 use mir.Val.{bits}
-use Rattle.zf_spec.specs.Numbers.{wrap, IsSameModulo}
-use Rattle.zf_spec.specs.Grid.{upto, places}
-use Rattle.zf_spec.specs.Lift.{line_value, along}
-use Rattle.zf_spec.specs.Lorenzo.{weight, weighted_sum}
-use Rattle.zf_spec.proofs.Ring.{*ℤ_assoc}
+use Rattle.zf_spec.{specs.Numbers.{wrap, IsSameModulo}, specs.Grid.{upto, places}, proofs.Ring.{*ℤ_assoc}}
+use Rattle.zf_spec.{specs.Lift.{line_value, along, along_axes}, specs.Lorenzo.{weight, weighted_sum}}
 use Rattle.zf_spec.proofs.Sums.{total, total_same, total_same_modulo, total-scale, total_fours, weighted_sum-map}
 use Rattle.zf_spec.proofs.Wrapping.{same_modulo_refl, same_modulo_mul, same_modulo_trans, wrap_is_same, wrap_fits, wrap_only}
 use Rattle.zf_spec.proofs.Counting.{length-map-upto, get_or-map-upto, map-get_or-upto}
-use Rattle.zf_spec.specs.Lift.{along_axes}
-use Rattle.zf_axes.proofs.LineByLine.{length-along, get_or-along}
-use Rattle.zf_axes.proofs.AxisByAxis.{length-along_axes}
+use Rattle.zf_axes.{proofs.LineByLine.{length-along, get_or-along}, proofs.AxisByAxis.{length-along_axes}}
 use Rattle.zf_lorenzo.specs.Lines.{line_sums}
 
 -- ---- one pass

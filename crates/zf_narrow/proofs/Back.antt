@@ -1,7 +1,6 @@
 -- Narrow values and what stands for them, there and back.
 use Rattle.std.proofs.Common.{rules, FitsSigned, ◌≡◌, ap, ℤ, pos, negsuc, ◌+ℤ◌, ◌-ℤ◌, ◌*ℤ◌, arith}
-use Rattle.std.proofs.lemmas.Int.{ints, clamps}
-use Rattle.std.specs.Int.{w32}
+use Rattle.std.{proofs.lemmas.Int.{ints, clamps}, specs.Int.{w32}}
 use Rattle.zf_narrow.specs.declared.narrow.Narrow.{Narrow}
 use Rattle.zf_narrow.specs.declared.narrow.Narrow.TheVariants.{I8, U8, I16, U16}
 use Rattle.zf_narrow.specs.Values.{IsNarrow, step_of, promoted, floor_div, nearest, demoted}

@@ -1,33 +1,24 @@
 -- How a compression of narrow values ends, from how that of their int32 bytes does.
-use Rattle.std.proofs.Common.{rules}
-use Rattle.std.proofs.Common.{◌≡◌, refl, sym, ap, subst, ◌∙◌, ℕ, ◌+◌, ◌*◌, ◌/◌, ◌%◌, ◌≤◌, ◌<◌, ◌⊎◌, inl, inr, ⊎_elim, Bool, false, IsTrue, List, [], ◌++◌, length, drop, replicate, Option, Some, None, Result, Ok, Err, append-nil, length-append, arith}
-use Rattle.std.specs.Prelude.{IsErrAnd, IfErr}
-use Rattle.std.proofs.lemmas.Bool.{cases_lt}
+use Rattle.std.proofs.Common.{rules, ◌≡◌, refl, sym, ap, subst, ◌∙◌, ℕ, ◌+◌, ◌*◌, ◌/◌, ◌%◌, ◌≤◌, ◌<◌, ◌⊎◌, inl, inr, ⊎_elim, Bool, false, IsTrue, List, [], ◌++◌, length, drop, replicate, Option, Some, None, Result, Ok, Err, append-nil, length-append, arith}
+use Rattle.std.{specs.Prelude.{IsErrAnd, IfErr}, proofs.lemmas.Bool.{cases_lt}, specs.Int.{byte_len}}
 use Rattle.std.proofs.lemmas.List.{drop_all, length-drop, length-replicate}
-use Rattle.std.specs.Int.{byte_len}
 use Rattle.zf_spec.specs.Grid.{product}
-use Rattle.zf_base.specs.Widths.{width_of}
-use Rattle.zf_base.specs.declared.lane.Ty.{Ty}
+use Rattle.zf_base.{specs.Widths.{width_of}, specs.declared.lane.Ty.{Ty}}
 use Rattle.zf_base.specs.declared.lane.Ty.TheVariants.{I32}
 use Rattle.zf_header.specs.declared.header.Header.{Header}
-use Rattle.zf_dev.specs.Source.{Takes, Gives, IsAtEnd}
-use Rattle.zf_dev.specs.Sink.{Appends, AppendsPrefix}
+use Rattle.zf_dev.{specs.Source.{Takes, Gives, IsAtEnd}, specs.Sink.{Appends, AppendsPrefix}}
 use Rattle.zf_parse.specs.declared.fault.StreamFault.{StreamFault}
-use Rattle.zf_parse.specs.declared.fault.StreamFault.TheVariants as faults
 use Rattle.zf_parse.specs.Raw.{raw_len, length_answer, compress_answer, stream_text}
+use Rattle.zf_parse.specs.declared.fault.StreamFault.TheVariants as faults
 use Rattle.zf_stream.specs.Outcomes.{Compressed, CompressedGiven, Answers, CanRefuse, ShowsLength, Finishes, LeavesPrefix, WritesText, WritesPrefix, IsFromOutside}
 use Rattle.zf_stream.proofs.RawRows.{short_answer, long_answer, good_answer}
-use Rattle.zf_stream.proofs.Refusals.{CanRefuse-short, CanRefuse-long}
-use Rattle.zf_narrow.specs.declared.narrow.Narrow.{Narrow}
-use Rattle.zf_narrow.specs.declared.narrow.Narrow.TheVariants.{I8}
-use Rattle.zf_narrow.specs.Values.{size_of}
-use Rattle.zf_narrow.specs.RawNarrow.{promoted_bytes, promoted_all}
-use Rattle.zf_narrow.specs.declared.promotion.Promotion.{Promotion}
-use Rattle.zf_narrow.specs.Promoting.{listed, exposed_by}
+use Rattle.zf_stream.{proofs.Refusals.{CanRefuse-short, CanRefuse-long}, proofs.LookedAt.{stream_text-zeros}}
+use Rattle.zf_narrow.{specs.declared.narrow.Narrow.{Narrow}, specs.declared.narrow.Narrow.TheVariants.{I8}}
+use Rattle.zf_narrow.{specs.Values.{size_of}, specs.RawNarrow.{promoted_bytes, promoted_all}}
+use Rattle.zf_narrow.{specs.declared.promotion.Promotion.{Promotion}, specs.Promoting.{listed, exposed_by}}
 use Rattle.zf_narrow.specs.Promotions.{exposed, read_so_far, zeros_given, HasGiven}
 use Rattle.zf_narrow.specs.Texts.{narrow_len, narrow_count, narrow_fault, compress_narrow_answer, narrow_text}
 use Rattle.zf_narrow.proofs.Whole.{length-promoted_bytes, length-promoted_all}
-use Rattle.zf_stream.proofs.LookedAt.{stream_text-zeros}
 use Rattle.zf_narrow.proofs.Reading.{exposed_unspent}
 use Rattle.zf_narrow.proofs.Giving.{Gave, gave, source_ended, IsGiven, promoted_bytes-half, part_given_text, all_given_text}
 

@@ -1,13 +1,9 @@
 -- One write of a demotion: the narrow bytes of the first values, and the byte that is owed of the last one.
-use Rattle.std.proofs.Common.{rules}
-use Rattle.std.proofs.Common.{◌≡◌, sym, ap, ◌∙◌, ℕ, ◌+◌, ◌*◌, ◌/◌, ◌%◌, min, ◌≤◌, ◌<◌, List, [], ◌∷◌, ◌++◌, length, take, drop, get_or, Option, Some, None, append_assoc, append-nil, length-append, take-append-drop, take-take, arith}
+use Rattle.std.proofs.Common.{rules, ◌≡◌, sym, ap, ◌∙◌, ℕ, ◌+◌, ◌*◌, ◌/◌, ◌%◌, min, ◌≤◌, ◌<◌, List, [], ◌∷◌, ◌++◌, length, take, drop, get_or, Option, Some, None, append_assoc, append-nil, length-append, take-append-drop, take-take, arith}
 use Rattle.std.proofs.lemmas.List.{length-take, length-take-le, take-append-le, take_at, take_more}
 use Rattle.std.proofs.Math.Nat.{mul-le-mul_right}
-use Rattle.zf_narrow.specs.declared.narrow.Narrow.{Narrow}
-use Rattle.zf_narrow.specs.declared.narrow.Narrow.TheVariants.{I8}
-use Rattle.zf_narrow.specs.Values.{size_of}
-use Rattle.zf_narrow.specs.RawNarrow.{demoted_bytes}
-use Rattle.zf_narrow.specs.Promoting.{listed}
+use Rattle.zf_narrow.{specs.declared.narrow.Narrow.{Narrow}, specs.declared.narrow.Narrow.TheVariants.{I8}}
+use Rattle.zf_narrow.{specs.Values.{size_of}, specs.RawNarrow.{demoted_bytes}, specs.Promoting.{listed}}
 use Rattle.zf_narrow.proofs.Whole.{demoted_bytes-append, length-demoted_bytes}
 
 -- the values that are whole or begun in so many narrow bytes

@@ -1,14 +1,10 @@
 -- One read of a promotion, as the log of what was given sees it.
-use Rattle.std.proofs.Common.{rules}
-use Rattle.std.proofs.Common.{◌≡◌, refl, sym, ap, ◌∙◌, ℕ, ◌<◌, Bool, true, false, IsTrue, List, ◌++◌, length, drop, replicate, Option, append_assoc, append-nil, arith}
-use Rattle.std.specs.Prelude.{◌↔◌}
-use Rattle.std.proofs.lemmas.List.{drop_all, nil_from_length}
+use Rattle.std.proofs.Common.{rules, ◌≡◌, refl, sym, ap, ◌∙◌, ℕ, ◌<◌, Bool, true, false, IsTrue, List, ◌++◌, length, drop, replicate, Option, append_assoc, append-nil, arith}
+use Rattle.std.{specs.Prelude.{◌↔◌}, proofs.lemmas.List.{drop_all, nil_from_length}}
 use Rattle.zf_dev.specs.Source.{Gives, IsAtEnd}
-use Rattle.zf_narrow.specs.declared.promotion.Promotion.{Promotion}
-use Rattle.zf_narrow.specs.RawNarrow.{promoted_bytes}
-use Rattle.zf_narrow.specs.Promoting.{listed}
+use Rattle.zf_narrow.{specs.declared.promotion.Promotion.{Promotion}, specs.RawNarrow.{promoted_bytes}}
+use Rattle.zf_narrow.{specs.Promoting.{listed}, proofs.Whole.{promoted_bytes-append}}
 use Rattle.zf_narrow.specs.Promotions.{exposed, zeros_given, HasGiven, IsIdle, TakesRaw, GivesRaw, GivesHalf}
-use Rattle.zf_narrow.proofs.Whole.{promoted_bytes-append}
 use Rattle.zf_narrow.proofs.Reading.{unspent_is, all_gone, half_gone}
 
 -- all int32 bytes of a promotion that was read further, before any of the new ones were given

@@ -1,17 +1,13 @@
 -- What a source that promotes has given, of what it has read.
-use Rattle.std.proofs.Common.{rules}
-use Rattle.std.proofs.Common.{◌≡◌, refl, sym, ap, ◌∙◌, ℕ, ◌*◌, ◌%◌, ◌≤◌, ◌<◌, ◌⊎◌, Bool, true, false, IsTrue, List, [], ◌∷◌, ◌++◌, length, replicate, Option, Some, None, append_assoc, append-nil, mul_comm, arith}
-use Rattle.std.proofs.lemmas.List.{append_cancel_right}
-use Rattle.std.specs.Int.{byte_len}
+use Rattle.std.proofs.Common.{rules, ◌≡◌, refl, sym, ap, ◌∙◌, ℕ, ◌*◌, ◌%◌, ◌≤◌, ◌<◌, ◌⊎◌, Bool, true, false, IsTrue, List, [], ◌∷◌, ◌++◌, length, replicate, Option, Some, None, append_assoc, append-nil, mul_comm, arith}
+use Rattle.std.{proofs.lemmas.List.{append_cancel_right}, specs.Int.{byte_len}}
 use Rattle.zf_spec.specs.Grid.{product}
 use Rattle.zf_base.specs.Widths.{width_of}
 use Rattle.zf_header.specs.declared.header.Header.{Header}
 use Rattle.zf_dev.specs.Source.{IsAtEnd}
 use Rattle.zf_parse.specs.Raw.{raw_len, stream_text}
-use Rattle.zf_narrow.specs.declared.narrow.Narrow.{Narrow}
-use Rattle.zf_narrow.specs.Values.{size_of}
-use Rattle.zf_narrow.specs.RawNarrow.{promoted_bytes, promoted_all}
-use Rattle.zf_narrow.specs.Promoting.{coming, exposed_by}
+use Rattle.zf_narrow.{specs.declared.narrow.Narrow.{Narrow}, specs.Values.{size_of}}
+use Rattle.zf_narrow.{specs.RawNarrow.{promoted_bytes, promoted_all}, specs.Promoting.{coming, exposed_by}}
 use Rattle.zf_narrow.specs.Texts.{narrow_text}
 use Rattle.zf_narrow.proofs.Whole.{promoted_bytes-append, promoted_bytes-few, promoted_all-append, no_bytes}
 use Rattle.zf_stream.proofs.LookedAt.{stream_text-zeros, stream_text-more}

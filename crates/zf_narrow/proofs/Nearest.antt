@@ -1,19 +1,13 @@
 -- The nearest number, and what is restored by values.
 use Rattle.std.proofs.Common.{◌≡◌, ap, subst, ◌∙◌, ℕ, ◌/◌, ◌≤◌, ℤ, ◌-ℤ◌, unsigned_abs, List, length, Ok, arith}
-use Rattle.std.proofs.lemmas.Int.{ints, clamps}
-use Rattle.std.specs.Int.{w32}
-use Rattle.zf_spec.specs.Numbers.{AreValues}
-use Rattle.zf_spec.specs.Stream.{raw, values_from}
+use Rattle.std.{proofs.lemmas.Int.{ints, clamps}, specs.Int.{w32}}
+use Rattle.zf_spec.{specs.Numbers.{AreValues}, specs.Stream.{raw, values_from}}
 use Rattle.zf_spec.proofs.RawValues.{length-raw, values_from-raw}
-use Rattle.zf_base.specs.Widths.{width_of}
-use Rattle.zf_base.specs.declared.lane.Ty.{Ty}
+use Rattle.zf_base.{specs.Widths.{width_of}, specs.declared.lane.Ty.{Ty}}
 use Rattle.zf_base.specs.declared.lane.Ty.TheVariants.{I32}
-use Rattle.zf_parse.specs.Parsing.{Said, parse}
-use Rattle.zf_parse.proofs.Parts.{said_fit, text_of_said}
-use Rattle.zf_narrow.specs.declared.narrow.Narrow.{Narrow}
-use Rattle.zf_narrow.specs.declared.narrow.Narrow.TheVariants.{I8}
-use Rattle.zf_narrow.specs.Values.{IsNarrow, nearest}
-use Rattle.zf_narrow.specs.RawNarrow.{raw_narrow, demoted_bytes}
+use Rattle.zf_parse.{specs.Parsing.{Said, parse}, proofs.Parts.{said_fit, text_of_said}}
+use Rattle.zf_narrow.{specs.declared.narrow.Narrow.{Narrow}, specs.declared.narrow.Narrow.TheVariants.{I8}}
+use Rattle.zf_narrow.{specs.Values.{IsNarrow, nearest}, specs.RawNarrow.{raw_narrow, demoted_bytes}}
 use Rattle.zf_narrow.specs.Texts.{narrow_restored}
 
 -- no number of the type is nearer

@@ -1,16 +1,11 @@
 -- One value more, of bytes and as bytes.
-use Rattle.std.proofs.Common.{rules}
-use Rattle.std.proofs.Common.{◌≡◌, refl, ap, ◌∙◌, ℕ, ◌+◌, ◌*◌, ◌≤◌, ℤ, List, [], ◌∷◌, ◌++◌, map, length, take, drop, append-nil, suc-mul}
-use Rattle.std.proofs.lemmas.List.{map_push, take_at, length-take-le}
-use Rattle.std.proofs.Math.Seq.{take-append-add}
+use Rattle.std.proofs.Common.{rules, ◌≡◌, refl, ap, ◌∙◌, ℕ, ◌+◌, ◌*◌, ◌≤◌, ℤ, List, [], ◌∷◌, ◌++◌, map, length, take, drop, append-nil, suc-mul}
+use Rattle.std.{proofs.lemmas.List.{map_push, take_at, length-take-le}, proofs.Math.Seq.{take-append-add}}
 use Rattle.std.specs.Int.{Width, w32, byte_len, to_le_bytes, from_le_bytes, cast_unsigned, cast_signed}
 use borrow.Rule.Slice.PartMut.{put_mid}
-use Rattle.zf_spec.specs.Stream.{raw, values_from}
-use Rattle.zf_spec.proofs.Bytes.{length-to_le_bytes}
-use Rattle.zf_stream.proofs.LittleEndian.{values_from-more}
-use Rattle.zf_stream.proofs.RawValues.{raw-append}
-use Rattle.zf_narrow.specs.declared.narrow.Narrow.{Narrow}
-use Rattle.zf_narrow.specs.declared.narrow.Narrow.TheVariants.{I8}
+use Rattle.zf_spec.{specs.Stream.{raw, values_from}, proofs.Bytes.{length-to_le_bytes}}
+use Rattle.zf_stream.{proofs.LittleEndian.{values_from-more}, proofs.RawValues.{raw-append}}
+use Rattle.zf_narrow.{specs.declared.narrow.Narrow.{Narrow}, specs.declared.narrow.Narrow.TheVariants.{I8}}
 use Rattle.zf_narrow.specs.Values.{width_of, size_of, promoted, demoted}
 use Rattle.zf_narrow.specs.RawNarrow.{value_of, narrow_bytes, values_in, raw_narrow}
 

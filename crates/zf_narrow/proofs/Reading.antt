@@ -1,12 +1,9 @@
 -- One read of a promotion, as the source sees it.
-use Rattle.std.proofs.Common.{rules}
-use Rattle.std.proofs.Common.{◌≡◌, refl, sym, ap, ◌∙◌, ℕ, Bool, true, false, IsTrue, List, [], ◌++◌, length, drop, Option, append-nil, arith}
+use Rattle.std.proofs.Common.{rules, ◌≡◌, refl, sym, ap, ◌∙◌, ℕ, Bool, true, false, IsTrue, List, [], ◌++◌, length, drop, Option, append-nil, arith}
 use Rattle.std.proofs.lemmas.List.{drop_all}
 use Rattle.zf_dev.specs.Source.{Takes, IsAtEnd}
-use Rattle.zf_narrow.specs.declared.promotion.Promotion.{Promotion}
-use Rattle.zf_narrow.specs.Promoting.{listed, exposed_by}
-use Rattle.zf_narrow.specs.Promotions.{exposed, IsIdle, TakesRaw, GivesHalf}
-use Rattle.zf_narrow.proofs.Whole.{no_values}
+use Rattle.zf_narrow.{specs.declared.promotion.Promotion.{Promotion}, specs.Promoting.{listed, exposed_by}}
+use Rattle.zf_narrow.{specs.Promotions.{exposed, IsIdle, TakesRaw, GivesHalf}, proofs.Whole.{no_values}}
 use Rattle.zf_narrow.proofs.Stepping.{values_given, half_given, none_comes}
 
 pub unspent_is : (spent : Bool) → (IsTrue spent → ⊥) → spent ≡ false

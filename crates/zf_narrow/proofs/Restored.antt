@@ -1,33 +1,24 @@
 -- How a restoration of narrow values ends, from how that of their int32 bytes does.
-use Rattle.std.proofs.Common.{rules}
-use Rattle.std.proofs.Common.{◌≡◌, ◌≢◌, refl, sym, ap, subst, ◌∙◌, ℕ, ◌*◌, ◌%◌, ◌≤◌, inl, inr, ⊎_elim, Bool, true, false, List, [], ◌∷◌, ◌++◌, length, take, drop, Option, Some, None, Result, Ok, Err, append_assoc, append-nil, length-append, take-append-drop, arith}
-use Rattle.std.specs.Prelude.{IsErrAnd}
-use Rattle.std.proofs.lemmas.List.{nil_from_length, length-take}
+use Rattle.std.proofs.Common.{rules, ◌≡◌, ◌≢◌, refl, sym, ap, subst, ◌∙◌, ℕ, ◌*◌, ◌%◌, ◌≤◌, inl, inr, ⊎_elim, Bool, true, false, List, [], ◌∷◌, ◌++◌, length, take, drop, Option, Some, None, Result, Ok, Err, append_assoc, append-nil, length-append, take-append-drop, arith}
+use Rattle.std.{specs.Prelude.{IsErrAnd}, proofs.lemmas.List.{nil_from_length, length-take}}
 use Rattle.std.specs.Int.{byte_len}
-use Rattle.zf_base.specs.Widths.{width_of}
-use Rattle.zf_base.specs.declared.lane.Ty.{Ty}
+use Rattle.zf_base.{specs.Widths.{width_of}, specs.declared.lane.Ty.{Ty}}
 use Rattle.zf_base.specs.declared.lane.Ty.TheVariants.{I32, I64}
-use Rattle.zf_header.specs.declared.header.HeaderFault.{HeaderFault}
-use Rattle.zf_header.specs.HeaderFaults.{header_fault}
+use Rattle.zf_header.{specs.declared.header.HeaderFault.{HeaderFault}, specs.HeaderFaults.{header_fault}}
 use Rattle.zf_dev.specs.Sink.{Appends, AppendsPrefix}
 use Rattle.zf_dev.proofs.Appending.{AppendsPrefix-all, AppendsPrefix-more}
-use Rattle.zf_parse.specs.declared.fault.StreamFault.{StreamFault}
-use Rattle.zf_parse.specs.declared.fault.StreamFault.TheVariants as faults
+use Rattle.zf_parse.{specs.declared.fault.StreamFault.{StreamFault}, proofs.Steps.{header_or, blocks_text}}
 use Rattle.zf_parse.specs.Parsing.{header_of, restore_answer, restored_text}
-use Rattle.zf_parse.proofs.Steps.{header_or, blocks_text}
-use Rattle.zf_stream.specs.Outcomes.{Answers, LeavesPrefix}
-use Rattle.zf_stream.specs.Outcomes as outcomes
-use Rattle.zf_stream.specs.Typed.{answer_of_types, typed_answer, CanRefuseTyped, RestoresTyped, HasOtherType, RestoredWhere}
-use Rattle.zf_stream.specs.Restoring.{still}
 use Rattle.zf_parse.proofs.Enough.{length-restored_text}
-use Rattle.zf_narrow.specs.declared.narrow.Narrow.{Narrow}
-use Rattle.zf_narrow.specs.declared.fault.NarrowFault.{NarrowFault}
+use Rattle.zf_parse.specs.declared.fault.StreamFault.TheVariants as faults
+use Rattle.zf_stream.{specs.Outcomes.{Answers, LeavesPrefix}, specs.Restoring.{still}}
+use Rattle.zf_stream.specs.Typed.{answer_of_types, typed_answer, CanRefuseTyped, RestoresTyped, HasOtherType, RestoredWhere}
+use Rattle.zf_stream.specs.Outcomes as outcomes
+use Rattle.zf_narrow.{specs.declared.narrow.Narrow.{Narrow}, specs.declared.fault.NarrowFault.{NarrowFault}}
 use Rattle.zf_narrow.specs.declared.fault.NarrowFault.TheVariants.{NotNarrow, Stream}
-use Rattle.zf_narrow.specs.declared.demotion.Demotion.{Demotion}
-use Rattle.zf_narrow.specs.RawNarrow.{demoted_bytes}
-use Rattle.zf_narrow.specs.Promoting.{listed}
+use Rattle.zf_narrow.{specs.declared.demotion.Demotion.{Demotion}, specs.RawNarrow.{demoted_bytes}}
+use Rattle.zf_narrow.{specs.Promoting.{listed}, proofs.Whole.{demoted_bytes-append}}
 use Rattle.zf_narrow.specs.Texts.{answer_behind, restore_narrow_answer, IsFromOutside, AnswersNarrow, CanRefuseNarrow, RestoresNarrow, LeavesNarrowPrefix, RestoredNarrow}
-use Rattle.zf_narrow.proofs.Whole.{demoted_bytes-append}
 
 -- ---- answers
 

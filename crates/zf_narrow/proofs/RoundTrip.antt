@@ -1,18 +1,13 @@
 -- Raw narrow bytes and the values that stand for them, there and back.
-use Rattle.std.proofs.Common.{rules}
-use Rattle.std.proofs.Common.{FitsSigned, ◌≡◌, refl, sym, ap, ◌∙◌, ℕ, ◌*◌, ◌/◌, ◌%◌, ◌<◌, ℤ, pos, negsuc, List, [], ◌∷◌, ◌++◌, All, map, length, arith}
-use Rattle.std.proofs.lemmas.Int.{ints}
-use Rattle.std.proofs.lemmas.List.Elements.{All-head, All-tail, All-nil, All-cons}
+use Rattle.std.proofs.Common.{rules, FitsSigned, ◌≡◌, refl, sym, ap, ◌∙◌, ℕ, ◌*◌, ◌/◌, ◌%◌, ◌<◌, ℤ, pos, negsuc, List, [], ◌∷◌, ◌++◌, All, map, length, arith}
+use Rattle.std.{proofs.lemmas.Int.{ints}, proofs.lemmas.List.Elements.{All-head, All-tail, All-nil, All-cons}}
 use Rattle.std.specs.Int.{w8, w16, w32, byte_len, to_le_bytes, cast_unsigned}
-use Rattle.zf_spec.specs.Stream.{raw, first_bytes, values_from}
-use Rattle.zf_spec.proofs.Bytes.{first_bytes-all}
+use Rattle.zf_spec.{specs.Stream.{raw, first_bytes, values_from}, proofs.Bytes.{first_bytes-all}}
 use Rattle.zf_spec.proofs.RawValues.{length-raw, values_from_fit, values_from-raw, raw-values_from}
-use Rattle.zf_narrow.specs.declared.narrow.Narrow.{Narrow}
-use Rattle.zf_narrow.specs.declared.narrow.Narrow.TheVariants.{I8, U8, U16}
+use Rattle.zf_narrow.{specs.declared.narrow.Narrow.{Narrow}, proofs.OneMore.{size_is}}
+use Rattle.zf_narrow.{specs.declared.narrow.Narrow.TheVariants.{I8, U8, U16}, proofs.Whole.{whole_count}}
 use Rattle.zf_narrow.specs.Values.{IsNarrow, width_of, size_of, promoted, demoted}
 use Rattle.zf_narrow.specs.RawNarrow.{of_signed, narrow_bytes, promoted_bytes, demoted_bytes}
-use Rattle.zf_narrow.proofs.OneMore.{size_is}
-use Rattle.zf_narrow.proofs.Whole.{whole_count}
 use Rattle.zf_narrow.proofs.Back.{demoted-promoted, promoted_fits}
 
 -- ---- one value

@@ -1,13 +1,9 @@
 -- One read of a source that promotes: what is given is gone from what is to come.
-use Rattle.std.proofs.Common.{rules}
-use Rattle.std.proofs.Common.{◌≡◌, refl, sym, ap, ◌∙◌, ℕ, zero, suc, ◌%◌, ◌≤◌, ◌<◌, Bool, true, false, IsTrue, List, [], ◌∷◌, ◌++◌, length, take, replicate, Option, Some, None, Result, Ok, Err, append_assoc, append-nil, arith}
-use Rattle.std.specs.Prelude.{IfOk, OnErr, ◌↔◌}
-use Rattle.std.proofs.lemmas.List.{length-take-le}
+use Rattle.std.proofs.Common.{rules, ◌≡◌, refl, sym, ap, ◌∙◌, ℕ, zero, suc, ◌%◌, ◌≤◌, ◌<◌, Bool, true, false, IsTrue, List, [], ◌∷◌, ◌++◌, length, take, replicate, Option, Some, None, Result, Ok, Err, append_assoc, append-nil, arith}
+use Rattle.std.{specs.Prelude.{IfOk, OnErr, ◌↔◌}, proofs.lemmas.List.{length-take-le}}
 use Rattle.zf_dev.specs.Source.{Takes, IsAtEnd, EndsAt}
-use Rattle.zf_narrow.specs.declared.narrow.Narrow.{Narrow}
-use Rattle.zf_narrow.specs.declared.narrow.Narrow.TheVariants.{I8}
-use Rattle.zf_narrow.specs.Values.{size_of}
-use Rattle.zf_narrow.specs.RawNarrow.{promoted_bytes, promoted_all}
+use Rattle.zf_narrow.{specs.declared.narrow.Narrow.{Narrow}, specs.declared.narrow.Narrow.TheVariants.{I8}}
+use Rattle.zf_narrow.{specs.Values.{size_of}, specs.RawNarrow.{promoted_bytes, promoted_all}}
 use Rattle.zf_narrow.specs.Promoting.{coming, exposed_by, TakesValues}
 use Rattle.zf_narrow.proofs.Whole.{promoted_all-append, promoted_all-few}
 

@@ -1,20 +1,15 @@
 -- Streams of narrow values, there and back.
-use Rattle.std.proofs.Common.{rules}
-use Rattle.std.proofs.Common.{◌≡◌, ℕ, ◌*◌, ◌/◌, ◌%◌, ◌<◌, List, All, length, Ok, arith}
+use Rattle.std.proofs.Common.{rules, ◌≡◌, ℕ, ◌*◌, ◌/◌, ◌%◌, ◌<◌, List, All, length, Ok, arith}
 use Rattle.zf_spec.proofs.RawValues.{raw_small}
 use Rattle.zf_base.specs.declared.lane.Ty.TheVariants.{I32}
-use Rattle.zf_header.specs.declared.header.Header.{Header}
+use Rattle.zf_header.{specs.declared.header.Header.{Header}, specs.HeaderBits.{IsHeader}}
 use Rattle.zf_header.specs.declared.header.Mode.TheVariants.{Reversible}
-use Rattle.zf_header.specs.HeaderBits.{IsHeader}
 use Rattle.zf_parse.proofs.Parsed.{good_header}
 use Rattle.zf_parse.proofs.StreamsBack.{header_of-stream_text, answer-stream_text, text-reversible_text}
-use Rattle.zf_narrow.specs.declared.narrow.Narrow.{Narrow}
-use Rattle.zf_narrow.specs.declared.narrow.Narrow.TheVariants.{I8}
-use Rattle.zf_narrow.specs.Values.{size_of}
-use Rattle.zf_narrow.specs.RawNarrow.{promoted_bytes}
+use Rattle.zf_narrow.{specs.declared.narrow.Narrow.{Narrow}, specs.declared.narrow.Narrow.TheVariants.{I8}}
+use Rattle.zf_narrow.{specs.Values.{size_of}, specs.RawNarrow.{promoted_bytes}}
 use Rattle.zf_narrow.specs.Texts.{narrow_len, narrow_text, restore_narrow_answer, narrow_restored}
-use Rattle.zf_narrow.proofs.Whole.{length-promoted_bytes}
-use Rattle.zf_narrow.proofs.RoundTrip.{demoted_bytes-promoted_bytes}
+use Rattle.zf_narrow.{proofs.Whole.{length-promoted_bytes}, proofs.RoundTrip.{demoted_bytes-promoted_bytes}}
 use Rattle.zf_narrow.proofs.Compressed.{raw_len-int32}
 
 pub answer-narrow_text : (n : Narrow) (h : Header) (bytes : List ℕ) → IsHeader h → h.ty ≡ I32 → restore_narrow_answer (narrow_text n h bytes) ≡ Ok tt

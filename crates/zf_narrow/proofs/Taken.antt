@@ -1,13 +1,9 @@
 -- What is read of a source, one piece behind another.
-use Rattle.std.proofs.Common.{rules}
-use Rattle.std.proofs.Common.{◌≡◌, sym, ap, ◌∙◌, ℕ, ◌+◌, ◌≤◌, ◌%◌, List, ◌++◌, length, take, Option, Result, Ok, Err, append_assoc}
-use Rattle.std.specs.Prelude.{IfOk}
-use Rattle.std.proofs.lemmas.List.{length-take-le, take-append-le}
+use Rattle.std.proofs.Common.{rules, ◌≡◌, sym, ap, ◌∙◌, ℕ, ◌+◌, ◌≤◌, ◌%◌, List, ◌++◌, length, take, Option, Result, Ok, Err, append_assoc}
+use Rattle.std.{specs.Prelude.{IfOk}, proofs.lemmas.List.{length-take-le, take-append-le}}
 use Rattle.std.proofs.Math.Seq.{take-append-add}
-use Rattle.zf_dev.specs.Source.{Takes}
-use Rattle.zf_dev.proofs.Taking.{Takes-append}
-use Rattle.zf_narrow.specs.declared.narrow.Narrow.{Narrow}
-use Rattle.zf_narrow.specs.Values.{size_of}
+use Rattle.zf_dev.{specs.Source.{Takes}, proofs.Taking.{Takes-append}}
+use Rattle.zf_narrow.{specs.declared.narrow.Narrow.{Narrow}, specs.Values.{size_of}}
 use Rattle.zf_narrow.specs.Promoting.{TakesValues, ReadsBehind}
 
 -- what was read into the room behind the first bytes

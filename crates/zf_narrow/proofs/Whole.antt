@@ -1,17 +1,11 @@
 -- The bytes of whole values, and what follows them.
-use Rattle.std.proofs.Common.{rules}
-use Rattle.std.proofs.Common.{◌≡◌, refl, sym, ap, ◌∙◌, ℕ, zero, suc, ◌+◌, ◌*◌, ◌/◌, ◌%◌, ◌<◌, ℤ, List, [], ◌++◌, map, length, replicate, append_assoc, length-append, arith}
-use Rattle.std.proofs.lemmas.List.{nil_from_length, map-append, length-map}
-use Rattle.std.specs.Int.{w32}
-use Rattle.zf_spec.specs.Stream.{raw}
-use Rattle.zf_spec.proofs.RawValues.{length-raw, length-values_from}
-use Rattle.zf_stream.proofs.RawValues.{raw-append}
-use Rattle.zf_stream.proofs.Rows.{values_from-append}
-use Rattle.zf_narrow.specs.declared.narrow.Narrow.{Narrow}
-use Rattle.zf_narrow.specs.declared.narrow.Narrow.TheVariants.{I8}
-use Rattle.zf_narrow.specs.Values.{width_of, size_of, promoted, demoted}
+use Rattle.std.proofs.Common.{rules, ◌≡◌, refl, sym, ap, ◌∙◌, ℕ, zero, suc, ◌+◌, ◌*◌, ◌/◌, ◌%◌, ◌<◌, ℤ, List, [], ◌++◌, map, length, replicate, append_assoc, length-append, arith}
+use Rattle.std.{proofs.lemmas.List.{nil_from_length, map-append, length-map}, specs.Int.{w32}}
+use Rattle.zf_spec.{specs.Stream.{raw}, proofs.RawValues.{length-raw, length-values_from}}
+use Rattle.zf_stream.{proofs.RawValues.{raw-append}, proofs.Rows.{values_from-append}}
+use Rattle.zf_narrow.{specs.declared.narrow.Narrow.{Narrow}, specs.declared.narrow.Narrow.TheVariants.{I8}}
+use Rattle.zf_narrow.{specs.Values.{width_of, size_of, promoted, demoted}, proofs.OneMore.{size_is}}
 use Rattle.zf_narrow.specs.RawNarrow.{values_in, promoted_bytes, promoted_all, raw_narrow, demoted_bytes}
-use Rattle.zf_narrow.proofs.OneMore.{size_is}
 
 -- ---- counts
 

@@ -1,19 +1,15 @@
 -- A block that is put behind others: of a whole one all values, else those in the box of its extent.
-use Rattle.std.proofs.Common.{rules}
-use Rattle.std.proofs.Common.{◌≡◌, refl, sym, ap, subst, ◌∙◌, ℕ, zero, suc, ◌+◌, ◌-◌, ◌*◌, ◌/◌, ◌%◌, ◌^◌, ◌<◌, ◌≤◌, min, nat_lt, true, ℤ, pos, List, [], ◌∷◌, ◌++◌, length, get_or, take, drop, replicate, ext_get_or, length-drop, pow-suc, arith}
+use Rattle.std.proofs.Common.{rules, ◌≡◌, refl, sym, ap, subst, ◌∙◌, ℕ, zero, suc, ◌+◌, ◌-◌, ◌*◌, ◌/◌, ◌%◌, ◌^◌, ◌<◌, ◌≤◌, min, nat_lt, true, ℤ, pos, List, [], ◌∷◌, ◌++◌, length, get_or, take, drop, replicate, ext_get_or, length-drop, pow-suc, arith}
 use Rattle.std.proofs.lemmas.List.{get_or-take, get_or-drop, length-take-le, take-append-drop}
-use Rattle.std.proofs.Math.Nat.{pow-le-pow_right}
+use Rattle.std.{proofs.Math.Nat.{pow-le-pow_right}, proofs.lemmas.Bool.{and_parts, ltb-true, false≢true}}
 use Rattle.zf_spec.specs.Grid.{product, grid, blocks, coordinates, raster, is_inside, fours, indices, extents, extent_of}
 use Rattle.zf_spec.proofs.Raster.{raster-coordinates, coordinates-raster, product-fours, length-fours}
 use Rattle.zf_base.specs.declared.position.Extent.{Extent}
 use Rattle.zf_base.specs.Positions.{axes, used_axes, with_unused, IsExtent}
 use Rattle.zf_base.proofs.Boxes.{raster-lt, product-append_ones, is_inside-coordinates}
-use Rattle.std.proofs.lemmas.Bool.{and_parts, ltb-true, false≢true}
-use Rattle.zf_pad.specs.declared.layout.Layout.{Layout}
+use Rattle.zf_pad.{specs.declared.layout.Layout.{Layout}, specs.Copies.{IsScattered}}
 use Rattle.zf_pad.specs.Layouts.{HasPlace, place_indices, moved, index_of, index_at, LiesWithin, IsOneToOne}
-use Rattle.zf_pad.specs.Copies.{IsScattered}
-use Rattle.zf_pad.specs.Stored.{HasWholeBlocks, AppendsBlock}
-use Rattle.zf_pad.proofs.Sizes.{used_length, size_axes}
+use Rattle.zf_pad.{specs.Stored.{HasWholeBlocks, AppendsBlock}, proofs.Sizes.{used_length, size_axes}}
 use Rattle.zf_pad.proofs.Existing.{has_place}
 
 -- ---- a whole block

@@ -1,26 +1,20 @@
 -- The blocks of an array of raw values: what a gather takes, and what a scatter leaves.
-use Rattle.std.proofs.Common.{rules}
-use Rattle.std.proofs.Common.{◌≡◌, ◌≢◌, ℕ, ◌+◌, ◌*◌, ◌/◌, ◌^◌, ◌<◌, ◌≤◌, Bool, true, false, cond, ℤ, pos, List, [], ◌∷◌, length, get_or, map, All, refl, ap, sym, subst, ◌∙◌, arith, ext_get_or}
-use Rattle.std.proofs.lemmas.List.{length-map}
-use Rattle.std.proofs.Math.Nat.{pow-le-pow_right}
+use Rattle.std.proofs.Common.{rules, ◌≡◌, ◌≢◌, ℕ, ◌+◌, ◌*◌, ◌/◌, ◌^◌, ◌<◌, ◌≤◌, Bool, true, false, cond, ℤ, pos, List, [], ◌∷◌, length, get_or, map, All, refl, ap, sym, subst, ◌∙◌, arith, ext_get_or}
+use Rattle.std.{proofs.lemmas.List.{length-map}, proofs.Math.Nat.{pow-le-pow_right}}
 use Rattle.zf_spec.specs.Grid.{IsShape, product, grid, blocks, places, coordinates, raster, is_inside, indices, extents, extent_of, position_in, value_at, block_of}
-use Rattle.zf_spec.specs.Padding.{pad}
-use Rattle.zf_spec.specs.Codes.{existing_values}
+use Rattle.zf_spec.{specs.Padding.{pad}, specs.Codes.{existing_values}}
 use Rattle.zf_spec.proofs.Counting.{map-upto_same, get_or-map-upto}
 use Rattle.zf_spec.proofs.Padding.{IsExtent as IsSize, existing_values-existing_values, pad-existing_values, pad_same}
-use Rattle.zf_base.specs.declared.position.Extent.{Extent}
+use Rattle.zf_spec.proofs.Raster.{raster-coordinates, coordinates-raster, length-coordinates}
+use Rattle.zf_base.{specs.declared.position.Extent.{Extent}, specs.Places.{IsAt, block_number, place_of}}
 use Rattle.zf_base.specs.Positions.{axes, used_axes, with_unused, IsExtent}
-use Rattle.zf_base.specs.Places.{IsAt, block_number, place_of}
 use Rattle.zf_base.proofs.Boxes.{raster-lt, is_inside-coordinates}
 use Rattle.zf_base.proofs.Extents.{IsExtent-of_block, IsPosition-with_unused, used_size, used_axes-with_unused, same_from_axes, length-extent_of}
 use Rattle.zf_base.proofs.Places.{IsAt-position, IsAt-inside, IsAt-length, IsAt-block, IsAt-place}
-use Rattle.zf_pad.specs.declared.layout.Layout.{Layout}
+use Rattle.zf_pad.{specs.declared.layout.Layout.{Layout}, specs.Rasters.{IsRasterBlock}}
 use Rattle.zf_pad.specs.Layouts.{HasPlace, place_indices, moved, index_of, index_at, LiesWithin, IsOneToOne}
-use Rattle.zf_pad.specs.Rasters.{IsRasterBlock}
-use Rattle.zf_pad.specs.Copies.{IsGathered, IsScattered}
-use Rattle.zf_pad.proofs.Sizes.{used_sizes}
+use Rattle.zf_pad.{specs.Copies.{IsGathered, IsScattered}, proofs.Sizes.{used_sizes}}
 use Rattle.zf_pad.proofs.Existing.{place_below, has_place}
-use Rattle.zf_spec.proofs.Raster.{raster-coordinates, coordinates-raster, length-coordinates}
 
 -- ---- the coordinates of a block, and its positions
 

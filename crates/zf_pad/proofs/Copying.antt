@@ -1,16 +1,12 @@
 -- Gathers and scatters, place by place.
-use Rattle.std.proofs.Common.{rules}
-use Rattle.std.proofs.Common.{◌≡◌, ℕ, zero, suc, ◌+◌, ◌*◌, ◌/◌, ◌%◌, ◌^◌, ◌<◌, ◌≤◌, ◌≢◌, Bool, true, false, lt-ltb, ℤ, pos, List, [], ◌∷◌, ◌++◌, length, map, take, drop, get_or, set, refl, ap, sym, subst, ◌∙◌, arith, pow-suc}
-use Rattle.std.proofs.Math.ListN.{get_or-append}
-use Rattle.std.proofs.lemmas.Bool.{cases_lt}
+use Rattle.std.proofs.Common.{rules, ◌≡◌, ℕ, zero, suc, ◌+◌, ◌*◌, ◌/◌, ◌%◌, ◌^◌, ◌<◌, ◌≤◌, ◌≢◌, Bool, true, false, lt-ltb, ℤ, pos, List, [], ◌∷◌, ◌++◌, length, map, take, drop, get_or, set, refl, ap, sym, subst, ◌∙◌, arith, pow-suc}
+use Rattle.std.{proofs.Math.ListN.{get_or-append}, proofs.lemmas.Bool.{cases_lt}}
 use Rattle.std.proofs.lemmas.List.{get_or-take, get_or-drop, get_or-append_right, length-take-le, length-drop, length-map, take-map, drop-map, map-append}
 use Rattle.zf_spec.specs.Grid.{is_inside}
-use Rattle.zf_base.specs.declared.position.Pos.{Pos}
-use Rattle.zf_base.specs.declared.position.Extent.{Extent}
+use Rattle.zf_base.{specs.declared.position.Pos.{Pos}, specs.declared.position.Extent.{Extent}}
 use Rattle.zf_base.specs.Positions.{axes, IsExtent}
-use Rattle.zf_pad.specs.declared.layout.Layout.{Layout}
+use Rattle.zf_pad.{specs.declared.layout.Layout.{Layout}, specs.Copies.{IsGathered, IsScattered}}
 use Rattle.zf_pad.specs.Layouts.{place_indices, moved, index_of, index_at, HasWholeRows, LiesWithin, IsOneToOne}
-use Rattle.zf_pad.specs.Copies.{IsGathered, IsScattered}
 use Rattle.zf_pad.proofs.Writes.{IsWritten, written_none, written_more, written_skip, written_skip_all, written_row}
 use Rattle.zf_pad.proofs.Existing.{place_below}
 

@@ -1,10 +1,8 @@
 -- The places that exist: told by four axes, and by the used ones.
-use Rattle.std.proofs.Common.{rules}
-use Rattle.std.proofs.Common.{◌≡◌, ℕ, zero, suc, ◌-◌, ◌/◌, ◌%◌, ◌^◌, ◌<◌, ◌≤◌, true, ◌&&◌, ltb, ltb-true, lt-ltb, List, [], ◌∷◌, ◌++◌, length, replicate, refl, ap, sym, subst, ◌∙◌, arith, pow-suc}
+use Rattle.std.proofs.Common.{rules, ◌≡◌, ℕ, zero, suc, ◌-◌, ◌/◌, ◌%◌, ◌^◌, ◌<◌, ◌≤◌, true, ◌&&◌, ltb, ltb-true, lt-ltb, List, [], ◌∷◌, ◌++◌, length, replicate, refl, ap, sym, subst, ◌∙◌, arith, pow-suc}
 use Rattle.std.proofs.lemmas.Bool.{and_parts, and_from}
 use Rattle.zf_spec.specs.Grid.{is_inside, fours, indices}
-use Rattle.zf_base.specs.declared.position.Extent.{Extent}
-use Rattle.zf_base.specs.Positions.{axes, used_axes, IsExtent}
+use Rattle.zf_base.{specs.declared.position.Extent.{Extent}, specs.Positions.{axes, used_axes, IsExtent}}
 use Rattle.zf_pad.specs.declared.layout.Layout.{Layout}
 use Rattle.zf_pad.specs.Layouts.{HasPlace, place_indices, moved, index_of, index_at}
 use Rattle.zf_pad.proofs.Sizes.{used_length, size_axes, sizes_not_zero}

@@ -1,16 +1,11 @@
 -- The blocks of an array of one dimension: where they begin, and what is copied of a whole one, whose values stand beside one another.
-use Rattle.std.proofs.Common.{rules}
-use Rattle.std.proofs.Common.{◌≡◌, ℕ, ◌+◌, ◌*◌, ◌<◌, ◌≤◌, ℤ, List, [], ◌∷◌, length, get_or, take, drop, ap, arith}
+use Rattle.std.proofs.Common.{rules, ◌≡◌, ℕ, ◌+◌, ◌*◌, ◌<◌, ◌≤◌, ℤ, List, [], ◌∷◌, length, get_or, take, drop, ap, arith}
 use Rattle.std.proofs.lemmas.List.{get_or-take, get_or-drop}
-use Rattle.zf_spec.specs.Grid.{product, blocks, extent_of, block_of}
-use Rattle.zf_spec.specs.Codes.{existing_values}
-use Rattle.zf_base.specs.declared.position.Pos.{Pos}
-use Rattle.zf_base.specs.declared.position.Extent.{Extent}
+use Rattle.zf_spec.{specs.Grid.{product, blocks, extent_of, block_of}, specs.Codes.{existing_values}}
+use Rattle.zf_base.{specs.declared.position.Pos.{Pos}, specs.declared.position.Extent.{Extent}}
 use Rattle.zf_base.specs.Positions.{IsExtent}
-use Rattle.zf_pad.specs.declared.layout.Layout.{Layout}
-use Rattle.zf_pad.specs.Layouts.{HasPlace, index_at}
-use Rattle.zf_pad.specs.Rasters.{IsRasterBlock}
-use Rattle.zf_pad.proofs.Blocks.{index_by_raster, block_is}
+use Rattle.zf_pad.{specs.declared.layout.Layout.{Layout}, specs.Layouts.{HasPlace, index_at}}
+use Rattle.zf_pad.{specs.Rasters.{IsRasterBlock}, proofs.Blocks.{index_by_raster, block_is}}
 use Rattle.zf_pad.proofs.Existing.{place_below}
 
 -- each block begins before the end

@@ -1,16 +1,12 @@
 -- The layout of raw values.
-use Rattle.std.proofs.Common.{◌≡◌, ℕ, ◌-◌, ◌*◌, ◌≤◌, List, ◌++◌, length, get_or, replicate, ap, ◌∙◌, arith}
+use Rattle.std.proofs.Common.{◌≡◌, ℕ, ◌-◌, ◌*◌, ◌≤◌, List, ◌++◌, length, get_or, replicate, ap, ◌∙◌, arith, lit≤}
 use Rattle.std.proofs.Math.Nat.{le-mul_of_pos_right, mul-pos}
 use Rattle.zf_spec.specs.Grid.{IsShape, raster, max_values}
-use Rattle.zf_base.specs.declared.position.Pos.{Pos}
+use Rattle.zf_base.{specs.declared.position.Pos.{Pos}, proofs.Boxes.{raster-append_zeros}}
 use Rattle.zf_base.specs.Positions.{axes, used_axes, with_unused, IsPosition}
-use Rattle.zf_base.proofs.Boxes.{raster-append_zeros}
 use Rattle.zf_base.proofs.Sizes.{axes-with_unused, all_axes, product-axes}
 use Rattle.zf_base.proofs.Extents.{length-used_axes, position_axes}
-use Rattle.zf_pad.specs.declared.layout.Layout.{Layout}
-use Rattle.zf_pad.specs.Layouts.{index_of}
-use Rattle.zf_pad.specs.Rasters.{IsRaster}
-use Rattle.std.proofs.Common.{lit≤}
+use Rattle.zf_pad.{specs.declared.layout.Layout.{Layout}, specs.Layouts.{index_of}, specs.Rasters.{IsRaster}}
 
 -- the products of the first sizes of a shape are no more than its number of values
 pub steps_fit : (ns : List ℕ) → IsShape ns → (get_or ns 0 1 * get_or ns 1 1 ≤ max_values) × (get_or ns 0 1 * get_or ns 1 1 * get_or ns 2 1 ≤ max_values)

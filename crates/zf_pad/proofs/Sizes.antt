@@ -1,12 +1,9 @@
 -- The sizes of an extent along four axes, and those along its used ones.
 use Rattle.std.proofs.Common.{◌≡◌, ℕ, ◌-◌, ◌≤◌, List, [], ◌∷◌, ◌++◌, length, replicate, All, ap, sym, subst, ◌∙◌, arith, lit≤}
-use Rattle.std.specs.List.{AllByRecursion}
-use Rattle.std.proofs.lemmas.List.Elements.{All-nil, All-cons}
+use Rattle.std.{specs.List.{AllByRecursion}, proofs.lemmas.List.Elements.{All-nil, All-cons}}
 use Rattle.zf_spec.proofs.Padding.{IsExtent as IsSize}
-use Rattle.zf_base.specs.declared.position.Extent.{Extent}
-use Rattle.zf_base.specs.Positions.{axes, used_axes, IsExtent}
-use Rattle.zf_base.proofs.Sizes.{all_axes, axes-with_unused}
-use Rattle.zf_base.proofs.Extents.{length-used_axes}
+use Rattle.zf_base.{specs.declared.position.Extent.{Extent}, specs.Positions.{axes, used_axes, IsExtent}}
+use Rattle.zf_base.{proofs.Sizes.{all_axes, axes-with_unused}, proofs.Extents.{length-used_axes}}
 
 all_sizes : (ns : List ℕ) → AllByRecursion (λ n. 1 ≤ n) ns → AllByRecursion (λ n. n ≤ 4) ns → All IsSize ns
 all_sizes [] some four = All-nil IsSize

@@ -1,25 +1,17 @@
 -- A slab of an array is an array of its own.
-use Rattle.std.proofs.Common.{rules}
-use Rattle.std.proofs.Common.{◌≡◌, refl, sym, ap, ◌∙◌, ℕ, zero, suc, ◌+◌, ◌-◌, ◌*◌, ◌/◌, ◌%◌, ◌^◌, ◌<◌, ◌≤◌, min, true, cond, ltb, ℤ, pos, List, [], ◌∷◌, length, get_or, drop, mul_assoc, mod-eq_of_lt, arith}
+use Rattle.std.proofs.Common.{rules, ◌≡◌, refl, sym, ap, ◌∙◌, ℕ, zero, suc, ◌+◌, ◌-◌, ◌*◌, ◌/◌, ◌%◌, ◌^◌, ◌<◌, ◌≤◌, min, true, cond, ltb, ℤ, pos, List, [], ◌∷◌, length, get_or, drop, mul_assoc, mod-eq_of_lt, arith}
 use Rattle.std.proofs.Math.Nat.{add-mul-mod_self_left, add-mul-div_left, mul-add, mul-le-mul_left}
-use Rattle.std.specs.List.{AllByRecursion}
+use Rattle.std.{specs.List.{AllByRecursion}, proofs.lemmas.Nat.{div_below}}
 use Rattle.std.proofs.lemmas.Bool.{and_parts, and_from, ltb-true, lt-ltb, false≢true}
-use Rattle.std.proofs.lemmas.Nat.{div_below}
 use Rattle.std.proofs.lemmas.List.{length-map, get_or-take, get_or-drop}
 use Rattle.zf_spec.specs.Grid.{IsShape, product, grid, blocks, coordinates, raster, is_inside, indices, extents, extent_of, position_in, value_at, block_of}
-use Rattle.zf_spec.proofs.Counting.{map-upto_same}
-use Rattle.zf_spec.proofs.Raster.{length-coordinates, length-indices}
-use Rattle.zf_base.specs.Places.{IsAt}
-use Rattle.zf_base.proofs.Boxes.{raster-lt, is_inside-coordinates}
-use Rattle.zf_base.proofs.Places.{IsAt-inside}
-use Rattle.zf_base.specs.declared.position.Extent.{Extent}
-use Rattle.zf_base.specs.Positions.{used_axes, IsPosition}
-use Rattle.zf_base.proofs.Extents.{length-used_axes}
+use Rattle.zf_spec.{proofs.Counting.{map-upto_same}, proofs.Raster.{length-coordinates, length-indices}}
 use Rattle.zf_spec.specs.Codes.{existing_values}
-use Rattle.zf_pad.specs.declared.layout.Layout.{Layout}
-use Rattle.zf_pad.specs.Rasters.{IsRaster, IsRasterBlock}
-use Rattle.zf_pad.specs.Copies.{IsGathered}
-use Rattle.zf_pad.proofs.Blocks.{cond_same, gathered_block}
+use Rattle.zf_base.{specs.Places.{IsAt}, proofs.Boxes.{raster-lt, is_inside-coordinates}}
+use Rattle.zf_base.{proofs.Places.{IsAt-inside}, specs.declared.position.Extent.{Extent}}
+use Rattle.zf_base.{specs.Positions.{used_axes, IsPosition}, proofs.Extents.{length-used_axes}}
+use Rattle.zf_pad.{specs.declared.layout.Layout.{Layout}, specs.Rasters.{IsRaster, IsRasterBlock}}
+use Rattle.zf_pad.{specs.Copies.{IsGathered}, proofs.Blocks.{cond_same, gathered_block}}
 use Rattle.zf_pad.specs.Slabs.{rows_of, row_len, with_rows, rows_on, IsSlab, slab_of, first_block}
 
 -- ---- sizes

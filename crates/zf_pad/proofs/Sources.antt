@@ -1,13 +1,10 @@
 -- Padding in place: each place takes the value of its source.
-use Rattle.std.proofs.Common.{rules}
-use Rattle.std.proofs.Common.{◌≡◌, ℕ, zero, suc, ◌+◌, ◌-◌, ◌*◌, ◌/◌, ◌%◌, ◌^◌, ◌<◌, ◌≤◌, true, ℤ, pos, List, [], ◌∷◌, ◌++◌, length, get_or, set, replicate, All, refl, ap, sym, ◌∙◌, ⊎_elim, arith, ext_get_or, pow-suc}
+use Rattle.std.proofs.Common.{rules, ◌≡◌, ℕ, zero, suc, ◌+◌, ◌-◌, ◌*◌, ◌/◌, ◌%◌, ◌^◌, ◌<◌, ◌≤◌, true, ℤ, pos, List, [], ◌∷◌, ◌++◌, length, get_or, set, replicate, All, refl, ap, sym, ◌∙◌, ⊎_elim, arith, ext_get_or, pow-suc}
 use Rattle.std.proofs.lemmas.Bool.{cases_lt}
-use Rattle.zf_spec.specs.Grid.{fours}
-use Rattle.zf_spec.specs.Padding.{sources, source_place, pad}
+use Rattle.zf_spec.{specs.Grid.{fours}, specs.Padding.{sources, source_place, pad}}
 use Rattle.zf_spec.proofs.Padding.{IsExtent as IsSize, source_place_below, source_place_inside, source_place_existing, length-pad, get_or-pad}
 use Rattle.zf_spec.proofs.Raster.{length-fours}
-use Rattle.zf_base.specs.declared.position.Extent.{Extent}
-use Rattle.zf_base.specs.Positions.{axes, used_axes, IsExtent}
+use Rattle.zf_base.{specs.declared.position.Extent.{Extent}, specs.Positions.{axes, used_axes, IsExtent}}
 use Rattle.zf_pad.proofs.Writes.{IsWritten, written_none, written_more}
 use Rattle.zf_pad.proofs.Sizes.{used_length, used_sizes, size_axes}
 

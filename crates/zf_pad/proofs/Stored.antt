@@ -1,18 +1,14 @@
 -- The values of an array in the order of blocks: where those of a block begin, and what they are in raster order.
-use Rattle.std.proofs.Common.{rules}
-use Rattle.std.proofs.Common.{◌≡◌, refl, sym, ap, subst, ◌∙◌, ℕ, zero, suc, ◌+◌, ◌-◌, ◌*◌, ◌/◌, ◌%◌, ◌^◌, ◌<◌, ◌≤◌, ⊎_elim, min, true, cond, ℤ, pos, List, [], ◌∷◌, ◌++◌, length, get_or, take, map, mod-lt, mod-eq_of_lt, mul-le-mul_left, arith, length-append}
+use Rattle.std.proofs.Common.{rules, ◌≡◌, refl, sym, ap, subst, ◌∙◌, ℕ, zero, suc, ◌+◌, ◌-◌, ◌*◌, ◌/◌, ◌%◌, ◌^◌, ◌<◌, ◌≤◌, ⊎_elim, min, true, cond, ℤ, pos, List, [], ◌∷◌, ◌++◌, length, get_or, take, map, mod-lt, mod-eq_of_lt, mul-le-mul_left, arith, length-append}
 use Rattle.std.proofs.Math.Nat.{add-mul-mod_self_left, add-mul-div_left, div-eq_of_lt, div-add-mod, mul-mod_right}
-use Rattle.std.proofs.Math.ListN.{get_or-append}
-use Rattle.std.proofs.lemmas.Bool.{cases_lt}
+use Rattle.std.{proofs.Math.ListN.{get_or-append}, proofs.lemmas.Bool.{cases_lt}}
 use Rattle.std.proofs.lemmas.Nat.{div_below}
 use Rattle.std.proofs.lemmas.List.{length-map, get_or-append_right, get_or-take, length-take-le}
 use Rattle.zf_spec.specs.Grid.{product, grid, blocks, coordinates, raster, is_inside, fours, indices, extent_of, position_in, value_at, block_of, blocks_of}
-use Rattle.zf_spec.specs.Codes.{existing_values}
+use Rattle.zf_spec.{specs.Codes.{existing_values}, proofs.Raster.{coordinates-raster, length-fours}}
 use Rattle.zf_spec.proofs.Counting.{length-map-upto, get_or-map-upto, map-upto_same, from_places}
 use Rattle.zf_spec.proofs.Padding.{get_or-existing_inside, existing_values-existing_values}
-use Rattle.zf_spec.proofs.Raster.{coordinates-raster, length-fours}
-use Rattle.zf_base.specs.Places.{IsAt}
-use Rattle.zf_base.proofs.Boxes.{factor_not_zero, raster-lt}
+use Rattle.zf_base.{specs.Places.{IsAt}, proofs.Boxes.{factor_not_zero, raster-lt}}
 use Rattle.zf_base.proofs.Extents.{length-extent_of}
 use Rattle.zf_base.proofs.Places.{is_inside-grid, is_inside-fours, IsAt-inside, IsAt-length, IsAt-block, IsAt-place}
 use Rattle.zf_pad.proofs.Blocks.{existing_by, cond_same}

@@ -1,18 +1,13 @@
 -- The lines of an array whose values are kept in the order of blocks.
-use Rattle.std.proofs.Common.{rules}
-use Rattle.std.proofs.Common.{◌≡◌, refl, sym, ap, ◌∙◌, ℕ, zero, suc, ◌+◌, ◌-◌, ◌*◌, ◌/◌, ◌%◌, ◌<◌, ◌≤◌, ◌^◌, ◌⊎◌, ⊎_elim, min, ℤ, pos, List, [], ◌∷◌, ◌++◌, length, get_or, map, take, drop, replicate, mod-eq_of_lt, mul-le-mul_left, arith, ext_get_or, length-drop, lit≤}
+use Rattle.std.proofs.Common.{rules, ◌≡◌, refl, sym, ap, ◌∙◌, ℕ, zero, suc, ◌+◌, ◌-◌, ◌*◌, ◌/◌, ◌%◌, ◌<◌, ◌≤◌, ◌^◌, ◌⊎◌, ⊎_elim, min, ℤ, pos, List, [], ◌∷◌, ◌++◌, length, get_or, map, take, drop, replicate, mod-eq_of_lt, mul-le-mul_left, arith, ext_get_or, length-drop, lit≤}
 use Rattle.std.proofs.Math.Nat.{add-mul-mod_self_left, add-mul-div_left, div-eq_of_lt, div-add-mod, mul-mod_right, mul-le-mul_right, le-mul_of_pos_right}
-use Rattle.std.proofs.lemmas.Bool.{cases_lt}
-use Rattle.std.proofs.lemmas.Nat.{div_below}
+use Rattle.std.{proofs.lemmas.Bool.{cases_lt}, proofs.lemmas.Nat.{div_below}, proofs.Math.Seq.{take-take}}
 use Rattle.std.proofs.lemmas.List.{length-map, get_or-take, get_or-drop, get_or-append_right, length-take-le, take-append-le, take-map, drop-map, map-append}
 use Rattle.std.proofs.Math.ListN.{get_or-append}
-use Rattle.std.proofs.Math.Seq.{take-take}
 use Rattle.zf_spec.specs.Grid.{IsShape, product, coordinates, extents, max_values}
-use Rattle.zf_spec.proofs.Counting.{get_or-map-upto}
-use Rattle.zf_spec.proofs.Raster.{length-coordinates, length-extents}
+use Rattle.zf_spec.{proofs.Counting.{get_or-map-upto}, proofs.Raster.{length-coordinates, length-extents}}
 use Rattle.zf_base.proofs.Boxes.{product-append_ones, raster-append_zeros, coordinates-append_ones, extents-append_ones}
-use Rattle.zf_base.proofs.Extents.{map-zeros}
-use Rattle.zf_base.proofs.Sizes.{axes-with_unused, all_axes, product-axes}
+use Rattle.zf_base.{proofs.Extents.{map-zeros}, proofs.Sizes.{axes-with_unused, all_axes, product-axes}}
 use Rattle.zf_pad.specs.Stored.{start_at, stored_index, raster_of, line_len, other_sizes, IsLine, LinePart}
 
 -- ---- along four axes

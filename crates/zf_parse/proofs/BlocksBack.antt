@@ -1,7 +1,6 @@
 -- The blocks of an array come back from their codes.
 use Rattle.std.proofs.Common.{◌≡◌, refl, sym, ap, subst, ◌∙◌, ℕ, ◌^◌, ◌<◌, ◌≤◌, Bool, true, false, cond, ltb, le-ltb, ℤ, pos, FitsSigned, Some, None, List, ◌++◌, length, take, get_or, All, take_at, length-append, arith, rules}
-use Rattle.std.proofs.lemmas.List.Elements.{All-from_get_or}
-use Rattle.std.specs.Int.{Width}
+use Rattle.std.{proofs.lemmas.List.Elements.{All-from_get_or}, specs.Int.{Width}}
 use mir.Val.{bits}
 use Rattle.zf_spec.specs.Grid.{IsShape, grid, blocks, coordinates, raster, is_inside, indices, extents, extent_of, position_in, value_at, block_of}
 use Rattle.zf_spec.specs.Codes.{existing_values, rev, rate, prec, round, round_prec, read_rate}
@@ -9,13 +8,11 @@ use Rattle.zf_spec.proofs.Wrapping.{zero_fits}
 use Rattle.zf_spec.proofs.Counting.{length-map-upto, get_or-map-upto, from_places}
 use Rattle.zf_spec.proofs.Padding.{length-existing_values, get_or-existing_values, get_or_all}
 use Rattle.zf_spec.proofs.BlockReading.{read_rev-rev, read_rate-rate, read_prec-prec, length-rate}
-use Rattle.zf_base.specs.declared.lane.Ty.{Ty}
-use Rattle.zf_base.specs.declared.lane.Ty.TheVariants.{I32, I64}
-use Rattle.zf_base.specs.Widths.{width_of}
+use Rattle.zf_base.{specs.declared.lane.Ty.{Ty}, specs.declared.lane.Ty.TheVariants.{I32, I64}}
+use Rattle.zf_base.{specs.Widths.{width_of}, proofs.Extents.{length-extent_of}}
 use Rattle.zf_pad.proofs.Blocks.{all_extents}
 use Rattle.zf_header.specs.declared.header.Mode.TheVariants.{Reversible, Rate, Precision}
 use Rattle.zf_parse.specs.Parsing.{read_code}
-use Rattle.zf_base.proofs.Extents.{length-extent_of}
 
 -- ---- a block of an array
 

@@ -1,19 +1,12 @@
 -- The codes of blocks, one after another.
 use Rattle.std.proofs.Common.{◌≡◌, min, take, ℕ, zero, suc, ◌+◌, ℤ, Bool, List, [], ◌∷◌, ◌++◌, map, length, ap, arith, rules}
-use Rattle.std.proofs.lemmas.List.{append-nil, append_assoc, map_push, map-append}
-use Rattle.zf_spec.proofs.Counting.{count_from-add}
-use Rattle.std.proofs.lemmas.Grind.{flat_map-append}
-use Rattle.std.specs.Int.{Width}
-use mir.Val.{bits}
-use Rattle.std.specs.List.{flat_map}
-use Rattle.zf_spec.specs.Grid.{count_from, upto}
-use Rattle.zf_spec.specs.Padding.{pad}
-use Rattle.zf_spec.specs.Lorenzo.{lorenzo}
-use Rattle.zf_spec.specs.Lift.{lift}
-use Rattle.zf_spec.specs.Planes.{code}
-use Rattle.zf_spec.specs.ReadPlanes.{first_bits}
+use Rattle.std.{proofs.lemmas.List.{append-nil, append_assoc, map_push, map-append}, specs.Int.{Width}}
+use Rattle.std.{proofs.lemmas.Grind.{flat_map-append}, specs.List.{flat_map}}
+use Rattle.zf_spec.{proofs.Counting.{count_from-add}, specs.Grid.{count_from, upto}, specs.Padding.{pad}}
+use Rattle.zf_spec.{specs.Lorenzo.{lorenzo}, specs.Lift.{lift}, specs.Planes.{code}}
+use Rattle.zf_spec.{specs.ReadPlanes.{first_bits}, specs.Codes.{rev, rev_of_planes, planes, rate, prec}}
 use Rattle.zf_spec.specs.Stream.{Mode, reversible, fixed_rate, fixed_precision, block_code}
-use Rattle.zf_spec.specs.Codes.{rev, rev_of_planes, planes, rate, prec}
+use mir.Val.{bits}
 
 -- one number more
 count_from-more : (k n : ℕ) → count_from k (n + 1) ≡ count_from k n ++ (k + n) ∷ []

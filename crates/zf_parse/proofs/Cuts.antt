@@ -1,25 +1,16 @@
 -- A stream is cut in the block whose code is the first that is short.
 use Rattle.std.proofs.Common.{◌≡◌, ◌⊎◌, inl, ⊎_elim, refl, sym, ap, subst, ◌∙◌, ℕ, ◌+◌, ◌-◌, ◌<◌, ◌≤◌, Bool, ltb-true, Option, None, Result, Ok, Err, List, ◌++◌, map, length, length-append, length-drop, arith, rules}
-use Rattle.std.specs.List.{flat_map}
-use Rattle.std.specs.Result.{result_map_both}
-use Rattle.std.proofs.lemmas.List.{length-map}
-use Rattle.zf_spec.specs.Grid.{blocks}
-use Rattle.zf_spec.specs.Stream.{fill_len, to_bits}
-use Rattle.zf_spec.proofs.Bytes.{length-to_bits}
-use Rattle.zf_header.specs.declared.header.Header.{Header}
-use Rattle.zf_header.specs.declared.header.HeaderFault.{HeaderFault}
-use Rattle.zf_header.specs.HeaderBits.{header_bits}
-use Rattle.zf_header.specs.HeaderFaults.{header_fault}
-use Rattle.zf_header.proofs.Good.{good}
+use Rattle.std.{specs.List.{flat_map}, specs.Result.{result_map_both}, proofs.lemmas.List.{length-map}}
+use Rattle.zf_spec.{specs.Grid.{blocks}, specs.Stream.{fill_len, to_bits}, proofs.Bytes.{length-to_bits}}
+use Rattle.zf_header.{specs.declared.header.Header.{Header}, specs.declared.header.HeaderFault.{HeaderFault}}
+use Rattle.zf_header.{specs.HeaderBits.{header_bits}, specs.HeaderFaults.{header_fault}, proofs.Good.{good}}
 use Rattle.zf_header.proofs.Found.{read_is_spelled, begins_within}
-use Rattle.zf_parse.specs.declared.fault.StreamFault.{StreamFault}
-use Rattle.zf_parse.specs.declared.fault.StreamFault.TheVariants as faults
+use Rattle.zf_parse.{specs.declared.fault.StreamFault.{StreamFault}, specs.Cuts.{IsFirstShort, IsFillShort}}
 use Rattle.zf_parse.specs.Parsing.{coded_blocks, read_codes, values_of_blocks, fill_answer, header_of, code_bits, Said, said_behind, parse}
-use Rattle.zf_parse.specs.Cuts.{IsFirstShort, IsFillShort}
-use Rattle.zf_parse.proofs.Fill.{fill_short}
-use Rattle.zf_parse.proofs.Joining.{read_codes-cut}
+use Rattle.zf_parse.{proofs.Fill.{fill_short}, proofs.Joining.{read_codes-cut}}
 use Rattle.zf_parse.proofs.Steps.{Coded, codes_in, blocks_in, cut_coded, header_or, by_coded}
 use Rattle.zf_parse.proofs.Whole.{read_whole, codes_of_stand, read_short, read_front, none_of_short, short_of_none, begun_of_none}
+use Rattle.zf_parse.specs.declared.fault.StreamFault.TheVariants as faults
 
 -- ---- why bytes say nothing
 

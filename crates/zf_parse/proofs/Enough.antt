@@ -1,33 +1,22 @@
 -- As many bits as the longest codes have are enough for any codes, so that what is restored has the length of the raw values.
 use Rattle.std.proofs.Common.{◌≡◌, ◌≢◌, refl, sym, ap, ◌∙◌, ℕ, zero, suc, ◌+◌, ◌*◌, ◌^◌, ◌<◌, ◌≤◌, Bool, false, cond, ltb, le-ltb, ℤ, Option, Some, None, is_none, Result, Ok, List, [], ◌∷◌, ◌++◌, length, take, drop, replicate, mul-le-mul_left, mul_comm, length-drop, length-append, arith, rules}
-use Rattle.std.proofs.lemmas.List.{length-take, length-replicate}
-use Rattle.std.proofs.Math.Nat.{pow-le-pow_right}
+use Rattle.std.{proofs.lemmas.List.{length-take, length-replicate}, proofs.Math.Nat.{pow-le-pow_right}}
 use Rattle.std.specs.Int.{Width, byte_len}
 use mir.Val.{bits}
-use Rattle.zf_spec.specs.Numbers.{number}
-use Rattle.zf_spec.specs.Grid.{product, blocks, extent_of}
-use Rattle.zf_spec.specs.Planes.{code}
-use Rattle.zf_spec.specs.ReadPlanes.{planes_in}
-use Rattle.zf_spec.specs.Lorenzo.{unlorenzo}
+use Rattle.zf_spec.{specs.Numbers.{number}, specs.Grid.{product, blocks, extent_of}, specs.Planes.{code}}
+use Rattle.zf_spec.{specs.ReadPlanes.{planes_in}, specs.Lorenzo.{unlorenzo}, proofs.Fields.{number-lt}}
 use Rattle.zf_spec.specs.Codes.{coefficients_of, existing_values, count_bits, read_rev, read_prec}
-use Rattle.zf_spec.proofs.Counting.{length-map-upto}
-use Rattle.zf_spec.proofs.Fields.{number-lt}
-use Rattle.zf_spec.proofs.Full.{length-planes_in, planes_in-length}
-use Rattle.zf_spec.proofs.PlaneCode.{length-code-le}
-use Rattle.zf_spec.proofs.RawValues.{length-raw}
-use Rattle.zf_base.specs.declared.lane.Ty.{Ty}
-use Rattle.zf_base.specs.declared.lane.Ty.TheVariants.{I32, I64}
-use Rattle.zf_base.specs.Widths.{width_of}
-use Rattle.zf_header.specs.declared.header.Header.{Header}
-use Rattle.zf_header.specs.declared.header.HeaderFault.{HeaderFault}
-use Rattle.zf_header.specs.declared.header.Mode.{Mode}
+use Rattle.zf_spec.{proofs.Counting.{length-map-upto}, proofs.Full.{length-planes_in, planes_in-length}}
+use Rattle.zf_spec.{proofs.PlaneCode.{length-code-le}, proofs.RawValues.{length-raw}}
+use Rattle.zf_base.{specs.declared.lane.Ty.{Ty}, specs.declared.lane.Ty.TheVariants.{I32, I64}}
+use Rattle.zf_base.{specs.Widths.{width_of}, proofs.Extents.{length-extent_of}}
+use Rattle.zf_header.{specs.declared.header.Header.{Header}, specs.declared.header.HeaderFault.{HeaderFault}}
+use Rattle.zf_header.{specs.declared.header.Mode.{Mode}, specs.HeaderFaults.{header_fault}}
 use Rattle.zf_header.specs.declared.header.Mode.TheVariants.{Reversible, Rate, Precision}
-use Rattle.zf_header.specs.HeaderFaults.{header_fault}
 use Rattle.zf_block.specs.Room.{longest_rev, longest_prec}
 use Rattle.zf_parse.specs.Raw.{raw_len, raw_bytes}
 use Rattle.zf_parse.specs.Parsing.{read_code, read_codes, values_of_blocks, header_of, code_bits, longest_code, longest_codes, restored_text}
 use Rattle.zf_parse.proofs.Steps.{with_block, read_next, read_codes-suc, blocks_text}
-use Rattle.zf_base.proofs.Extents.{length-extent_of}
 
 -- ---- one code
 

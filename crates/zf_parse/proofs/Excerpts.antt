@@ -4,10 +4,8 @@ use Rattle.std.proofs.lemmas.Bool.{cases_lt}
 use Rattle.std.proofs.lemmas.List.{take_all, take-append-drop, length-take-le}
 use Rattle.zf_base.specs.Widths.{width_of}
 use Rattle.zf_header.specs.declared.header.Header.{Header}
-use Rattle.zf_parse.specs.Parsing.{read_code, longest_code, fill_answer}
-use Rattle.zf_parse.proofs.Enough.{enough_for_one}
-use Rattle.zf_parse.proofs.Fill.{fill_told}
-use Rattle.zf_parse.proofs.TextOfParse.{read_code_more}
+use Rattle.zf_parse.{specs.Parsing.{read_code, longest_code, fill_answer}, proofs.Enough.{enough_for_one}}
+use Rattle.zf_parse.{proofs.Fill.{fill_told}, proofs.TextOfParse.{read_code_more}}
 
 -- what is read of as many bits as the longest code has is read of all
 pub cut_told : (h : Header) (es : List ℕ) (s : List Bool) (m : ℕ) → length es ≡ length h.shape → longest_code h ≤ m → read_code (width_of h.ty) h.mode es (take m s) ≡ read_code (width_of h.ty) h.mode es s

@@ -1,14 +1,10 @@
 -- The fill behind the codes of a stream.
 use Rattle.std.proofs.Common.{◌≡◌, ◌≢◌, ℕ, ◌-◌, ◌<◌, ◌≤◌, ◌%◌, Bool, true, false, cond, List, [], ◌∷◌, ◌++◌, length, length-append, take, Result, Ok, Err, nat_lt, refl, sym, ap, ◌∙◌, arith}
-use Rattle.std.proofs.lemmas.Bool.{lt-ltb, le-ltb}
-use Rattle.std.proofs.lemmas.List.{take-append-le}
-use Rattle.zf_spec.specs.Grid.{blocks}
-use Rattle.zf_spec.specs.Numbers.{number}
-use Rattle.zf_spec.specs.Planes.{has_one}
+use Rattle.std.{proofs.lemmas.Bool.{lt-ltb, le-ltb}, proofs.lemmas.List.{take-append-le}}
+use Rattle.zf_spec.{specs.Grid.{blocks}, specs.Numbers.{number}, specs.Planes.{has_one}}
 use Rattle.zf_header.specs.declared.header.Header.{Header}
-use Rattle.zf_parse.specs.declared.fault.StreamFault.{StreamFault}
+use Rattle.zf_parse.{specs.declared.fault.StreamFault.{StreamFault}, specs.Parsing.{fill_answer}}
 use Rattle.zf_parse.specs.declared.fault.StreamFault.TheVariants.{Truncated, Pad, Trailing}
-use Rattle.zf_parse.specs.Parsing.{fill_answer}
 
 -- a number is zero just where no bit is one
 no_one : (bs : List Bool) → number bs ≡ 0 → has_one bs ≡ false

@@ -1,24 +1,17 @@
 -- What reading gives is of the type.
 use Rattle.std.proofs.Common.{◌≡◌, ℕ, zero, suc, ◌*◌, ◌/◌, ◌%◌, ◌^◌, ◌-◌, ◌+◌, ◌<◌, Bool, true, false, cond, ℤ, pos, FitsSigned, Some, List, [], map, length, get_or, All, arith, rules}
-use Rattle.std.proofs.lemmas.Bool.{cases_lt}
-use Rattle.std.proofs.lemmas.List.{get_or_past}
+use Rattle.std.{proofs.lemmas.Bool.{cases_lt}, proofs.lemmas.List.{get_or_past}, specs.Int.{Width}}
 use Rattle.std.proofs.lemmas.List.Elements.{All-nil, All-get_or, All-map}
-use Rattle.std.specs.Int.{Width}
 use mir.Val.{bits}
-use Rattle.zf_spec.specs.Grid.{upto, product, coordinates, indices, is_inside}
-use Rattle.zf_spec.specs.Lorenzo.{unlorenzo}
+use Rattle.zf_spec.{specs.Grid.{upto, product, coordinates, indices, is_inside}, specs.Lorenzo.{unlorenzo}}
 use Rattle.zf_spec.specs.Lift.{unlift_line, line_value, along, along_axes_back, unlift}
-use Rattle.zf_spec.specs.Kept.{kept_planes}
-use Rattle.zf_spec.specs.ReadPlanes.{planes_in}
+use Rattle.zf_spec.{specs.Kept.{kept_planes}, specs.ReadPlanes.{planes_in}, proofs.Negabinary.{value_of_fits}}
 use Rattle.zf_spec.specs.Codes.{coefficients_of, existing_values, read_rev, read_rate, read_prec}
-use Rattle.zf_spec.proofs.Wrapping.{wrap_fits, zero_fits}
-use Rattle.zf_spec.proofs.Negabinary.{value_of_fits}
-use Rattle.zf_spec.proofs.Padding.{get_or_all}
+use Rattle.zf_spec.{proofs.Wrapping.{wrap_fits, zero_fits}, proofs.Padding.{get_or_all}}
 use Rattle.zf_base.specs.Places.{block_number, place_of}
 use Rattle.zf_header.specs.declared.header.Mode.{Mode}
 use Rattle.zf_header.specs.declared.header.Mode.TheVariants.{Reversible, Rate, Precision}
-use Rattle.zf_parse.specs.Parsing.{read_code, values_of_blocks}
-use Rattle.zf_parse.proofs.Prefixes.{found_some}
+use Rattle.zf_parse.{specs.Parsing.{read_code, values_of_blocks}, proofs.Prefixes.{found_some}}
 
 module _ (w : Width) where
   -- values of the type

@@ -2,11 +2,10 @@
 use Rattle.std.proofs.Common.{◌≡◌, sym, ap, ◌∙◌, ℕ, ◌<◌, ℤ, pos, List, [], length, get_or}
 use Rattle.zf_spec.specs.Grid.{product, blocks, coordinates, block_of, blocks_of}
 use Rattle.zf_spec.proofs.Counting.{get_or-map-upto, from_places}
-use Rattle.zf_base.specs.Places.{block_number, place_of}
-use Rattle.zf_base.proofs.Boxes.{is_inside-coordinates}
+use Rattle.zf_spec.proofs.Raster.{raster-coordinates, length-coordinates}
+use Rattle.zf_base.{specs.Places.{block_number, place_of}, proofs.Boxes.{is_inside-coordinates}}
 use Rattle.zf_base.proofs.Places.{IsAt-position}
 use Rattle.zf_parse.specs.Parsing.{values_of_blocks}
-use Rattle.zf_spec.proofs.Raster.{raster-coordinates, length-coordinates}
 use Rattle.zf_pad.proofs.Blocks.{value_of_block}
 
 -- a value of an array by its block and place

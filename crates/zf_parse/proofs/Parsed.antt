@@ -1,24 +1,17 @@
 -- What the bits of bytes say, for the one who has their header.
 use Rattle.std.proofs.Common.{◌≡◌, ℕ, ◌≤◌, Bool, ℤ, List, ◌++◌, length, take, drop, Option, Some, None, Result, Ok, Err, sym, ap, ◌∙◌, subst, length-append, take-take, arith}
-use Rattle.std.proofs.lemmas.List.{take-append-le}
-use Rattle.std.proofs.lemmas.Grind.{flat_map-append}
-use Rattle.zf_spec.specs.Grid.{blocks}
-use Rattle.zf_spec.specs.Numbers.{field}
-use Rattle.zf_spec.specs.Stream.{to_bits}
+use Rattle.std.{proofs.lemmas.List.{take-append-le}, proofs.lemmas.Grind.{flat_map-append}}
+use Rattle.zf_spec.{specs.Grid.{blocks}, specs.Numbers.{field}, specs.Stream.{to_bits}}
 use Rattle.zf_spec.proofs.Bytes.{length-to_bits}
-use Rattle.zf_header.specs.declared.header.Header.{Header}
-use Rattle.zf_header.specs.HeaderBits.{header_bits, BeginsWith, IsHeader}
-use Rattle.zf_header.specs.HeaderFaults.{header_fault}
-use Rattle.zf_header.specs.declared.header.HeaderFault.{HeaderFault}
-use Rattle.zf_header.proofs.First.{header_fault-first}
-use Rattle.zf_header.proofs.Good.{good}
+use Rattle.zf_header.{specs.declared.header.Header.{Header}, specs.HeaderFaults.{header_fault}}
+use Rattle.zf_header.{specs.HeaderBits.{header_bits, BeginsWith, IsHeader}, proofs.First.{header_fault-first}}
+use Rattle.zf_header.{specs.declared.header.HeaderFault.{HeaderFault}, proofs.Good.{good}}
 use Rattle.zf_header.proofs.Found.{read_is_spelled, read_is_header}
 use Rattle.zf_header.proofs.Spelled.{spelled_is_read, spelled_is_good}
-use Rattle.zf_parse.specs.declared.fault.StreamFault.{StreamFault}
-use Rattle.zf_parse.specs.declared.fault.StreamFault.TheVariants as faults
+use Rattle.zf_parse.{specs.declared.fault.StreamFault.{StreamFault}, specs.ReadStreams.{BeginsWithHeader}}
 use Rattle.zf_parse.specs.Parsing.{header_of, code_bits, read_codes, said_behind, parse, restore_answer}
 use Rattle.zf_parse.proofs.Steps.{values_said, values_said-is, header_or, codes_answer, without_values, restore_answer-values}
-use Rattle.zf_parse.specs.ReadStreams.{BeginsWithHeader}
+use Rattle.zf_parse.specs.declared.fault.StreamFault.TheVariants as faults
 
 -- the answer of what stands behind the header
 answer_of : Option HeaderFault → Header → List ℕ → List Bool → Result (List ℤ) StreamFault

@@ -1,19 +1,15 @@
 -- A code that is cut behind its last bit reads the same, and so it does with any bits behind it.
 use Rattle.std.proofs.Common.{◌≡◌, sym, ap, subst, ◌∙◌, ℕ, ◌+◌, ◌^◌, ◌≤◌, Bool, true, false, cond, ltb, ℤ, Option, Some, None, List, [], ◌++◌, length, take, drop, length-drop, take-take, arith, rules}
-use Rattle.std.specs.Int.{Width}
-use Rattle.std.proofs.lemmas.Bool.{le-ltb, ltb-false}
+use Rattle.std.{specs.Int.{Width}, proofs.lemmas.Bool.{le-ltb, ltb-false}}
 use Rattle.std.proofs.lemmas.List.{append-nil, length-take-le, drop-take}
-use Rattle.zf_spec.specs.Numbers.{number}
-use Rattle.zf_spec.specs.Planes.{code}
+use Rattle.zf_spec.{specs.Numbers.{number}, specs.Planes.{code}, specs.Lorenzo.{unlorenzo}}
 use Rattle.zf_spec.specs.ReadPlanes.{Begins, first_bits, planes_in}
-use Rattle.zf_spec.specs.Lorenzo.{unlorenzo}
 use Rattle.zf_spec.specs.Codes.{count_bits, coefficients_of, existing_values, read_rev, read_prec}
 use Rattle.zf_spec.proofs.Beginnings.{begins_is_first, begins_itself, first_bits-append}
 use Rattle.zf_spec.proofs.Full.{length-planes_in, planes_in-length, full_begins, full_only}
 use Rattle.zf_header.specs.declared.header.Mode.{Mode}
 use Rattle.zf_header.specs.declared.header.Mode.TheVariants.{Reversible, Rate, Precision}
-use Rattle.zf_parse.specs.Parsing.{read_code}
-use Rattle.zf_parse.proofs.TextOfParse.{read_code_more}
+use Rattle.zf_parse.{specs.Parsing.{read_code}, proofs.TextOfParse.{read_code_more}}
 
 -- what is found where enough bits are there
 pub record Found {A : Type 0} (short : Bool) (a : A) (n : ℕ) (b : A) (k : ℕ) : Type 0 where

@@ -1,26 +1,18 @@
 -- What a stream of a fixed rate says: each code has as many bits, so it is cut by places alone.
 use Rattle.std.proofs.Common.{◌≡◌, ◌≢◌, refl, sym, ap, ◌∙◌, ℕ, zero, suc, ◌+◌, ◌-◌, ◌*◌, ◌/◌, ◌<◌, ◌≤◌, Bool, true, false, cond, ltb, ℤ, Option, Some, None, Result, Ok, Err, List, [], ◌++◌, map, length, take, drop, length-append, length-drop, arith, suc-mul, rules}
-use Rattle.std.specs.Int.{Width}
-use Rattle.std.proofs.lemmas.Bool.{ltb-true, ltb-false}
+use Rattle.std.{specs.Int.{Width}, proofs.lemmas.Bool.{ltb-true, ltb-false}, proofs.Math.Seq.{take-add}}
 use Rattle.std.proofs.lemmas.List.{take-append-drop, length-take-le, take_at}
 use Rattle.std.proofs.Math.Nat.{div-eq-sub-div, div-eq_of_lt, mul-le-mul_right}
-use Rattle.std.proofs.Math.Seq.{take-add}
-use Rattle.zf_spec.specs.Grid.{upto, blocks, extent_of}
-use Rattle.zf_spec.specs.Codes.{read_rate}
-use Rattle.zf_spec.specs.Numbers.{number}
+use Rattle.zf_spec.{specs.Grid.{upto, blocks, extent_of}, specs.Codes.{read_rate}, specs.Numbers.{number}}
 use Rattle.zf_spec.specs.Stream.{fill_len, to_bits}
 use Rattle.zf_base.specs.Widths.{width_of}
-use Rattle.zf_header.specs.declared.header.Header.{Header}
-use Rattle.zf_header.specs.declared.header.Mode.TheVariants.{Rate}
-use Rattle.zf_parse.specs.declared.fault.StreamFault.{StreamFault}
-use Rattle.zf_parse.specs.declared.fault.StreamFault.TheVariants as faults
+use Rattle.zf_header.{specs.declared.header.Header.{Header}, specs.declared.header.Mode.TheVariants.{Rate}}
+use Rattle.zf_parse.{specs.declared.fault.StreamFault.{StreamFault}, specs.ReadStreams.{BeginsWithHeader}}
 use Rattle.zf_parse.specs.Parsing.{read_code, read_codes, values_of_blocks, fill_answer, parse}
 use Rattle.zf_parse.proofs.Steps.{read_codes-suc, values_or_fault, codes_answer, values_said, values_err}
-use Rattle.zf_parse.specs.ReadStreams.{BeginsWithHeader}
-use Rattle.zf_parse.proofs.Codes.{joined-more}
-use Rattle.zf_parse.proofs.Fill.{fill_short, fill_one, fill_more}
-use Rattle.zf_parse.proofs.Parsed.{parse_is}
-use Rattle.zf_parse.proofs.ParseOfStream.{end_to_end, ReadsBack, read_codes-codes}
+use Rattle.zf_parse.{proofs.Codes.{joined-more}, proofs.Fill.{fill_short, fill_one, fill_more}}
+use Rattle.zf_parse.{proofs.Parsed.{parse_is}, proofs.ParseOfStream.{end_to_end, ReadsBack, read_codes-codes}}
+use Rattle.zf_parse.specs.declared.fault.StreamFault.TheVariants as faults
 
 -- the code of block b, where each has so many bits
 abbrev pub code_cut : ℕ → List Bool → ℕ → List Bool

@@ -1,16 +1,13 @@
 -- What a stream says, step by step: words for proofs, and the definitions in them.
 use Rattle.std.proofs.Common.{◌≡◌, refl, ap, ◌∙◌, ℕ, suc, ◌-◌, Bool, ℤ, Option, Some, None, Result, Ok, Err, List, [], ◌∷◌, map, length, take, drop, rules}
 use Rattle.std.specs.Result.{result_map_both}
-use Rattle.zf_spec.specs.Grid.{blocks, extent_of}
-use Rattle.zf_spec.specs.Stream.{to_bits}
+use Rattle.zf_spec.{specs.Grid.{blocks, extent_of}, specs.Stream.{to_bits}}
 use Rattle.zf_base.specs.Widths.{width_of}
-use Rattle.zf_header.specs.declared.header.Header.{Header}
-use Rattle.zf_header.specs.declared.header.HeaderFault.{HeaderFault}
+use Rattle.zf_header.{specs.declared.header.Header.{Header}, specs.declared.header.HeaderFault.{HeaderFault}}
 use Rattle.zf_header.specs.HeaderFaults.{header_fault}
-use Rattle.zf_parse.specs.declared.fault.StreamFault.{StreamFault}
-use Rattle.zf_parse.specs.declared.fault.StreamFault.TheVariants as faults
-use Rattle.zf_parse.specs.Raw.{raw_bytes}
+use Rattle.zf_parse.{specs.declared.fault.StreamFault.{StreamFault}, specs.Raw.{raw_bytes}}
 use Rattle.zf_parse.specs.Parsing.{read_code, coded_blocks, read_codes, values_of_blocks, fill_answer, header_of, code_bits, Said, said_with, said_behind, parse, restore_answer}
+use Rattle.zf_parse.specs.declared.fault.StreamFault.TheVariants as faults
 
 -- blocks with their codes, and the bits behind them
 abbrev pub Coded : Type 0

@@ -1,20 +1,17 @@
 -- What the stream of an array's values parses to.
 use Rattle.std.proofs.Common.{◌≡◌, refl, sym, ap, subst, ◌∙◌, ℕ, ◌*◌, ◌<◌, Bool, ℤ, FitsSigned, Ok, Some, List, ◌++◌, map, length, All, mul_comm, rules}
 use Rattle.std.specs.Int.{byte_len}
-use Rattle.zf_spec.specs.Grid.{product, blocks, upto, extent_of, block_of}
-use Rattle.zf_spec.specs.Codes.{round, round_prec}
+use Rattle.zf_spec.{specs.Grid.{product, blocks, upto, extent_of, block_of}, specs.Codes.{round, round_prec}}
 use Rattle.zf_spec.specs.Stream.{first_bytes, values_from, block_code, file, stream, stream_of_bytes, with_fill, to_bytes}
 use Rattle.zf_spec.proofs.Bytes.{first_bytes-all}
 use Rattle.zf_spec.proofs.RawValues.{length-values_from, values_from_fit, raw-values_from}
 use Rattle.zf_base.specs.Widths.{width_of}
-use Rattle.zf_header.specs.declared.header.Header.{Header}
-use Rattle.zf_header.specs.declared.header.Mode.{Mode}
+use Rattle.zf_header.{specs.declared.header.Header.{Header}, specs.declared.header.Mode.{Mode}}
 use Rattle.zf_header.specs.declared.header.Mode.TheVariants.{Reversible, Rate, Precision}
 use Rattle.zf_header.specs.HeaderBits.{coding, IsHeader, header_bits}
 use Rattle.zf_parse.specs.Raw.{raw_len, raw_bytes, stream_of, stream_text}
 use Rattle.zf_parse.specs.Parsing.{read_code, values_of_blocks, header_of, said_of, parse, restored_text, restore_answer}
-use Rattle.zf_parse.proofs.Steps.{values_said, restore_answer-values}
-use Rattle.zf_parse.proofs.TextOfParse.{text_of_parse}
+use Rattle.zf_parse.{proofs.Steps.{values_said, restore_answer-values}, proofs.TextOfParse.{text_of_parse}}
 use Rattle.zf_parse.proofs.Joined.{values_of_blocks-blocks}
 use Rattle.zf_parse.proofs.ParseOfStream.{end_to_end, ReadsBack, header_of-file, parse-file}
 use Rattle.zf_parse.proofs.BlocksBack.{reads_reversible, reads_rate, reads_prec}

@@ -1,26 +1,17 @@
 -- Bits that go on with more bits say the same, where their codes are whole.
 use Rattle.std.proofs.Common.{◌≡◌, refl, sym, ap, ◌∙◌, ℕ, zero, suc, ◌+◌, ◌-◌, ◌^◌, ◌≤◌, Bool, true, false, cond, ltb, le-ltb, ℤ, Option, Some, None, Result, Ok, Err, List, [], ◌∷◌, ◌++◌, length, take, drop, replicate, length-drop, length-append, arith, rules}
-use Rattle.std.proofs.lemmas.Bool.{ltb-false}
-use Rattle.std.proofs.lemmas.List.{take-append-le, drop-append-le}
-use Rattle.std.specs.Prelude.{is_none}
-use Rattle.std.specs.Int.{Width}
-use Rattle.zf_spec.specs.Numbers.{number}
-use Rattle.zf_spec.specs.Grid.{blocks, extent_of}
-use Rattle.zf_spec.specs.Lorenzo.{unlorenzo}
-use Rattle.zf_spec.specs.Lift.{unlift}
-use Rattle.zf_spec.specs.Planes.{code}
-use Rattle.zf_spec.specs.ReadPlanes.{Begins, planes_in}
+use Rattle.std.{proofs.lemmas.Bool.{ltb-false}, proofs.lemmas.List.{take-append-le, drop-append-le}}
+use Rattle.std.{specs.Prelude.{is_none}, specs.Int.{Width}}
+use Rattle.zf_spec.{specs.Numbers.{number}, specs.Grid.{blocks, extent_of}, specs.Lorenzo.{unlorenzo}}
+use Rattle.zf_spec.{specs.Lift.{unlift}, specs.Planes.{code}, specs.ReadPlanes.{Begins, planes_in}}
 use Rattle.zf_spec.specs.Codes.{count_bits, coefficients_of, existing_values, read_rev, read_prec}
 use Rattle.zf_spec.specs.Stream.{to_bits}
 use Rattle.zf_spec.proofs.Full.{length-planes_in, planes_in-length, full_begins, full_only}
 use Rattle.zf_base.specs.Widths.{width_of}
-use Rattle.zf_header.specs.declared.header.Header.{Header}
-use Rattle.zf_header.specs.declared.header.Mode.{Mode}
+use Rattle.zf_header.{specs.declared.header.Header.{Header}, specs.declared.header.Mode.{Mode}}
 use Rattle.zf_header.specs.declared.header.Mode.TheVariants.{Reversible, Rate, Precision}
-use Rattle.zf_header.specs.declared.header.HeaderFault.{HeaderFault}
-use Rattle.zf_header.specs.HeaderFaults.{header_fault}
-use Rattle.zf_parse.specs.declared.fault.StreamFault.{StreamFault}
-use Rattle.zf_parse.specs.Raw.{raw_bytes}
+use Rattle.zf_header.{specs.declared.header.HeaderFault.{HeaderFault}, specs.HeaderFaults.{header_fault}}
+use Rattle.zf_parse.{specs.declared.fault.StreamFault.{StreamFault}, specs.Raw.{raw_bytes}}
 use Rattle.zf_parse.specs.Parsing.{read_code, read_codes, values_of_blocks, fill_answer, header_of, code_bits, longest_codes, restored_text}
 use Rattle.zf_parse.proofs.Steps.{with_block, read_next, read_codes-suc, values_or_fault, codes_answer, header_or, values_said, values_said-is, blocks_text}
 

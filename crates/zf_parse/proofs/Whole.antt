@@ -1,18 +1,14 @@
 -- The codes of a stream that are read, each whole, and the first that is short.
 use Rattle.std.proofs.Common.{◌≡◌, ◌⊎◌, inl, inr, refl, sym, ap, subst, ◌∙◌, ℕ, zero, suc, ◌+◌, ◌<◌, ◌≤◌, Bool, false, ℤ, Option, Some, None, Result, Ok, Err, List, [], ◌∷◌, ◌++◌, map, length, take, drop, replicate, append_assoc, length-append, arith, rules}
-use Rattle.std.specs.List.{flat_map}
-use Rattle.std.proofs.lemmas.Bool.{cases_lt}
+use Rattle.std.{specs.List.{flat_map}, proofs.lemmas.Bool.{cases_lt}}
 use Rattle.std.proofs.lemmas.List.{append-nil, take-append-drop, take-append-le, take-take, take_at, length-take-le, length-replicate}
 use Rattle.std.proofs.Math.Seq.{take-append_seam, drop-append_seam}
 use Rattle.zf_spec.specs.Grid.{extent_of}
-use Rattle.zf_base.specs.Widths.{width_of}
-use Rattle.zf_base.proofs.Extents.{length-extent_of}
+use Rattle.zf_base.{specs.Widths.{width_of}, proofs.Extents.{length-extent_of}}
 use Rattle.zf_header.specs.declared.header.Header.{Header}
-use Rattle.zf_parse.specs.Parsing.{read_code, coded_blocks, longest_code}
-use Rattle.zf_parse.proofs.Steps.{Coded, codes_in, with_coded, next_coded}
-use Rattle.zf_parse.specs.Cuts.{IsCode, AreCodes}
+use Rattle.zf_parse.{specs.Parsing.{read_code, coded_blocks, longest_code}, specs.Cuts.{IsCode, AreCodes}}
+use Rattle.zf_parse.{proofs.Steps.{Coded, codes_in, with_coded, next_coded}, proofs.Enough.{enough_for_one}}
 use Rattle.zf_parse.proofs.Prefixes.{read_code_whole}
-use Rattle.zf_parse.proofs.Enough.{enough_for_one}
 
 -- ---- codes that are read whole
 

@@ -1,18 +1,13 @@
 -- The digits of a plane as bits of its words, and its ones by the zeros of a word.
-use Rattle.std.proofs.Common.{rules}
-use Rattle.std.proofs.Common.{◌≡◌, ℕ, zero, suc, ◌+◌, ◌-◌, ◌*◌, ◌/◌, ◌%◌, ◌^◌, ◌<◌, ◌≤◌, ⊎_elim, Bool, true, false, eqb, List, [], ◌∷◌, ◌++◌, length, take, drop, replicate, get_or, get_or-take, get_or-drop, ext_get_or, length-take, length-drop, pow_pos, pow-suc, sym, ap, ◌∙◌, arith}
-use Rattle.std.specs.Int.{bit_at, w64, trailing_zeros, leading_zeros}
+use Rattle.std.proofs.Common.{rules, ◌≡◌, ℕ, zero, suc, ◌+◌, ◌-◌, ◌*◌, ◌/◌, ◌%◌, ◌^◌, ◌<◌, ◌≤◌, ⊎_elim, Bool, true, false, eqb, List, [], ◌∷◌, ◌++◌, length, take, drop, replicate, get_or, get_or-take, get_or-drop, ext_get_or, length-take, length-drop, pow_pos, pow-suc, sym, ap, ◌∙◌, arith}
+use Rattle.std.{specs.Int.{bit_at, w64, trailing_zeros, leading_zeros}, specs.Int.Bits.{bit_and}}
 use Rattle.std.proofs.lemmas.Bool.{cases_lt, false≢true}
-use Rattle.std.specs.Int.Bits.{bit_and}
 use Rattle.std.proofs.lemmas.Nat.{shr-shr, shr_le, leading_top, div-add-mod', and_mask}
 use Rattle.std.proofs.lemmas.Nat.Bits.{ones_shr, bit_at-zero, bit_at-trailing_zeros, bit_at_above, bit_at_cat_low, bit_at_cat_high}
 use Rattle.std.proofs.lemmas.List.{get_or_past, take-take, drop-take}
-use Rattle.zf_spec.specs.Numbers.{is_odd, field, word_bits}
-use Rattle.zf_spec.specs.Planes.{has_one, reach}
-use Rattle.zf_spec.specs.HeldPlanes.{digits_held}
-use Rattle.zf_spec.proofs.Fields.{length-field, get_or-field}
-use Rattle.zf_spec.proofs.WordBits.{get_or-word_bits}
-use Rattle.zf_spec.proofs.HeldPlanes.{length-digits_held}
+use Rattle.zf_spec.{specs.Numbers.{is_odd, field, word_bits}, specs.Planes.{has_one, reach}}
+use Rattle.zf_spec.{specs.HeldPlanes.{digits_held}, proofs.Fields.{length-field, get_or-field}}
+use Rattle.zf_spec.{proofs.WordBits.{get_or-word_bits}, proofs.HeldPlanes.{length-digits_held}}
 use Rattle.zf_spec.proofs.Reach.{none_from_each, reach_only}
 
 -- ---- a digit is a bit of one of the words
@@ -139,15 +134,22 @@ shl_bit v s i within =
     let n = v * 2 ^ s in
     let whole : n ≡ n + 0 = omega arith in
     let place : i + s - s ≡ i = omega arith in
-    cc (bit_at_cat_low (n / 2 ^ 64) 64 (n % 2 ^ 64) (i + s) within, div-add-mod' n (2 ^ 64),
-        bit_at_cat_high v s 0 (i + s) (pow_pos s) (omega arith))
+    cc (
+      bit_at_cat_low (n / 2 ^ 64) 64 (n % 2 ^ 64) (i + s) within,
+      div-add-mod' n (2 ^ 64),
+      bit_at_cat_high v s 0 (i + s) (pow_pos s) (omega arith),
+    )
 
 shl_low : (v s i : ℕ) → i < s → s < 64 → bit_at (v * 2 ^ s % 2 ^ 64) i ≡ 0
 shl_low v s i low small =
     let n = v * 2 ^ s in
     let whole : n ≡ n + 0 = omega arith in
-    cc (bit_at_cat_low (n / 2 ^ 64) 64 (n % 2 ^ 64) i (omega arith), div-add-mod' n (2 ^ 64),
-        bit_at_cat_low v s 0 i low, bit_at-zero i)
+    cc (
+      bit_at_cat_low (n / 2 ^ 64) 64 (n % 2 ^ 64) i (omega arith),
+      div-add-mod' n (2 ^ 64),
+      bit_at_cat_low v s 0 i low,
+      bit_at-zero i,
+    )
 
 -- the digit of a rank whose word is w, after that word is shifted up so that bit `top` is the highest
 digit_shifted : (size top r w : ℕ) (ws : List ℕ) → w ≡ get_or ws (top / 64) 0 → size ≤ 64 * length ws → top / 64 ≡ r / 64 → r ≤ top → r < size
@@ -164,8 +166,10 @@ pub none_in_word : (size end w : ℕ) (ws : List ℕ) → 0 < end → end ≤ si
 none_in_word size end w ws some within is long zeros none j from =
     ⊎_elim
     (λ (below : j < end).
-    cc (digit_shifted size (end - 1) j w ws is long (omega arith) (omega arith) (omega arith),
-        bit_at-zero (j % 64 + (63 - (end - 1) % 64))))
+    cc (
+      digit_shifted size (end - 1) j w ws is long (omega arith) (omega arith) (omega arith),
+      bit_at-zero (j % 64 + (63 - (end - 1) % 64)),
+    ))
     (λ (above : end ≤ j). zeros j above)
     (cases_lt j end)
 

@@ -1,20 +1,13 @@
 -- The code of runs: digits before others are doubled, and zeros behind the last one but the first make no difference.
-use Rattle.std.proofs.Common.{rules}
-use Rattle.std.proofs.Common.{◌≡◌, ◌≢◌, ℕ, zero, suc, ◌+◌, ◌-◌, ◌*◌, ◌/◌, ◌%◌, ◌^◌, ◌<◌, ◌≤◌, ⊎_elim, Bool, true, false, cond, ◌&&◌, ◌||◌, ltb, eqb, List, [], ◌∷◌, ◌++◌, get_or, replicate, refl, sym, ap, ◌∙◌, arith, pow-suc, lit<, take, drop, append-nil}
-use Rattle.std.proofs.Math.Nat.{pow-le-pow_right, div-eq_of_lt}
-use Rattle.std.specs.Int.{leading_zeros, w64}
-use Rattle.std.proofs.lemmas.Nat.{pow-add, shr_below}
+use Rattle.std.proofs.Common.{rules, ◌≡◌, ◌≢◌, ℕ, zero, suc, ◌+◌, ◌-◌, ◌*◌, ◌/◌, ◌%◌, ◌^◌, ◌<◌, ◌≤◌, ⊎_elim, Bool, true, false, cond, ◌&&◌, ◌||◌, ltb, eqb, List, [], ◌∷◌, ◌++◌, get_or, replicate, refl, sym, ap, ◌∙◌, arith, pow-suc, lit<, take, drop, append-nil}
+use Rattle.std.{proofs.Math.Nat.{pow-le-pow_right, div-eq_of_lt}, specs.Int.{leading_zeros, w64}}
+use Rattle.std.{proofs.lemmas.Nat.{pow-add, shr_below}, proofs.lemmas.Bool.Decides.{nat_tests}}
 use Rattle.std.proofs.lemmas.Bool.{cases_lt, false≢true, and_parts, ltb-true, lt-ltb, eqb-false}
-use Rattle.std.proofs.lemmas.Bool.Decides.{nat_tests}
-use Rattle.zf_spec.specs.Numbers.{field}
-use Rattle.zf_spec.specs.Planes.{has_one, code_from_run, plane_code}
-use Rattle.zf_spec.proofs.Fields.{field-add, field-mod, field-zero}
-use Rattle.zf_spec.proofs.PlaneCode.{tail-zeros}
-use Rattle.zf_spec.proofs.Full.{tail-some}
+use Rattle.zf_spec.{specs.Numbers.{field}, specs.Planes.{has_one, code_from_run, plane_code}}
+use Rattle.zf_spec.{proofs.Fields.{field-add, field-mod, field-zero}, proofs.PlaneCode.{tail-zeros}}
+use Rattle.zf_spec.{proofs.Full.{tail-some}, proofs.Reach.{has_one-zeros}}
 use Rattle.zf_bits.proofs.Fields.{take-field, drop-field, field_more}
-use Rattle.zf_spec.proofs.Reach.{has_one-zeros}
-use Rattle.zf_planes.specs.Doubled.{doubled}
-use Rattle.zf_planes.specs.declared.entries.TheConstants.{DOUBLED}
+use Rattle.zf_planes.{specs.Doubled.{doubled}, specs.declared.entries.TheConstants.{DOUBLED}}
 use Rattle.zf_planes.proofs.Tables.{same_digits, same_digits-true, each_below, each_below-true}
 
 -- ---- digits of a run before others
@@ -52,15 +45,21 @@ run_ends (e ∷ es) none n = ap (λ t. true ∷ cond t (true ∷ code_from_run (
 pub run_zeros_behind : (ds : List Bool) (k : ℕ) → has_one ds ≡ true → code_from_run (ds ++ replicate (suc k) false) ≡ code_from_run (ds ++ false ∷ [])
 run_zeros_behind [] k one = absurd (false≢true one)
 run_zeros_behind (false ∷ ds) k one =
-    cc (zero_once (ds ++ replicate (suc k) false) (has_one-zeros_behind ds (suc k) ∙ one),
-        run_zeros_behind ds k one, zero_once (ds ++ false ∷ []) (has_one-zeros_behind ds 1 ∙ one))
+    cc (
+      zero_once (ds ++ replicate (suc k) false) (has_one-zeros_behind ds (suc k) ∙ one),
+      run_zeros_behind ds k one,
+      zero_once (ds ++ false ∷ []) (has_one-zeros_behind ds 1 ∙ one),
+    )
 run_zeros_behind (true ∷ ds) k one = by (has_one ds) refl (λ more. run_zeros_behind ds k more)
   where
     by : (t : Bool) → has_one ds ≡ t → (has_one ds ≡ true → code_from_run (ds ++ replicate (suc k) false) ≡ code_from_run (ds ++ false ∷ []))
         → code_from_run (true ∷ (ds ++ replicate (suc k) false)) ≡ code_from_run (true ∷ (ds ++ false ∷ []))
     by true more rest =
-        cc (one_doubled (ds ++ replicate (suc k) false) (has_one-zeros_behind ds (suc k) ∙ more), rest more,
-            one_doubled (ds ++ false ∷ []) (has_one-zeros_behind ds 1 ∙ more))
+        cc (
+          one_doubled (ds ++ replicate (suc k) false) (has_one-zeros_behind ds (suc k) ∙ more),
+          rest more,
+          one_doubled (ds ++ false ∷ []) (has_one-zeros_behind ds 1 ∙ more),
+        )
     by false none rest = run_ends ds none k ∙ sym (run_ends ds none 0)
 
 -- ---- a number below 2^n that is not 0 has a one among its n lowest bits
@@ -129,8 +128,8 @@ run_of_entry_to_9 most digits e some nine one eight within is =
     let low : i % 256 ≡ digits = omega arith in
     let whole : test_run most digits e ≡ true =
     cc (
-        each_below-true (λ j. test_run (j / 256 + 1) (j % 256) (get_or DOUBLED (j % 256) 0)) 2304 i test_runs
-            (omega arith)) in
+    each_below-true (λ j. test_run (j / 256 + 1) (j % 256) (get_or DOUBLED (j % 256) 0)) 2304 i test_runs
+    (omega arith)) in
     let there : eqb digits 0 ≡ false = grind (arith, nat_tests) in search (rules, lt-ltb, and_parts, same_digits, same_digits-true, ltb-true)
 
 -- more digits make no difference, where they are zeros
@@ -158,7 +157,7 @@ run_of_entry most digits e one eight within is = ⊎_elim
     let all = not_last most digits nine eight in
     let all_of_9 = not_last 9 digits (omega arith) eight in
     let bits : field (run_len digits e - implied most digits) (run_bits digits e)
-        ≡ code_from_run (field most digits) =
+    ≡ code_from_run (field most digits) =
     cc (all, all_of_9, short.bits, nine_digits most digits nine one eight) in search rules)
     (cases_lt most 9)
   where
@@ -183,9 +182,11 @@ run_goes_on most digits some within =
       more = long;
       below = below;
       code =
-          cc (field-add 8 (most - 8) digits,
-              run_doubled (field 8 digits) (field (most - 8) (digits / 256)) (has_one-field (most - 8) (digits / 256) (omega arith) below),
-              field-mod 8 digits);
+          cc (
+            field-add 8 (most - 8) digits,
+            run_doubled (field 8 digits) (field (most - 8) (digits / 256)) (has_one-field (most - 8) (digits / 256) (omega arith) below),
+            field-mod 8 digits,
+          );
     }
   where
     long : 8 < most

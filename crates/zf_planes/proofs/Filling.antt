@@ -7,8 +7,11 @@ pub behind_set : {A : Type 0} (xs : List A) (x z : A) (i k : ℕ) → drop i xs 
 behind_set xs x z i k e =
     let place : i + k + 1 ≡ i + (k + 1) = omega arith in
     let count : length xs - i - (k + 1) ≡ length (set xs (i + k) x) - (i + k + 1) = omega (arith, length-set xs (i + k) x) in
-    cc (drop-set-lt (i + k + 1) xs (i + k) x (omega arith), drop-drop (k + 1) i xs,
-        drop-replicate (k + 1) (length xs - i) z)
+    cc (
+      drop-set-lt (i + k + 1) xs (i + k) x (omega arith),
+      drop-drop (k + 1) i xs,
+      drop-replicate (k + 1) (length xs - i) z,
+    )
 
 -- behind the next place
 pub behind_next : {A : Type 0} (xs : List A) (x z : A) (i : ℕ) → drop i xs ≡ replicate (length xs - i) z → drop (i + 1) (set xs i x) ≡ replicate (length (set xs i x) - (i + 1)) z

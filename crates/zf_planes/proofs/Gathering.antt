@@ -1,18 +1,13 @@
 -- Bits of several planes in one word.
-use Rattle.std.proofs.Common.{rules}
-use Rattle.std.proofs.Common.{◌≡◌, ℕ, zero, suc, false, set, replicate, refl, ◌∷◌, ◌+◌, ◌-◌, ◌*◌, ◌/◌, ◌%◌, ◌^◌, ◌<◌, ◌≤◌, ⊎_elim, min, Bool, List, ◌++◌, length, take, drop, get_or, sym, ap, ◌∙◌, arith}
-use Rattle.std.specs.Int.Bits.{bit_or}
-use Rattle.std.proofs.Math.Nat.{pow-le-pow_right, mod-le, div-eq_of_lt}
-use Rattle.std.proofs.Math.Seq.{take-append-add}
-use Rattle.std.proofs.lemmas.Bool.{cases_lt}
+use Rattle.std.proofs.Common.{rules, ◌≡◌, ℕ, zero, suc, false, set, replicate, refl, ◌∷◌, ◌+◌, ◌-◌, ◌*◌, ◌/◌, ◌%◌, ◌^◌, ◌<◌, ◌≤◌, ⊎_elim, min, Bool, List, ◌++◌, length, take, drop, get_or, sym, ap, ◌∙◌, arith}
+use Rattle.std.{specs.Int.Bits.{bit_or}, proofs.Math.Nat.{pow-le-pow_right, mod-le, div-eq_of_lt}}
+use Rattle.std.{proofs.Math.Seq.{take-append-add}, proofs.lemmas.Bool.{cases_lt}}
 use Rattle.std.proofs.lemmas.Nat.{or_lt, shl_below}
 use Rattle.std.proofs.lemmas.List.{take_all, drop_at, length-append, length-replicate, replicate-append-replicate}
-use Rattle.zf_spec.specs.Numbers.{field, word_bits}
-use Rattle.zf_spec.specs.HeldPlanes.{digits_held, IsClearFrom}
+use Rattle.zf_spec.{specs.Numbers.{field, word_bits}, specs.HeldPlanes.{digits_held, IsClearFrom}}
 use Rattle.zf_spec.proofs.Fields.{length-field, field-add, field-zero, field-mod}
 use Rattle.zf_spec.proofs.HeldPlanes.{length-digits_held}
-use Rattle.zf_bits.proofs.Fields.{take-field}
-use Rattle.zf_bits.proofs.Words.{field_or}
+use Rattle.zf_bits.{proofs.Fields.{take-field}, proofs.Words.{field_or}}
 use Rattle.zf_planes.proofs.Digits.{field_in_word}
 
 -- as many bits of a word as a budget has
@@ -33,8 +28,12 @@ bits_behind len n a v within small =
     let whole : 64 ≡ (len + n) + more = omega arith in
     let high : 64 - len ≡ n + more = omega arith in
     let place : len + n ≡ length (field len a) + n = omega (arith, length-field len a) in
-    cc (take-field (len + n) more x, field_or 64 len (64 - len) v a (omega arith) small,
-        take-append-add (field len a) (field (64 - len) v) n, take-field n more v)
+    cc (
+      take-field (len + n) more x,
+      field_or 64 len (64 - len) v a (omega arith) small,
+      take-append-add (field len a) (field (64 - len) v) n,
+      take-field n more v,
+    )
 
 pub small_behind : (len n a v : ℕ) → a < 2 ^ len → v < 2 ^ n → bit_or a (v * 2 ^ len % 2 ^ 64) < 2 ^ (len + n)
 small_behind len n a v small narrow =

@@ -1,14 +1,11 @@
 -- Tables of planes of four digits in lanes, each entry of which is what the definitions say, by computation.
-use Rattle.std.proofs.Common.{rules}
-use Rattle.std.proofs.Common.{◌≡◌, ℕ, suc, ◌+◌, ◌*◌, ◌/◌, ◌%◌, ◌^◌, ◌-◌, ◌<◌, min, max, Bool, true, false, ◌&&◌, cond, eqb, ltb, List, [], ◌∷◌, get_or, refl, sym, ap, ◌∙◌, arith}
-use lib.Bits.{bit_and}
+use Rattle.std.proofs.Common.{rules, ◌≡◌, ℕ, suc, ◌+◌, ◌*◌, ◌/◌, ◌%◌, ◌^◌, ◌-◌, ◌<◌, min, max, Bool, true, false, ◌&&◌, cond, eqb, ltb, List, [], ◌∷◌, get_or, refl, sym, ap, ◌∙◌, arith}
 use Rattle.std.proofs.lemmas.Nat.{shr_high, mod_low, mul-add-lt}
 use Rattle.std.proofs.lemmas.Bool.{false≢true, and_parts, eqb-true, ltb-true}
-use Rattle.zf_spec.specs.Numbers.{field}
-use Rattle.zf_spec.specs.Planes.{code_from, reach_of_all}
-use Rattle.zf_planes.specs.Decoding.{planes_ahead, planes_bits}
+use lib.Bits.{bit_and}
+use Rattle.zf_spec.{specs.Numbers.{field}, specs.Planes.{code_from, reach_of_all}}
+use Rattle.zf_planes.{specs.Decoding.{planes_ahead, planes_bits}, proofs.LanesAhead.{planes_bits-le}}
 use Rattle.zf_planes.specs.Lanes.{low_planes, lanes_in, lanes_apart, AreBelow, AreInSight, AreAtEnd}
-use Rattle.zf_planes.proofs.LanesAhead.{planes_bits-le}
 use Rattle.zf_planes.proofs.Tables.{same_digits, same_digits-true, each_below, each_below-true}
 use Rattle.zf_planes.specs.declared.entries.TheConstants.{LANES}
 
@@ -66,7 +63,7 @@ lanes_of_entry n bits e in_plane eight is =
     let low : i % 256 ≡ bits = omega arith in
     let test : test_entry n bits e ≡ true =
     cc (
-        each_below-true (λ j. test_entry (j / 256) (j % 256) (get_or LANES j 0)) 768 i test_all_lanes (omega arith)) in
+    each_below-true (λ j. test_entry (j / 256) (j % 256) (get_or LANES j 0)) 768 i test_all_lanes (omega arith)) in
     lanes_tested n bits (lanes_apart (e % 65536)) (e / 65536 % 16) (e / 1048576 % 8) (e / 8388608) test
 
 -- ---- planes by the last bits of a budget

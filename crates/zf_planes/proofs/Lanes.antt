@@ -1,13 +1,9 @@
 -- Digits of four coefficients in words, and in four lanes of one word.
-use Rattle.std.proofs.Common.{rules}
-use Rattle.std.proofs.Common.{◌≡◌, ℕ, zero, suc, ◌+◌, ◌-◌, ◌*◌, ◌/◌, ◌%◌, ◌^◌, ◌<◌, ◌≤◌, Bool, false, List, [], ◌∷◌, ◌++◌, length, map, get_or, replicate, refl, sym, ap, ◌∙◌, arith, ext_get_or, pow-suc, lit<, append_assoc}
-use Rattle.std.proofs.Math.Nat.{div-eq_of_lt, mod-eq_of_lt, pow-le-pow_right}
+use Rattle.std.proofs.Common.{rules, ◌≡◌, ℕ, zero, suc, ◌+◌, ◌-◌, ◌*◌, ◌/◌, ◌%◌, ◌^◌, ◌<◌, ◌≤◌, Bool, false, List, [], ◌∷◌, ◌++◌, length, map, get_or, replicate, refl, sym, ap, ◌∙◌, arith, ext_get_or, pow-suc, lit<, append_assoc}
+use Rattle.std.{proofs.Math.Nat.{div-eq_of_lt, mod-eq_of_lt, pow-le-pow_right}, specs.List.{All}}
 use Rattle.std.proofs.lemmas.Nat.{pow_pos, pow-add, shr-shr, shr_high, mod_low, mul-add-lt, shl_whole}
-use Rattle.std.proofs.lemmas.List.{length-map, append-nil}
-use Rattle.std.proofs.lemmas.List.Elements.{All-cons, All-nil}
-use Rattle.std.specs.List.{All}
-use Rattle.zf_spec.specs.Numbers.{is_odd, field}
-use Rattle.zf_spec.specs.Planes.{plane, planes_of, AreOfSize}
+use Rattle.std.{proofs.lemmas.List.{length-map, append-nil}, proofs.lemmas.List.Elements.{All-cons, All-nil}}
+use Rattle.zf_spec.{specs.Numbers.{is_odd, field}, specs.Planes.{plane, planes_of, AreOfSize}}
 use Rattle.zf_spec.proofs.Fields.{get_or-field, field-mod}
 use Rattle.zf_spec.proofs.PlaneDigits.{length-planes_of, get_or-planes_of}
 use Rattle.zf_planes.specs.Lanes.{low_planes, lanes_in, AreBelow, joined, IsGathered, gathered}
@@ -204,10 +200,14 @@ gathered_more words done lanes held e c before small room =
     let back = lanes_in 4 e in
     let same : length prefix ≡ length back = length-lanes_in 4 lanes ∙ sym (length-lanes_in 4 e) in
     let is = lanes_joined 4 lanes e held c before.back small room in
-    let below = joined_below held c prefix back same before.back small in
-    (record { four = before.four; prefix = before.prefix; back = rw is below },
-        cc (is, planes_joined held c prefix back same small,
-            append_assoc (low_planes done words) (low_planes held prefix) (low_planes c back)))
+    let below = joined_below held c prefix back same before.back small in (
+      record { four = before.four; prefix = before.prefix; back = rw is below },
+      cc (
+        is,
+        planes_joined held c prefix back same small,
+        append_assoc (low_planes done words) (low_planes held prefix) (low_planes c back),
+      ),
+    )
 
 -- what is in the lanes is put into the words
 pub gathered_down : (words : List ℕ) (done lanes held : ℕ) → IsGathered words done lanes held
@@ -259,7 +259,7 @@ pub put_words : (words : List ℕ) (done lanes held : ℕ) → IsGathered words 
     ≡ gathered words done lanes held)
 put_words words done lanes held before room =
     rw (put_together words done lanes held before.four before.prefix room) at
-        (gathered_down words done lanes held before)
+    (gathered_down words done lanes held before)
 
 -- lanes as they are put together
 pub lanes_put : (words : List ℕ) (done lanes held e c : ℕ) → lanes < 2 ^ 64 → e < 2 ^ 64 → IsGathered words done lanes held → AreBelow c (lanes_in 4 e) → held + c ≤ 16

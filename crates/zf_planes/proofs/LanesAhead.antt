@@ -1,26 +1,18 @@
 -- Planes of four digits that are read at once, in lanes.
-use Rattle.std.proofs.Common.{rules}
-use Rattle.std.proofs.Common.{◌≡◌, ℕ, zero, suc, ◌+◌, ◌-◌, ◌*◌, ◌/◌, ◌%◌, ◌^◌, ◌<◌, ◌≤◌, min, max, Bool, true, false, eqb, List, [], ◌∷◌, ◌++◌, length, take, drop, replicate, ⊎_elim, refl, sym, ap, subst, ◌∙◌, arith}
-use Rattle.std.proofs.Math.Nat.{div-eq_of_lt, mod-eq_of_lt}
-use Rattle.std.proofs.Math.Pow.{shr_lt, pow_mono}
-use Rattle.std.proofs.lemmas.Bool.{cases_lt}
+use Rattle.std.proofs.Common.{rules, ◌≡◌, ℕ, zero, suc, ◌+◌, ◌-◌, ◌*◌, ◌/◌, ◌%◌, ◌^◌, ◌<◌, ◌≤◌, min, max, Bool, true, false, eqb, List, [], ◌∷◌, ◌++◌, length, take, drop, replicate, ⊎_elim, refl, sym, ap, subst, ◌∙◌, arith}
+use Rattle.std.{proofs.Math.Nat.{div-eq_of_lt, mod-eq_of_lt}, proofs.Math.Pow.{shr_lt, pow_mono}}
+use Rattle.std.{proofs.lemmas.Bool.{cases_lt}, proofs.lemmas.List.Elements.{All-head, All-tail}}
 use Rattle.std.proofs.lemmas.List.{append_assoc, append-nil, drop-drop, length-drop, length-take, take_at, take-take}
-use Rattle.std.proofs.lemmas.List.Elements.{All-head, All-tail}
-use Rattle.zf_spec.specs.Numbers.{field, number, is_odd}
+use Rattle.zf_spec.{specs.Numbers.{field, number, is_odd}, specs.Kept.{kept_planes_from}}
 use Rattle.zf_spec.specs.Planes.{code_from, reach, reach_of_all, AreOfSize}
-use Rattle.zf_spec.specs.Kept.{kept_planes_from}
-use Rattle.zf_spec.specs.ReadPlanes.{planes_in_from}
+use Rattle.zf_spec.{specs.ReadPlanes.{planes_in_from}, proofs.Reach.{reach-le, reach_within}}
 use Rattle.zf_spec.proofs.Fields.{length-field, number-field, number-lt, number-zeros, number-append, field-add, field-zero}
-use Rattle.zf_spec.proofs.Reach.{reach-le, reach_within}
-use Rattle.zf_bits.proofs.Fields.{field-mod, take-field}
-use Rattle.zf_bits.specs.Reader.{Reader, rest}
+use Rattle.zf_bits.{proofs.Fields.{field-mod, take-field}, specs.Reader.{Reader, rest}}
 use Rattle.zf_planes.specs.Decoding.{IsWindow, Takes, plane_ahead, plane_bits, planes_ahead, planes_bits}
-use Rattle.zf_planes.specs.Fours.{string_planes}
+use Rattle.zf_planes.{specs.Fours.{string_planes}, proofs.Doubled.{plane_whole}}
 use Rattle.zf_planes.specs.Lanes.{low_planes, lanes_in, AreBelow, IsGathered, gathered, ReadsPlanes, ReadsSome}
-use Rattle.zf_planes.proofs.Doubled.{plane_whole}
 use Rattle.zf_planes.proofs.Lanes.{length-low_planes, low_planes-sizes, length-lanes_in, one_behind, no_lanes_below}
-use Rattle.zf_planes.proofs.Strings.{code_from-append}
-use Rattle.zf_planes.proofs.Passing.{Passes, Passes-part, Takes-rest}
+use Rattle.zf_planes.{proofs.Strings.{code_from-append}, proofs.Passing.{Passes, Passes-part, Takes-rest}}
 use Rattle.zf_planes.proofs.Peeking.{window_prefix, window_behind, window_long}
 use Rattle.zf_planes.proofs.PlaneAhead.{whole_plane}
 use Rattle.zf_planes.proofs.PlanesAhead.{whole_planes, next_plane, planes_ahead-none, planes_bits-none}

@@ -1,18 +1,12 @@
 -- Planes of four digits in which three ranks have had a one: each is its own code, as where all four have.
-use Rattle.std.proofs.Common.{rules}
-use Rattle.std.proofs.Common.{◌≡◌, ℕ, zero, suc, ◌+◌, ◌-◌, ◌*◌, ◌<◌, ◌≤◌, min, max, Bool, true, false, List, [], ◌∷◌, length, take, drop, refl, ap, ◌∙◌, ⊎_elim, arith}
-use Rattle.std.proofs.lemmas.Bool.{cases_lt}
-use Rattle.std.proofs.lemmas.List.{length-append}
+use Rattle.std.proofs.Common.{rules, ◌≡◌, ℕ, zero, suc, ◌+◌, ◌-◌, ◌*◌, ◌<◌, ◌≤◌, min, max, Bool, true, false, List, [], ◌∷◌, length, take, drop, refl, ap, ◌∙◌, ⊎_elim, arith}
+use Rattle.std.{proofs.lemmas.Bool.{cases_lt}, proofs.lemmas.List.{length-append}}
 use Rattle.std.proofs.lemmas.List.Elements.{All-nil, All-cons, All-head, All-tail}
-use Rattle.zf_spec.specs.Planes.{plane_code, code_from, reach, AreOfSize}
-use Rattle.zf_spec.specs.Kept.{kept_plane, kept_planes_from}
-use Rattle.zf_spec.specs.ReadPlanes.{plane_in, planes_in_from}
-use Rattle.zf_spec.proofs.Full.{length-plane_in}
-use Rattle.zf_spec.proofs.KeptSame.{kept_whole}
-use Rattle.zf_spec.proofs.Reach.{reach_within}
+use Rattle.zf_spec.{specs.Planes.{plane_code, code_from, reach, AreOfSize}, proofs.Full.{length-plane_in}}
+use Rattle.zf_spec.{specs.Kept.{kept_plane, kept_planes_from}, specs.ReadPlanes.{plane_in, planes_in_from}}
+use Rattle.zf_spec.{proofs.KeptSame.{kept_whole}, proofs.Reach.{reach_within}}
 use Rattle.zf_bits.specs.Reader.{Reader, rest}
-use Rattle.zf_planes.specs.Decoding.{planes_ahead, planes_bits}
-use Rattle.zf_planes.specs.Lanes.{ReadsPlanes, ReadsSome}
+use Rattle.zf_planes.{specs.Decoding.{planes_ahead, planes_bits}, specs.Lanes.{ReadsPlanes, ReadsSome}}
 
 -- a list of four
 pub record IsFour (ds : List Bool) : Type 0 where

@@ -1,20 +1,15 @@
 -- How long the tail of a plane is: a group bit for each one, a digit for each rank up to the last one, and the end.
-use Rattle.std.proofs.Common.{rules}
-use Rattle.std.proofs.Common.{◌≡◌, ℕ, zero, suc, ◌+◌, ◌-◌, ◌*◌, ◌/◌, ◌%◌, ◌^◌, ◌<◌, ◌≤◌, Bool, true, false, cond, eqb, List, [], ◌∷◌, ◌++◌, length, take, drop, get_or, count_by, refl, sym, ap, ◌∙◌, arith, length-append, pow-suc}
-use Rattle.std.proofs.lemmas.Bool.{false≢true}
-use lib.Count.{ones_step}
-use Rattle.std.specs.Int.Bits.{bit_and}
-use Rattle.std.specs.Int.Count.{ones as number_ones}
-use Rattle.std.proofs.lemmas.Nat.{ones_le_self, mod_below, pow_pos}
+use Rattle.std.proofs.Common.{rules, ◌≡◌, ℕ, zero, suc, ◌+◌, ◌-◌, ◌*◌, ◌/◌, ◌%◌, ◌^◌, ◌<◌, ◌≤◌, Bool, true, false, cond, eqb, List, [], ◌∷◌, ◌++◌, length, take, drop, get_or, count_by, refl, sym, ap, ◌∙◌, arith, length-append, pow-suc}
+use Rattle.std.{proofs.lemmas.Bool.{false≢true}, specs.Int.Bits.{bit_and}}
+use Rattle.std.{specs.Int.Count.{ones as number_ones}, proofs.lemmas.Nat.{ones_le_self, mod_below, pow_pos}}
 use Rattle.std.proofs.lemmas.List.{length-take, take-append-drop, drop-drop}
 use Rattle.std.proofs.lemmas.List.Sums.{sum_by-cons, sum_by-append}
+use lib.Count.{ones_step}
 use Rattle.zf_spec.specs.Planes.{has_one, reach, group, code_from_run, tail, plane_code, code}
-use Rattle.zf_spec.specs.Numbers.{is_odd, field}
-use Rattle.zf_spec.specs.HeldPlanes.{digits_held, planes_held}
-use Rattle.zf_spec.proofs.Fields.{field-mod}
-use Rattle.zf_planes.proofs.Digits.{masked, field_in_word}
-use Rattle.zf_spec.proofs.Reach.{reach_none, reach_some}
+use Rattle.zf_spec.{specs.Numbers.{is_odd, field}, specs.HeldPlanes.{digits_held, planes_held}}
+use Rattle.zf_spec.{proofs.Fields.{field-mod}, proofs.Reach.{reach_none, reach_some}}
 use Rattle.zf_spec.proofs.PlaneCode.{length-code-le}
+use Rattle.zf_planes.proofs.Digits.{masked, field_in_word}
 use Rattle.zf_planes.proofs.Unpacking.{length-top_held, sizes-top_words}
 
 -- how many ones there are
@@ -84,8 +79,12 @@ pub part_ones : (size at n w : ℕ) (ws : List ℕ) → w ≡ get_or ws (at / 64
     → number_ones (bit_and (w / 2 ^ (at % 64)) (18446744073709551615 / 2 ^ (64 - n))) ≡ ones (take n (drop at (digits_held size ws)))
 part_ones size at n w ws is long same within =
     let v = w / 2 ^ (at % 64) in
-    cc (masked v n (omega arith), field_ones n (v % 2 ^ n) (mod_below v (2 ^ n) (pow_pos n)), field-mod n v,
-        field_in_word size at n w ws is long same within)
+    cc (
+      masked v n (omega arith),
+      field_ones n (v % 2 ^ n) (mod_below v (2 ^ n) (pow_pos n)),
+      field-mod n v,
+      field_in_word size at n w ws is long same within,
+    )
 
 -- and those behind them
 pub ones_split : (at n : ℕ) (ds : List Bool) → ones (drop at ds) ≡ ones (take n (drop at ds)) + ones (drop (at + n) ds)

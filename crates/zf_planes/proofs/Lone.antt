@@ -1,24 +1,16 @@
 -- Planes of four digits in which the first rank alone has ones.
-use Rattle.std.proofs.Common.{rules}
-use Rattle.std.proofs.Common.{◌≡◌, ℕ, zero, suc, ◌+◌, ◌-◌, ◌*◌, ◌/◌, ◌^◌, ◌<◌, ◌≤◌, max, Bool, true, false, eqb, List, [], ◌∷◌, ◌++◌, map, get_or, refl, ap, ◌∙◌, arith, pow-suc}
-use Rattle.std.proofs.lemmas.Bool.{eqb-true}
-use Rattle.std.proofs.lemmas.Nat.{le_or_l, le_or_r, leading_length}
-use Rattle.std.specs.Int.{w64, leading_zeros}
-use Rattle.std.proofs.Math.Nat.{div-eq_of_lt}
-use Rattle.std.proofs.Math.Pow.{pow_mono}
+use Rattle.std.proofs.Common.{rules, ◌≡◌, ℕ, zero, suc, ◌+◌, ◌-◌, ◌*◌, ◌/◌, ◌^◌, ◌<◌, ◌≤◌, max, Bool, true, false, eqb, List, [], ◌∷◌, ◌++◌, map, get_or, refl, ap, ◌∙◌, arith, pow-suc}
+use Rattle.std.{proofs.lemmas.Bool.{eqb-true}, proofs.lemmas.Nat.{le_or_l, le_or_r, leading_length}}
+use Rattle.std.{specs.Int.{w64, leading_zeros}, proofs.Math.Nat.{div-eq_of_lt}, proofs.Math.Pow.{pow_mono}}
 use Rattle.std.specs.Int.RustNames.{bit_or}
 use lib.Bits.{bit_and}
-use Rattle.zf_spec.specs.Numbers.{field, is_odd, digit_value}
-use Rattle.zf_spec.specs.Grid.{count_from, upto}
-use Rattle.zf_spec.specs.Planes.{code_from, reach_of_all}
+use Rattle.zf_spec.{specs.Numbers.{field, is_odd, digit_value}, specs.Grid.{count_from, upto}}
+use Rattle.zf_spec.{specs.Planes.{code_from, reach_of_all}, proofs.Fields.{field-add, is_odd-digit_value}}
 use Rattle.zf_planes.specs.Spread.{top_digit, top_planes, spread, lone_planes, lone_code}
-use Rattle.zf_planes.specs.declared.entries.TheConstants.{SPREAD}
-use Rattle.zf_spec.proofs.Fields.{field-add, is_odd-digit_value}
-use Rattle.zf_bits.proofs.Fields.{digit_value_le}
+use Rattle.zf_planes.{specs.declared.entries.TheConstants.{SPREAD}, proofs.Strings.{code_from-append}}
 use Rattle.zf_planes.proofs.Tables.{each_below, each_below-true}
-use Rattle.zf_planes.proofs.TopPlanes.{map-from, top_planes-split}
-use Rattle.zf_planes.proofs.Strings.{code_from-append}
-use Rattle.zf_planes.proofs.TopPlanes.{below}
+use Rattle.zf_planes.proofs.TopPlanes.{map-from, top_planes-split, below}
+use Rattle.zf_bits.proofs.Fields.{digit_value_le}
 
 -- ---- their code
 
@@ -50,8 +42,11 @@ lone_field (suc m) (suc k) f within =
     let first : is_odd v ≡ f 0 = ap is_odd twice ∙ is_odd-digit_value (f 0) (2 * r) in
     let second : is_odd (v / 2) ≡ false = ap is_odd half ∙ is_odd-digit_value false r in
     let rest : v / 4 ≡ r = omega arith in
-    cc (field-add 2 (2 * m) v, lone_field m k next (omega arith),
-        map-from f next 1 m false (λ i here. let place : 1 + i ≡ suc i = omega arith in ap f place))
+    cc (
+      field-add 2 (2 * m) v,
+      lone_field m k next (omega arith),
+      map-from f next 1 m false (λ i here. let place : 1 + i ≡ suc i = omega arith in ap f place),
+    )
 
 -- and behind the group bit of the first one
 pub lone_bits : (m k : ℕ) (f : ℕ → Bool) → m ≤ k → field (1 + 2 * m) (1 + 2 * spread 4 k f) ≡ true ∷ lone_code (map f (upto m))
@@ -112,5 +107,9 @@ lone_first planes (suc m) words some within most first lone =
     let ds = map (top_digit (get_or words 0 0)) (upto (suc m)) in
     let rest = top_planes (planes - suc m) (map (below (suc m)) words) in
     let code = lone_from_none ds first in
-    cc (top_planes-split planes (suc m) words within most, code_from-append 0 (lone_planes ds) rest, code.0,
-        code.1)
+    cc (
+      top_planes-split planes (suc m) words within most,
+      code_from-append 0 (lone_planes ds) rest,
+      code.0,
+      code.1,
+    )

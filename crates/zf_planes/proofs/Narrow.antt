@@ -1,17 +1,12 @@
 -- Planes in which the first three ranks alone have ones, by the code of planes of four digits.
-use Rattle.std.proofs.Common.{rules}
-use Rattle.std.proofs.Common.{◌≡◌, ℕ, zero, suc, ◌+◌, ◌-◌, ◌*◌, ◌/◌, ◌%◌, ◌<◌, ◌≤◌, max, Bool, true, false, cond, List, [], ◌∷◌, ◌++◌, length, map, take, drop, get_or, replicate, refl, sym, ap, ◌∙◌, arith, append_assoc}
+use Rattle.std.proofs.Common.{rules, ◌≡◌, ℕ, zero, suc, ◌+◌, ◌-◌, ◌*◌, ◌/◌, ◌%◌, ◌<◌, ◌≤◌, max, Bool, true, false, cond, List, [], ◌∷◌, ◌++◌, length, map, take, drop, get_or, replicate, refl, sym, ap, ◌∙◌, arith, append_assoc}
 use Rattle.std.proofs.Math.Nat.{div-eq_of_lt}
-use Rattle.zf_spec.specs.Numbers.{field}
+use Rattle.zf_spec.{specs.Numbers.{field}, specs.HeldPlanes.{digits_held, planes_held}}
 use Rattle.zf_spec.specs.Planes.{has_one, code_from_run, tail, plane_code, code_from, reach}
-use Rattle.zf_spec.specs.HeldPlanes.{digits_held, planes_held}
-use Rattle.zf_spec.proofs.Fields.{field-add, field-zero, length-field}
-use Rattle.zf_spec.proofs.PlaneCode.{tail-zeros}
+use Rattle.zf_spec.{proofs.Fields.{field-add, field-zero, length-field}, proofs.PlaneCode.{tail-zeros}}
 use Rattle.zf_spec.proofs.Full.{tail-some}
-use Rattle.zf_planes.specs.Fours.{IsCodeOfTwo}
-use Rattle.zf_planes.proofs.Doubled.{has_one-zeros_behind, run_zeros_behind}
-use Rattle.zf_planes.proofs.PlainPlanes.{reach_below}
-use Rattle.zf_planes.proofs.Placing.{reach_behind}
+use Rattle.zf_planes.{specs.Fours.{IsCodeOfTwo}, proofs.Doubled.{has_one-zeros_behind, run_zeros_behind}}
+use Rattle.zf_planes.{proofs.PlainPlanes.{reach_below}, proofs.Placing.{reach_behind}}
 use Rattle.zf_planes.proofs.Unpacking.{code_next}
 
 -- ---- how many zeros are behind makes no difference
@@ -25,8 +20,11 @@ narrow_tail ds k = by (has_one ds) refl
   where
     by : (t : Bool) → has_one ds ≡ t → tail (ds ++ replicate (suc k) false) ≡ tail (ds ++ false ∷ [])
     by true one =
-        cc (tail-some (ds ++ replicate (suc k) false) (has_one-zeros_behind ds (suc k) ∙ one),
-            run_zeros_behind ds k one, tail-some (ds ++ false ∷ []) (has_one-zeros_behind ds 1 ∙ one))
+        cc (
+          tail-some (ds ++ replicate (suc k) false) (has_one-zeros_behind ds (suc k) ∙ one),
+          run_zeros_behind ds k one,
+          tail-some (ds ++ false ∷ []) (has_one-zeros_behind ds 1 ∙ one),
+        )
     by false none = tail_none ds k none ∙ sym (tail_none ds 0 none)
 
 narrow_plane : (n : ℕ) (ds : List Bool) (k : ℕ) → n ≤ length ds → plane_code n (ds ++ replicate (suc k) false) ≡ plane_code n (ds ++ false ∷ [])
@@ -44,8 +42,12 @@ narrow_code n size v three some low = search (rules, narrow_field, narrow_plane,
 
 pub narrow_reach : (size v : ℕ) → 3 < size → v < 8 → reach (field size v) ≡ reach (field 4 v)
 narrow_reach size v some low =
-    cc (narrow_field size v some low, reach_behind (field 3 v) (suc (size - 4)),
-        narrow_field 4 v (omega arith) low, reach_behind (field 3 v) 1)
+    cc (
+      narrow_field size v some low,
+      reach_behind (field 3 v) (suc (size - 4)),
+      narrow_field 4 v (omega arith) low,
+      reach_behind (field 3 v) 1,
+    )
 
 -- ---- two planes of a word each
 
@@ -54,8 +56,11 @@ narrow_next : {A : Type 0} (words : A → List ℕ) (n prec size i v : ℕ) (pla
     → field size v ≡ digits_held size (words plane)
     → code_from n (drop i (take prec (planes_held size (map words planes)))) ≡ plane_code n (field 4 v) ++ code_from (max n (reach (field 4 v))) (drop (i + 1) (take prec (planes_held size (map words planes))))
 narrow_next words n prec size i v planes plane three some low is below within same =
-    cc (code_next words n prec size i planes plane is below within, narrow_code n size v three some low,
-        narrow_reach size v some low)
+    cc (
+      code_next words n prec size i planes plane is below within,
+      narrow_code n size v three some low,
+      narrow_reach size v some low,
+    )
 
 -- the next two, whose code is known
 pub narrow_two : {A : Type 0} (words : A → List ℕ) (n prec size i v w l bits a : ℕ) (planes : List A) (first second : A) → n < 3 → 3 < size → v < 8 → w < 8 → i + 1 < prec → prec ≤ length planes
@@ -73,7 +78,9 @@ narrow_two words n prec size i v w l bits a planes first second three some low l
     let above : a ≡ max m (reach (field 4 w)) = two.above ∙ ap (λ u. max (max n (reach (field 4 u))) (reach (field 4 ((v + 16 * w) / 16 % 16)))) v_is ∙ ap (λ u. max m (reach (field 4 u))) w_is in
     let bits_are : field l bits ≡ plane_code n (field 4 v) ++ plane_code m (field 4 w) =
     two.bits ∙ ap (λ u. plane_code n (field 4 u) ++ plane_code (max n (reach (field 4 u))) (field 4 ((v + 16 * w) / 16 % 16))) v_is ∙ ap (λ u. plane_code n (field 4 v) ++ plane_code m (field 4 u)) w_is in
-    cc (narrow_next words n prec size i v planes first (omega arith) some low is (omega arith) within same,
-        narrow_next words m prec size (i + 1) w planes second reached some low' is' below within same',
-        append_assoc (plane_code n (field 4 v)) (plane_code m (field 4 w))
-            (code_from (max m (reach (field 4 w))) (drop (i + 1 + 1) top)))
+    cc (
+      narrow_next words n prec size i v planes first (omega arith) some low is (omega arith) within same,
+      narrow_next words m prec size (i + 1) w planes second reached some low' is' below within same',
+      append_assoc (plane_code n (field 4 v)) (plane_code m (field 4 w))
+          (code_from (max m (reach (field 4 w))) (drop (i + 1 + 1) top)),
+    )

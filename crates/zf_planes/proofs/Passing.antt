@@ -1,8 +1,6 @@
 -- A reader that passes the bits of a code in parts, within a budget.
-use Rattle.std.proofs.Common.{rules}
-use Rattle.std.proofs.Common.{◌≡◌, ℕ, ◌+◌, ◌-◌, ◌≤◌, length, drop, refl, sym, ap, ◌∙◌, arith, length-drop}
-use Rattle.std.proofs.lemmas.List.{drop-drop}
-use Rattle.std.specs.Prelude.{Option, None, Some, IfNone}
+use Rattle.std.proofs.Common.{rules, ◌≡◌, ℕ, ◌+◌, ◌-◌, ◌≤◌, length, drop, refl, sym, ap, ◌∙◌, arith, length-drop}
+use Rattle.std.{proofs.lemmas.List.{drop-drop}, specs.Prelude.{Option, None, Some, IfNone}}
 use Rattle.zf_bits.specs.Reader.{Reader, rest}
 use Rattle.zf_planes.specs.Decoding.{Takes, Lacks}
 

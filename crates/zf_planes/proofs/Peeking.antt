@@ -1,19 +1,13 @@
 -- Bits that were looked at and are not yet passed.
-use Rattle.std.proofs.Common.{rules}
-use Rattle.std.proofs.Common.{◌≡◌, ℕ, suc, zero, ◌+◌, ◌-◌, ◌/◌, ◌%◌, ◌^◌, ◌<◌, ◌≤◌, ⊎_elim, min, Bool, true, false, eqb, List, [], ◌∷◌, ◌++◌, length, take, drop, replicate, get_or, get_or-take, ext_get_or, refl, sym, ap, ◌∙◌, arith}
-use Rattle.std.specs.Int.{bit_at, w64, trailing_zeros}
-use Rattle.std.specs.Int.Count.{trailing_of_zero}
-use Rattle.std.proofs.lemmas.Bool.{cases_lt}
-use Rattle.std.proofs.lemmas.Nat.{shr-shr, shr_le}
+use Rattle.std.proofs.Common.{rules, ◌≡◌, ℕ, suc, zero, ◌+◌, ◌-◌, ◌/◌, ◌%◌, ◌^◌, ◌<◌, ◌≤◌, ⊎_elim, min, Bool, true, false, eqb, List, [], ◌∷◌, ◌++◌, length, take, drop, replicate, get_or, get_or-take, ext_get_or, refl, sym, ap, ◌∙◌, arith}
+use Rattle.std.{specs.Int.{bit_at, w64, trailing_zeros}, specs.Int.Count.{trailing_of_zero}}
+use Rattle.std.{proofs.lemmas.Bool.{cases_lt}, proofs.lemmas.Nat.{shr-shr, shr_le}}
 use Rattle.std.proofs.lemmas.Nat.Bits.{bit_at-zero, bit_at-trailing_zeros}
 use Rattle.std.proofs.lemmas.List.{length-take, length-replicate, get_or-replicate, take-append-drop, take-take, drop-take, drop-drop}
-use Rattle.zf_spec.specs.Numbers.{is_odd, field}
-use Rattle.zf_spec.proofs.Fields.{length-field, get_or-field}
-use Rattle.zf_bits.proofs.Fields.{take-field, drop-field}
-use Rattle.zf_bits.specs.Reader.{Reader, rest, Reads}
+use Rattle.zf_spec.{specs.Numbers.{is_odd, field}, proofs.Fields.{length-field, get_or-field}}
+use Rattle.zf_bits.{proofs.Fields.{take-field, drop-field}, specs.Reader.{Reader, rest, Reads}}
 use Rattle.zf_planes.specs.Decoding.{IsWindow, run_ahead, run_bits, tail_ahead, tail_bits, Takes}
-use Rattle.zf_planes.proofs.Digits.{split_prefix}
-use Rattle.zf_planes.proofs.Steps.{run_zero, run_one, run_stands, tail_run}
+use Rattle.zf_planes.{proofs.Digits.{split_prefix}, proofs.Steps.{run_zero, run_one, run_stands, tail_run}}
 
 -- ---- the next bits as a number
 
@@ -25,9 +19,11 @@ IsPeeked v s = take (length (take 64 s)) (field 64 v) ≡ take 64 s
 pub peeked : (s : List Bool) (v count : ℕ) → IsPeeked v s → count ≤ 64 → count ≤ length s → field count v ≡ take count s
 peeked s v count e small within =
     let parts : count + (64 - count) ≡ 64 = omega arith in
-    cc (take-field count (64 - count) v,
-        take-take count (length (take 64 s)) (field 64 v) (omega (arith, length-take 64 s)),
-        take-take count 64 s small)
+    cc (
+      take-field count (64 - count) v,
+      take-take count (length (take 64 s)) (field 64 v) (omega (arith, length-take 64 s)),
+      take-take count 64 s small,
+    )
 
 pub window_long : (s : List Bool) (v count : ℕ) → field count v ≡ take count s → count ≤ length s
 window_long s v count e = omega (arith, ap length e, length-field count v, length-take count s)

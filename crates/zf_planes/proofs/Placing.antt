@@ -1,20 +1,13 @@
 -- A plane in words whose digits are put in from its front on.
-use Rattle.std.proofs.Common.{rules}
-use Rattle.std.proofs.Common.{◌≡◌, ℕ, zero, suc, ◌+◌, ◌-◌, ◌*◌, ◌/◌, ◌%◌, ◌^◌, ◌<◌, ◌≤◌, ◌≢◌, ⊎_elim, Bool, true, false, List, [], ◌∷◌, ◌++◌, length, get_or, set, take, drop, replicate, get_or-set_same, get_or-set_other, ext_get_or, sym, ap, ◌∙◌, arith, length-set, length-append, length-take, append_assoc}
-use Rattle.std.specs.Int.{w64}
-use Rattle.std.specs.Int.Bits.{bit_or}
-use Rattle.std.proofs.Math.Seq.{take-add}
-use Rattle.std.proofs.lemmas.Bool.{cases_eq}
+use Rattle.std.proofs.Common.{rules, ◌≡◌, ℕ, zero, suc, ◌+◌, ◌-◌, ◌*◌, ◌/◌, ◌%◌, ◌^◌, ◌<◌, ◌≤◌, ◌≢◌, ⊎_elim, Bool, true, false, List, [], ◌∷◌, ◌++◌, length, get_or, set, take, drop, replicate, get_or-set_same, get_or-set_other, ext_get_or, sym, ap, ◌∙◌, arith, length-set, length-append, length-take, append_assoc}
+use Rattle.std.{specs.Int.{w64}, specs.Int.Bits.{bit_or}, proofs.Math.Seq.{take-add}}
+use Rattle.std.{proofs.lemmas.Bool.{cases_eq}, proofs.lemmas.Nat.Bits.{bit_at_set_same, bit_at_set_other}}
 use Rattle.std.proofs.lemmas.List.{take_at, drop_at, drop-drop, take-replicate, drop-replicate, length-replicate, replicate-append-replicate, append-nil, take_more_set}
-use Rattle.std.proofs.lemmas.Nat.Bits.{bit_at_set_same, bit_at_set_other}
-use Rattle.zf_spec.specs.Numbers.{is_odd, field, word_bits}
-use Rattle.zf_spec.specs.Planes.{reach}
+use Rattle.zf_spec.{specs.Numbers.{is_odd, field, word_bits}, specs.Planes.{reach}}
 use Rattle.zf_spec.specs.HeldPlanes.{digits_held, IsClearFrom}
 use Rattle.zf_spec.proofs.WordBits.{length-word_bits, get_or-word_bits}
-use Rattle.zf_bits.proofs.Words.{words-set}
-use Rattle.zf_bits.proofs.Packed.{flat_map-field-replicate}
-use Rattle.zf_planes.proofs.Filling.{behind_set}
-use Rattle.zf_planes.proofs.Runs.{reach-push, reach-push_zero}
+use Rattle.zf_bits.{proofs.Words.{words-set}, proofs.Packed.{flat_map-field-replicate}}
+use Rattle.zf_planes.{proofs.Filling.{behind_set}, proofs.Runs.{reach-push, reach-push_zero}}
 
 -- ---- words with no bit from a rank on
 
@@ -56,11 +49,13 @@ word_filled ws at q n x s place small within word long clear =
     ap (λ k. drop k bits) next ∙ sym (drop-drop 64 at bits) ∙ ap (drop 64) clear ∙ drop-replicate 64 (length bits - at) false in
     let more = replicate (64 - n) false ++ drop (64 * suc q) bits in
     let whole : word_bits (set ws q x) ≡ (take at bits ++ s) ++ more =
-    cc (words-set 64 q ws x within,
-        regroup (take at bits) s (replicate (64 - n) false) (drop (64 * suc q) bits)) in
+    cc (
+      words-set 64 q ws x within,
+      regroup (take at bits) s (replicate (64 - n) false) (drop (64 * suc q) bits),
+    ) in
     let prefix : length (take at bits ++ s) ≡ at + n = omega (arith, length-append (take at bits) s, length-take at bits) in
     let same : 64 - n + (length bits - at - 64) ≡ length (word_bits (set ws q x)) - (at + n) = omega (arith, length-word_bits (set ws q x), length-set ws q x) in
-        search (rules, take_at, drop_at, replicate-append-replicate)
+    search (rules, take_at, drop_at, replicate-append-replicate)
 
 -- ---- a one is put in
 
@@ -77,11 +72,17 @@ one_set ws r within =
     get_or-word_bits (set ws q x) j (omega arith)
     ∙ ⊎_elim
     (λ (here : j ≡ r).
-    cc (get_or-set_same ws q x 0 (omega arith), bit_at_set_same w64 v (r % 64) (omega arith),
-        get_or-set_same (word_bits ws) r true false (omega arith)))
+    cc (
+      get_or-set_same ws q x 0 (omega arith),
+      bit_at_set_same w64 v (r % 64) (omega arith),
+      get_or-set_same (word_bits ws) r true false (omega arith),
+    ))
     (λ (apart : j ≢ r).
-    cc (other j apart (omega arith), get_or-word_bits ws j (omega arith),
-        get_or-set_other (word_bits ws) r j true false apart))
+    cc (
+      other j apart (omega arith),
+      get_or-word_bits ws j (omega arith),
+      get_or-set_other (word_bits ws) r j true false apart,
+    ))
     (cases_eq j r))
   where
     other : (j : ℕ) → j ≢ r → j < 64 * length ws
@@ -93,8 +94,10 @@ one_set ws r within =
         ⊎_elim
         (λ (same : j / 64 ≡ q).
         let bit : j % 64 ≢ r % 64 = λ (e : j % 64 ≡ r % 64). apart (omega arith) in
-        cc (get_or-set_same ws q x 0 (omega arith),
-            bit_at_set_other w64 v (r % 64) (omega arith) (j % 64) bit))
+        cc (
+          get_or-set_same ws q x 0 (omega arith),
+          bit_at_set_other w64 v (r % 64) (omega arith) (j % 64) bit,
+        ))
         (λ (away : j / 64 ≢ q). ap (λ u. is_odd (u / 2 ^ (j % 64))) (get_or-set_other ws q (j / 64) x 0 away))
         (cases_eq (j / 64) q)
 
@@ -114,5 +117,10 @@ reach_behind xs (suc k) =
 
 pub reach_one : (xs : List Bool) (z : ℕ) → reach (xs ++ (replicate z false ++ true ∷ [])) ≡ length xs + z + 1
 reach_one xs z =
-    grind (arith, append_assoc xs (replicate z false) (true ∷ []), reach-push (xs ++ replicate z false),
-        length-append xs (replicate z false), length-replicate z false)
+    grind (
+      arith,
+      append_assoc xs (replicate z false) (true ∷ []),
+      reach-push (xs ++ replicate z false),
+      length-append xs (replicate z false),
+      length-replicate z false,
+    )

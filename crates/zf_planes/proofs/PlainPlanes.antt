@@ -1,15 +1,10 @@
 -- Planes that bring no new rank, and planes in one word that are written one after another.
-use Rattle.std.proofs.Common.{rules}
-use Rattle.std.proofs.Common.{◌≡◌, ℕ, ◌+◌, ◌-◌, ◌/◌, ◌^◌, ◌<◌, ◌≤◌, max, Bool, List, ◌++◌, length, map, take, drop, get_or, arith}
+use Rattle.std.proofs.Common.{rules, ◌≡◌, ℕ, ◌+◌, ◌-◌, ◌/◌, ◌^◌, ◌<◌, ◌≤◌, max, Bool, List, ◌++◌, length, map, take, drop, get_or, arith}
 use Rattle.zf_bits.specs.Writer.{Writer}
-use Rattle.zf_spec.specs.Numbers.{field}
-use Rattle.zf_spec.specs.Planes.{plane_code, code_from, reach}
-use Rattle.zf_spec.specs.HeldPlanes.{digits_held, planes_held}
+use Rattle.zf_spec.{specs.Numbers.{field}, specs.Planes.{plane_code, code_from, reach}}
+use Rattle.zf_spec.{specs.HeldPlanes.{digits_held, planes_held}, proofs.Reach.{reach-le}}
 use Rattle.zf_spec.proofs.Fields.{length-field, field-add, field-zero}
-use Rattle.zf_spec.proofs.Reach.{reach-le}
-use Rattle.zf_planes.proofs.Placing.{reach_behind}
-use Rattle.zf_planes.specs.Writes.{Remains}
-use Rattle.zf_planes.proofs.Unpacking.{code_next}
+use Rattle.zf_planes.{proofs.Placing.{reach_behind}, specs.Writes.{Remains}, proofs.Unpacking.{code_next}}
 use Rattle.zf_planes.proofs.Doubled.{plane_whole, plane_without}
 
 -- no one from rank n on

@@ -1,14 +1,11 @@
 -- What the decoder makes of one plane: its first digits as they are, and then a tail.
-use Rattle.std.proofs.Common.{rules}
-use Rattle.std.proofs.Common.{◌≡◌, ℕ, suc, zero, ◌+◌, ◌-◌, ◌≤◌, ⊎_elim, min, Bool, true, false, List, [], ◌∷◌, ◌++◌, length, take, drop, replicate, refl, sym, ap, ◌∙◌, arith, drop_at, append-nil, take-append-drop}
+use Rattle.std.proofs.Common.{rules, ◌≡◌, ℕ, suc, zero, ◌+◌, ◌-◌, ◌≤◌, ⊎_elim, min, Bool, true, false, List, [], ◌∷◌, ◌++◌, length, take, drop, replicate, refl, sym, ap, ◌∙◌, arith, drop_at, append-nil, take-append-drop}
 use Rattle.std.proofs.lemmas.Bool.{false≢true, cases_lt}
 use Rattle.std.proofs.lemmas.List.{length-take, take-take, length-drop, drop-take, drop_all, take-append-le}
-use Rattle.zf_spec.specs.Planes.{has_one, code_from_run, tail, plane_code}
+use Rattle.zf_spec.{specs.Planes.{has_one, code_from_run, tail, plane_code}, proofs.Reach.{zeros_from_none}}
 use Rattle.zf_spec.specs.Kept.{kept_run, kept_tail, cut_plane, kept_plane}
-use Rattle.zf_spec.specs.ReadPlanes.{first_bits, tail_in, plane_in}
-use Rattle.zf_spec.proofs.Reach.{zeros_from_none}
+use Rattle.zf_spec.{specs.ReadPlanes.{first_bits, tail_in, plane_in}, proofs.KeptSame.{kept_whole, kept_cut}}
 use Rattle.zf_spec.proofs.KeptCases.{kept_tail-zeros, kept_tail-one}
-use Rattle.zf_spec.proofs.KeptSame.{kept_whole, kept_cut}
 use Rattle.zf_spec.proofs.Beginnings.{length-first_bits, begins_itself}
 use Rattle.zf_spec.proofs.Full.{length-plane_in, full_plane_only}
 use Rattle.zf_planes.specs.Decoding.{tail_ahead, tail_bits, plane_ahead, plane_bits}

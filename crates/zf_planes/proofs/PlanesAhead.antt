@@ -1,17 +1,13 @@
 -- What the decoder makes of planes: one plane, and then those below.
-use Rattle.std.proofs.Common.{rules}
-use Rattle.std.proofs.Common.{◌≡◌, ℕ, zero, suc, ◌⊎◌, ◌++◌, ◌+◌, ◌-◌, ◌<◌, ◌≤◌, ⊎_elim, min, max, Bool, false, List, [], ◌∷◌, length, take, drop, replicate, refl, sym, ap, subst, ◌∙◌, arith}
-use Rattle.std.proofs.lemmas.Bool.{cases_lt}
+use Rattle.std.proofs.Common.{rules, ◌≡◌, ℕ, zero, suc, ◌⊎◌, ◌++◌, ◌+◌, ◌-◌, ◌<◌, ◌≤◌, ⊎_elim, min, max, Bool, false, List, [], ◌∷◌, length, take, drop, replicate, refl, sym, ap, subst, ◌∙◌, arith}
+use Rattle.std.{proofs.lemmas.Bool.{cases_lt}, proofs.lemmas.List.Elements.{All-head, All-tail}}
 use Rattle.std.proofs.lemmas.List.{length-append, length-replicate, length-take, length-drop, drop-take, drop-drop, take-take, take_at, drop_at}
-use Rattle.std.proofs.lemmas.List.Elements.{All-head, All-tail}
 use Rattle.zf_spec.specs.Planes.{reach, reach_of_all, plane_code, code_from, AreOfSize}
-use Rattle.zf_spec.specs.Kept.{kept_plane}
-use Rattle.zf_spec.specs.ReadPlanes.{plane_in, planes_in_from}
+use Rattle.zf_spec.{specs.Kept.{kept_plane}, specs.ReadPlanes.{plane_in, planes_in_from}}
 use Rattle.zf_spec.proofs.Reach.{reach_within, reach_none, has_one-zeros}
 use Rattle.zf_spec.proofs.KeptSame.{kept_whole, kept_planes_from-none}
 use Rattle.zf_spec.proofs.Full.{length-plane_in, length-planes_in_from, planes_in_from-length}
-use Rattle.zf_planes.proofs.PlaneAhead.{plane_ahead-is, plane_bits-is, whole_plane}
-use Rattle.zf_planes.proofs.Steps.{tail_end}
+use Rattle.zf_planes.{proofs.PlaneAhead.{plane_ahead-is, plane_bits-is, whole_plane}, proofs.Steps.{tail_end}}
 use Rattle.zf_planes.specs.Decoding.{plane_ahead, plane_bits, planes_ahead, planes_bits}
 
 pub planes_ahead-none : (r size n : ℕ) (s : List Bool) → planes_ahead r 0 size n s ≡ []

@@ -1,23 +1,15 @@
 -- Planes that are read from the greatest on, one after another.
-use Rattle.std.proofs.Common.{rules}
-use Rattle.std.proofs.Common.{◌≡◌, ℕ, suc, ◌+◌, ◌-◌, ◌*◌, ◌<◌, ◌≤◌, ◌⊎◌, max, Bool, false, List, ◌∷◌, ◌++◌, length, map, take, drop, set, replicate, refl, sym, ap, ◌∙◌, subst, arith}
-use Rattle.std.specs.List.{All}
+use Rattle.std.proofs.Common.{rules, ◌≡◌, ℕ, suc, ◌+◌, ◌-◌, ◌*◌, ◌<◌, ◌≤◌, ◌⊎◌, max, Bool, false, List, ◌∷◌, ◌++◌, length, map, take, drop, set, replicate, refl, sym, ap, ◌∙◌, subst, arith}
+use Rattle.std.{specs.List.{All}, proofs.lemmas.List.Elements.{All-set, All-replicate}}
 use Rattle.std.proofs.lemmas.List.{length-map, length-replicate, take-replicate, drop-replicate, append_assoc, take-append-drop, replicate-append-replicate}
-use Rattle.std.proofs.lemmas.List.Elements.{All-set, All-replicate}
-use Rattle.zf_spec.specs.Numbers.{field}
-use Rattle.zf_spec.specs.Planes.{reach}
-use Rattle.zf_spec.specs.Kept.{kept_planes}
-use Rattle.zf_spec.specs.HeldPlanes.{digits_held, planes_held, IsClearFrom}
-use Rattle.zf_spec.proofs.Fields.{length-field}
-use Rattle.zf_spec.proofs.HeldPlanes.{length-digits_held}
-use Rattle.zf_spec.proofs.Reach.{reach-le}
+use Rattle.zf_spec.{specs.Numbers.{field}, specs.Planes.{reach}, specs.Kept.{kept_planes}}
+use Rattle.zf_spec.{specs.HeldPlanes.{digits_held, planes_held, IsClearFrom}, proofs.Fields.{length-field}}
+use Rattle.zf_spec.{proofs.HeldPlanes.{length-digits_held}, proofs.Reach.{reach-le}}
 use Rattle.zf_bits.specs.Reader.{Reader, rest}
 use Rattle.zf_planes.specs.Decoding.{IsWindow, Takes, Lacks, ReadsPlane, plane_ahead, plane_bits, planes_ahead, planes_bits, coded, coded_bits, IsSpent, ReadsTop}
-use Rattle.zf_planes.specs.WordPlanes.{IsReadAs}
+use Rattle.zf_planes.{specs.WordPlanes.{IsReadAs}, proofs.Peeking.{window_prefix, window_long}}
 use Rattle.zf_planes.proofs.Passing.{Passes, Passes-start, Passes-part, Passes-lacks, Takes-rest}
-use Rattle.zf_planes.proofs.Peeking.{window_prefix, window_long}
-use Rattle.zf_planes.proofs.Placing.{clear_zeros}
-use Rattle.zf_planes.proofs.PlaneAhead.{whole_plane}
+use Rattle.zf_planes.{proofs.Placing.{clear_zeros}, proofs.PlaneAhead.{whole_plane}}
 use Rattle.zf_planes.proofs.PlanesAhead.{next_plane, plane_bits-le, planes_over, zero_planes}
 use Rattle.zf_planes.proofs.Unpacking.{planes_held-zeros, top_more, top_behind, set_words}
 

@@ -1,6 +1,5 @@
 -- A plane's tail n digits into it, as a group bit and a run.
-use Rattle.std.proofs.Common.{rules}
-use Rattle.std.proofs.Common.{◌≡◌, ℕ, suc, zero, ◌+◌, ◌-◌, ◌<◌, ◌≤◌, min, Bool, true, false, cond, List, [], ◌∷◌, ◌++◌, length, take, drop, replicate, refl, sym, ap, ◌∙◌, arith, length-append}
+use Rattle.std.proofs.Common.{rules, ◌≡◌, ℕ, suc, zero, ◌+◌, ◌-◌, ◌<◌, ◌≤◌, min, Bool, true, false, cond, List, [], ◌∷◌, ◌++◌, length, take, drop, replicate, refl, sym, ap, ◌∙◌, arith, length-append}
 use Rattle.std.proofs.lemmas.List.{length-replicate, length-drop, drop-drop, append-nil, take_at, append_assoc}
 use Rattle.zf_spec.specs.Planes.{has_one, reach, code_from_run, tail}
 use Rattle.zf_spec.proofs.Reach.{has_one-append_one, zeros_from_none, reach_none}

@@ -1,12 +1,8 @@
 -- One step of reading a tail: at its group bit, or at a bit of a run.
-use Rattle.std.proofs.Common.{rules}
-use Rattle.std.proofs.Common.{◌≡◌, ℕ, suc, zero, ◌-◌, ◌<◌, ◌≤◌, ◌⊎◌, Bool, true, false, List, [], ◌∷◌, length, take, replicate, refl, ap, ◌∙◌, arith}
+use Rattle.std.proofs.Common.{rules, ◌≡◌, ℕ, suc, zero, ◌-◌, ◌<◌, ◌≤◌, ◌⊎◌, Bool, true, false, List, [], ◌∷◌, length, take, replicate, refl, ap, ◌∙◌, arith}
 use Rattle.std.proofs.lemmas.List.{length-replicate}
-use Rattle.zf_spec.specs.Planes.{tail}
-use Rattle.zf_spec.specs.Kept.{kept_run, kept_tail}
-use Rattle.zf_spec.specs.ReadPlanes.{run_in, tail_in}
-use Rattle.zf_spec.proofs.Reach.{has_one-zeros}
-use Rattle.zf_spec.proofs.PlaneCode.{tail-zeros}
+use Rattle.zf_spec.{specs.Planes.{tail}, specs.Kept.{kept_run, kept_tail}, specs.ReadPlanes.{run_in, tail_in}}
+use Rattle.zf_spec.{proofs.Reach.{has_one-zeros}, proofs.PlaneCode.{tail-zeros}}
 use Rattle.zf_spec.proofs.KeptCases.{kept_tail-zeros, kept_tail-one}
 use Rattle.zf_spec.proofs.Full.{length-run_in, length-tail_in, full_run_begins, code_from_run-true, code_from_run-false, tail-some}
 use Rattle.zf_planes.specs.Decoding.{tail_ahead, tail_bits, run_ahead, run_bits}

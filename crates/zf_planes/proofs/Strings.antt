@@ -1,17 +1,12 @@
 -- Strings: planes of four digits in one number, and their code.
-use Rattle.std.proofs.Common.{rules}
-use Rattle.std.proofs.Common.{◌≡◌, ℕ, zero, suc, ◌+◌, ◌-◌, ◌*◌, ◌/◌, ◌%◌, ◌<◌, ◌≤◌, max, Bool, List, [], ◌∷◌, ◌++◌, length, append_assoc, take, refl, sym, ap, ◌∙◌, arith}
-use Rattle.std.proofs.lemmas.Bool.{cases_lt}
-use Rattle.zf_spec.specs.Numbers.{field}
-use Rattle.std.proofs.lemmas.List.Elements.{All-nil, All-cons}
+use Rattle.std.proofs.Common.{rules, ◌≡◌, ℕ, zero, suc, ◌+◌, ◌-◌, ◌*◌, ◌/◌, ◌%◌, ◌<◌, ◌≤◌, max, Bool, List, [], ◌∷◌, ◌++◌, length, append_assoc, take, refl, sym, ap, ◌∙◌, arith}
+use Rattle.std.{proofs.lemmas.Bool.{cases_lt}, proofs.lemmas.List.Elements.{All-nil, All-cons}}
+use Rattle.zf_spec.{specs.Numbers.{field}, proofs.Fields.{length-field, field-add, field-mod}}
 use Rattle.zf_spec.specs.Planes.{plane_code, code_from, reach, reach_of_all, AreOfSize}
-use Rattle.zf_spec.proofs.Fields.{length-field, field-add, field-mod}
 use Rattle.zf_spec.proofs.Reach.{reach-le}
 use Rattle.zf_bits.specs.Writer.{Writer}
-use Rattle.zf_planes.specs.Fours.{string_planes, IsAsGood}
-use Rattle.zf_planes.proofs.Doubled.{plane_whole}
-use Rattle.zf_planes.specs.Writes.{Remains}
-use Rattle.zf_planes.proofs.LastRank.{code_of_three}
+use Rattle.zf_planes.{specs.Fours.{string_planes, IsAsGood}, proofs.Doubled.{plane_whole}}
+use Rattle.zf_planes.{specs.Writes.{Remains}, proofs.LastRank.{code_of_three}}
 
 -- ---- the code of planes goes on behind bits that were put together
 

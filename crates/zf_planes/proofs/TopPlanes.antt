@@ -1,31 +1,20 @@
 -- The top planes of words: some and those below them, planes of fewer digits, and sixteen planes of four words as a string.
-use Rattle.std.proofs.Common.{rules}
-use Rattle.std.proofs.Common.{◌≡◌, ℕ, zero, suc, ◌+◌, ◌-◌, ◌*◌, ◌/◌, ◌%◌, ◌^◌, ◌<◌, ◌≤◌, min, Bool, true, false, eqb, List, [], ◌∷◌, ◌++◌, length, map, take, drop, get_or, get_or-take, replicate, ⊎_elim, take-take, refl, sym, ap, ◌∙◌, arith, pow-suc, length-drop}
-use Rattle.std.proofs.Math.Nat.{pow-zero}
-use Rattle.std.proofs.lemmas.Bool.{eqb-true, cases_lt}
-use Rattle.std.proofs.lemmas.Nat.{shl-shr, shr-shr}
+use Rattle.std.proofs.Common.{rules, ◌≡◌, ℕ, zero, suc, ◌+◌, ◌-◌, ◌*◌, ◌/◌, ◌%◌, ◌^◌, ◌<◌, ◌≤◌, min, Bool, true, false, eqb, List, [], ◌∷◌, ◌++◌, length, map, take, drop, get_or, get_or-take, replicate, ⊎_elim, take-take, refl, sym, ap, ◌∙◌, arith, pow-suc, length-drop}
+use Rattle.std.{proofs.Math.Nat.{pow-zero}, proofs.lemmas.Bool.{eqb-true, cases_lt}}
+use Rattle.std.{proofs.lemmas.Nat.{shl-shr, shr-shr}, proofs.lemmas.List.Elements.{All-map}}
 use Rattle.std.proofs.lemmas.List.{length-map, get_or-map, map-append, get_or-drop, length-take, take_at, take-append-drop, append-nil, length-replicate}
-use Rattle.std.proofs.lemmas.List.Elements.{All-map}
 use Rattle.std.proofs.lemmas.Simd.{map-map}
-use Rattle.zf_bits.proofs.Fields.{digit_value_le}
-use Rattle.zf_spec.specs.Numbers.{field, number, is_odd, digit_value}
-use Rattle.zf_spec.specs.Grid.{count_from, upto}
-use Rattle.zf_spec.specs.Planes.{planes_of, code, code_from, AreOfSize}
+use Rattle.zf_bits.{proofs.Fields.{digit_value_le}, specs.Writer.{Writer, Appends}}
+use Rattle.zf_bits.{proofs.Appending.{Appends-same}, proofs.Words.{shl_in_word}}
+use Rattle.zf_spec.{specs.Numbers.{field, number, is_odd, digit_value}, specs.Grid.{count_from, upto}}
+use Rattle.zf_spec.{specs.Planes.{planes_of, code, code_from, AreOfSize}, proofs.PlaneCode.{length-code-le}}
 use Rattle.zf_spec.proofs.Fields.{field-mod, field-number, field-zero, get_or-field}
 use Rattle.zf_spec.proofs.Counting.{length-count_from, get_or-count_from, count_from-add, from_places, length-map-upto, four_elements}
 use Rattle.zf_spec.proofs.PlaneDigits.{length-planes_of, get_or-planes_of, planes_of-length}
-use Rattle.zf_spec.proofs.PlaneCode.{length-code-le}
-use Rattle.zf_bits.specs.Writer.{Writer, Appends}
-use Rattle.zf_bits.proofs.Appending.{Appends-same}
-use Rattle.zf_bits.proofs.Words.{shl_in_word}
-use Rattle.zf_planes.specs.Fours.{string_planes}
-use Rattle.zf_planes.specs.Spread.{top_digit, top_planes, spread}
-use Rattle.zf_planes.specs.declared.entries.TheConstants.{SPREAD}
-use Rattle.zf_planes.proofs.Tables.{each_below, each_below-true}
-use Rattle.zf_planes.specs.Writes.{Remains}
-use Rattle.zf_planes.proofs.Budgets.{Remains-start, Remains-same, Remains-more}
-use Rattle.zf_planes.proofs.Zeros.{take_zeros, zero_code}
-use Rattle.zf_planes.proofs.Strings.{take-fours}
+use Rattle.zf_planes.{specs.Fours.{string_planes}, specs.Spread.{top_digit, top_planes, spread}}
+use Rattle.zf_planes.{specs.declared.entries.TheConstants.{SPREAD}, specs.Writes.{Remains}}
+use Rattle.zf_planes.{proofs.Tables.{each_below, each_below-true}, proofs.Zeros.{take_zeros, zero_code}}
+use Rattle.zf_planes.{proofs.Budgets.{Remains-start, Remains-same, Remains-more}, proofs.Strings.{take-fours}}
 
 -- ---- digits of shifted words
 
@@ -43,8 +32,12 @@ top_digit-below word m i within =
     let t = 63 - (m + i) in
     let parts : 64 ≡ j + m = omega arith in
     let place : 63 - i ≡ m + t = omega arith in
-    cc (shl_in_word j m word, shr-shr (word % 2 ^ j * 2 ^ m) m t, shl-shr (word % 2 ^ j) m,
-        odd_low word j t (omega arith))
+    cc (
+      shl_in_word j m word,
+      shr-shr (word % 2 ^ j * 2 ^ m) m t,
+      shl-shr (word % 2 ^ j) m,
+      odd_low word j t (omega arith),
+    )
 
 -- ---- the top planes and those below them
 
@@ -69,8 +62,11 @@ top_planes-split k m words within most =
     let g : ℕ → List Bool = λ i. map (λ word. top_digit word i) (map (below m) words) in
     let parts : k ≡ m + (k - m) = omega arith in
     let from : 0 + m ≡ m = omega arith in
-    cc (count_from-add 0 m (k - m), map-append f (upto m) (count_from (0 + m) (k - m)),
-        map-from f g m (k - m) [] (λ i here. plane-below words m i (omega arith)))
+    cc (
+      count_from-add 0 m (k - m),
+      map-append f (upto m) (count_from (0 + m) (k - m)),
+      map-from f g m (k - m) [] (λ i here. plane-below words m i (omega arith)),
+    )
 
 pub length-top_planes : (k : ℕ) (words : List ℕ) → length (top_planes k words) ≡ k
 unfolding top_planes
@@ -99,11 +95,15 @@ planes-from w p z words small within few =
     (λ i here.
     let j = w - 1 - (z + i) in
     let place : j ≡ 63 - (m + i) = omega arith in
-    cc (get_or-drop z (take p ps) i [], get_or-take p ps (z + i) [] (omega arith),
-        get_or-planes_of w cs (z + i) (omega arith),
-        map-map (λ (ds : List Bool). get_or ds j false) (field w) words,
-        map_each (λ word. get_or (field w word) j false) (λ word. top_digit word (m + i)) words
-            (λ word. cc (get_or-field w word j false (omega arith))), plane-below words m i (omega arith))))
+    cc (
+      get_or-drop z (take p ps) i [],
+      get_or-take p ps (z + i) [] (omega arith),
+      get_or-planes_of w cs (z + i) (omega arith),
+      map-map (λ (ds : List Bool). get_or ds j false) (field w) words,
+      map_each (λ word. get_or (field w word) j false) (λ word. top_digit word (m + i)) words
+          (λ word. cc (get_or-field w word j false (omega arith))),
+      plane-below words m i (omega arith),
+    )))
 
 -- ---- digits apart
 
@@ -182,9 +182,12 @@ string-is (suc k) f g h e =
     let r = spread 16 k (next f) + 2 * spread 16 k (next g) + 4 * spread 16 k (next h) + 8 * spread 16 k (next e) in
     let small : number (row 0) < 16 = omega (arith, digit_value_le (f 0), digit_value_le (g 0), digit_value_le (h 0), digit_value_le (e 0)) in
     let sum : spread 16 (suc k) f + 2 * spread 16 (suc k) g + 4 * spread 16 (suc k) h + 8 * spread 16 (suc k) e
-        ≡ number (row 0) + 16 * r = omega arith in
-    cc (fours-next k _ (row 0) r refl sum small, string-is k (next f) (next g) (next h) (next e),
-        map-from row row' 1 k [] (λ i here. let place : 1 + i ≡ suc i = omega arith in ap row place))
+    ≡ number (row 0) + 16 * r = omega arith in
+    cc (
+      fours-next k _ (row 0) r refl sum small,
+      string-is k (next f) (next g) (next h) (next e),
+      map-from row row' 1 k [] (λ i here. let place : 1 + i ≡ suc i = omega arith in ap row place),
+    )
 
 pub string_of_words : (k : ℕ) (words : List ℕ) → length words ≡ 4
     → string_planes k (spread 16 k (top_digit (get_or words 0 0)) + 2 * spread 16 k (top_digit (get_or words 1 0)) + 4 * spread 16 k (top_digit (get_or words 2 0)) + 8 * spread 16 k (top_digit (get_or words 3 0))) ≡ top_planes k words
@@ -199,8 +202,11 @@ string-split planes count string words most is same = ⊎_elim
     let all : count ≡ planes = omega arith in
     let parts : 16 ≡ planes + (16 - planes) = omega arith in
     let first : string_planes planes string ≡ top_planes planes words =
-    cc (take-fours planes (16 - planes) string, top_planes-split 16 planes words (omega arith) (omega arith),
-        take_at (top_planes planes words) (top_planes (16 - planes) (map (below planes) words)) planes (length-top_planes planes words)) in
+    cc (
+      take-fours planes (16 - planes) string,
+      top_planes-split 16 planes words (omega arith) (omega arith),
+      take_at (top_planes planes words) (top_planes (16 - planes) (map (below planes) words)) planes (length-top_planes planes words),
+    ) in
     let none : top_planes (planes - count) (map (below 16) words) ≡ [] = no_top_planes (planes - count) (map (below 16) words) (omega arith) in
     sym (ap (λ (ps : List (List Bool)). string_planes count string ++ ps) none ∙ append-nil (string_planes count string) ∙ ap (λ n. string_planes n string) all ∙ first))
     (search (rules, top_planes-split))
@@ -223,8 +229,11 @@ remains_all out budget w p z words four small within few zeros room =
     let most = length-code-le 4 top sizes in
     let first : take z top ≡ replicate z (replicate 4 false) = take-take z p ps few ∙ zeros in
     Remains-same (Remains-start out budget (code top) (omega (arith, room, most, long)))
-    (cc (take-append-drop z top, zero_code z 4 (drop z top) (omega arith),
-        planes-from w p z words small within few))
+    (cc (
+      take-append-drop z top,
+      zero_code z 4 (drop z top) (omega arith),
+      planes-from w p z words small within few,
+    ))
 
 -- once the zeros of the first z planes are written, that of the others remains
 pub zeros_written : {new : Writer} (out : Writer) (budget w p z count : ℕ) (words : List ℕ) → length words ≡ 4 → w ≤ 64 → p ≤ w → z ≤ p → take z (planes_of w (map (field w) words)) ≡ replicate z (replicate 4 false)

@@ -1,6 +1,5 @@
 -- The top planes, with one plane more.
-use Rattle.std.proofs.Common.{rules}
-use Rattle.std.proofs.Common.{◌≡◌, ℕ, zero, suc, ◌+◌, ◌<◌, max, Bool, List, [], ◌∷◌, length, take, get_or, ap, arith}
+use Rattle.std.proofs.Common.{rules, ◌≡◌, ℕ, zero, suc, ◌+◌, ◌<◌, max, Bool, List, [], ◌∷◌, length, take, get_or, ap, arith}
 use Rattle.std.proofs.lemmas.List.{length-append}
 use Rattle.zf_spec.specs.Planes.{code_from, plane_code, reach, reach_of_all}
 

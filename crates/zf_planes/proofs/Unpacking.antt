@@ -1,14 +1,10 @@
 -- The digits that planes hold in words.
-use Rattle.std.proofs.Common.{rules}
-use Rattle.std.proofs.Common.{◌≡◌, ℕ, zero, suc, map, ◌+◌, ◌-◌, ◌*◌, ◌<◌, ◌≤◌, ◌≢◌, Bool, false, max, List, [], ◌∷◌, ◌++◌, length, take, drop, get_or, set, replicate, refl, sym, ap, ◌∙◌, arith, ext_get_or, length-set, get_or-set_same, get_or-set_other}
-use Rattle.zf_planes.proofs.Filling.{behind_next}
+use Rattle.std.proofs.Common.{rules, ◌≡◌, ℕ, zero, suc, map, ◌+◌, ◌-◌, ◌*◌, ◌<◌, ◌≤◌, ◌≢◌, Bool, false, max, List, [], ◌∷◌, ◌++◌, length, take, drop, get_or, set, replicate, refl, sym, ap, ◌∙◌, arith, ext_get_or, length-set, get_or-set_same, get_or-set_other}
 use Rattle.std.proofs.lemmas.List.{map-set, take_more_set, length-map, get_or-map, get_or-take, length-take, drop_more, length-replicate, get_or-replicate}
-use Rattle.std.proofs.lemmas.Bool.{cases_eq}
-use Rattle.std.specs.List.{All}
-use Rattle.zf_spec.proofs.Counting.{four_elements}
-use Rattle.zf_spec.specs.Planes.{code_from, plane_code, reach}
+use Rattle.std.{proofs.lemmas.Bool.{cases_eq}, specs.List.{All}}
+use Rattle.zf_planes.{proofs.Filling.{behind_next}, proofs.Placing.{held_zeros}}
+use Rattle.zf_spec.{proofs.Counting.{four_elements}, specs.Planes.{code_from, plane_code, reach}}
 use Rattle.zf_spec.specs.HeldPlanes.{digits_held, planes_held}
-use Rattle.zf_planes.proofs.Placing.{held_zeros}
 use Rattle.zf_spec.proofs.HeldPlanes.{length-digits_held, get_or-planes_held, length-planes_held}
 
 -- ---- the top planes

@@ -1,21 +1,15 @@
 -- Planes in one word by the bits of their code, with a table of tails.
-use Rattle.std.proofs.Common.{rules}
-use Rattle.std.proofs.Common.{◌≡◌, ℕ, suc, ◌+◌, ◌-◌, ◌*◌, ◌/◌, ◌%◌, ◌^◌, ◌<◌, ◌≤◌, ⊎_elim, min, Bool, true, false, ◌&&◌, ◌||◌, ltb, eqb, List, [], ◌∷◌, ◌++◌, length, drop, get_or, replicate, refl, sym, ap, ◌∙◌, arith, lit<, take_at, drop_at, pow_pos}
-use Rattle.std.specs.Int.Bits.{bit_or}
-use Rattle.std.proofs.Math.Nat.{pow-le-pow_right, div-eq_of_lt}
+use Rattle.std.proofs.Common.{rules, ◌≡◌, ℕ, suc, ◌+◌, ◌-◌, ◌*◌, ◌/◌, ◌%◌, ◌^◌, ◌<◌, ◌≤◌, ⊎_elim, min, Bool, true, false, ◌&&◌, ◌||◌, ltb, eqb, List, [], ◌∷◌, ◌++◌, length, drop, get_or, replicate, refl, sym, ap, ◌∙◌, arith, lit<, take_at, drop_at, pow_pos}
+use Rattle.std.{specs.Int.Bits.{bit_or}, proofs.Math.Nat.{pow-le-pow_right, div-eq_of_lt}}
 use Rattle.std.proofs.lemmas.Bool.{cases_lt, and_parts, ltb-true, eqb-true}
-use Rattle.zf_spec.specs.Numbers.{field, is_odd}
-use Rattle.zf_spec.specs.Planes.{has_one, reach, tail, plane_code}
-use Rattle.zf_spec.proofs.Fields.{length-field, field-add, field-mod, field-zero}
+use Rattle.zf_spec.{specs.Numbers.{field, is_odd}, specs.Planes.{has_one, reach, tail, plane_code}}
+use Rattle.zf_spec.{proofs.Fields.{length-field, field-add, field-mod, field-zero}, proofs.Full.{tail-some}}
 use Rattle.zf_spec.proofs.Reach.{reach_some, reach-le}
-use Rattle.zf_spec.proofs.Full.{tail-some}
 use Rattle.zf_bits.proofs.Fields as wide
 use Rattle.zf_bits.proofs.Fields.{field_more}
-use Rattle.zf_planes.specs.WordPlanes.{IsReadAs}
-use Rattle.zf_planes.specs.declared.entries.TheConstants.{TAILS}
+use Rattle.zf_planes.{specs.WordPlanes.{IsReadAs}, specs.declared.entries.TheConstants.{TAILS}}
 use Rattle.zf_planes.proofs.Tables.{same_digits, same_digits-true, each_below, each_below-true}
-use Rattle.zf_planes.proofs.Placing.{reach_behind}
-use Rattle.zf_planes.proofs.Gathering.{bits_behind, small_behind}
+use Rattle.zf_planes.{proofs.Placing.{reach_behind}, proofs.Gathering.{bits_behind, small_behind}}
 use Rattle.zf_planes.proofs.Doubled.{has_one-behind, has_one-field, eight_of, nine_digits, plane_whole, plane_without}
 
 -- ---- the table, by computation
@@ -52,7 +46,7 @@ entry_to_9 most bits e some nine eight is =
     let low : i % 256 ≡ bits = omega arith in
     let whole : test_tail most bits e && test_some e ≡ true =
     cc (
-        each_below-true (λ j. test_tail (j / 256 + 1) (j % 256) (get_or TAILS j 0) && test_some (get_or TAILS j 0)) 2304 i test_tails (omega arith)) in
+    each_below-true (λ j. test_tail (j / 256 + 1) (j % 256) (get_or TAILS j 0) && test_some (get_or TAILS j 0)) 2304 i test_tails (omega arith)) in
     let parts = and_parts (test_tail most bits e) (test_some e) whole in search (rules, ltb-true, same_digits, and_parts, same_digits-true, eqb-true)
 
 -- more digits make no difference, where they are zeros
@@ -65,8 +59,12 @@ tail_of_nine most digits nine some eight =
 
 reach_of_nine : (most digits : ℕ) → 9 ≤ most → digits < 256 → reach (field most digits) ≡ reach (field 9 digits)
 reach_of_nine most digits nine eight =
-    cc (eight_of most digits nine eight, reach_behind (field 8 digits) (suc (most - 9)),
-        eight_of 9 digits (omega arith) eight, reach_behind (field 8 digits) (suc (9 - 9)))
+    cc (
+      eight_of most digits nine eight,
+      reach_behind (field 8 digits) (suc (most - 9)),
+      eight_of 9 digits (omega arith) eight,
+      reach_behind (field 8 digits) (suc (9 - 9)),
+    )
 
 pub tail_of_entry : (most bits e : ℕ) → 0 < most → bits < 256 → e ≡ get_or TAILS (256 * (min most 9 - 1) + bits) 0 → IsEntry most bits e
 tail_of_entry most bits e some eight is = ⊎_elim

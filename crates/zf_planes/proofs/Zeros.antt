@@ -1,16 +1,10 @@
 -- The code of zeros and of a run as numbers: planes without a one, and a group bit with the run behind it.
-use Rattle.std.proofs.Common.{rules}
-use Rattle.std.proofs.Common.{◌≡◌, ℕ, zero, suc, ◌+◌, ◌-◌, ◌*◌, ◌%◌, ◌^◌, ◌<◌, ◌≤◌, min, max, Bool, true, false, List, [], ◌∷◌, ◌++◌, length, take, replicate, refl, sym, ap, ◌∙◌, arith, append_assoc, length-append, length-take, lit<}
-use Rattle.std.specs.Int.Bits.{bit_or}
-use Rattle.std.proofs.Math.Nat.{pow-le-pow_right}
-use Rattle.std.proofs.lemmas.Bool.{cases_lt}
+use Rattle.std.proofs.Common.{rules, ◌≡◌, ℕ, zero, suc, ◌+◌, ◌-◌, ◌*◌, ◌%◌, ◌^◌, ◌<◌, ◌≤◌, min, max, Bool, true, false, List, [], ◌∷◌, ◌++◌, length, take, replicate, refl, sym, ap, ◌∙◌, arith, append_assoc, length-append, length-take, lit<}
+use Rattle.std.{specs.Int.Bits.{bit_or}, proofs.Math.Nat.{pow-le-pow_right}, proofs.lemmas.Bool.{cases_lt}}
 use Rattle.std.proofs.lemmas.List.{take-take, take_all, take-append-le, take-replicate, length-replicate}
-use Rattle.zf_spec.specs.Numbers.{field}
-use Rattle.zf_spec.specs.Planes.{code_from, reach, tail}
-use Rattle.zf_spec.proofs.Fields.{field-zero}
+use Rattle.zf_spec.{specs.Numbers.{field}, specs.Planes.{code_from, reach, tail}, proofs.Fields.{field-zero}}
 use Rattle.zf_spec.proofs.Reach.{reach_none, has_one-zeros}
-use Rattle.zf_bits.proofs.Fields.{take-field}
-use Rattle.zf_bits.proofs.Words.{field_or}
+use Rattle.zf_bits.{proofs.Fields.{take-field}, proofs.Words.{field_or}}
 use Rattle.zf_planes.proofs.Runs.{tail_none}
 
 -- ---- a prefix as far as two limits reach

@@ -1,18 +1,14 @@
 -- What an act on owned blocks needs and leaves: states that are alike in the owned blocks stay alike, and the codes of all other blocks stay.
 use Rattle.std.proofs.Common.{◌≡◌, ◌≢◌, refl, sym, ap, subst, ◌∙◌, ℕ, zero, suc, ℤ, pos, ◌+ℤ◌, Bool, true, false, Option, Some, None, get_or, rules}
-use Rattle.std.proofs.lemmas.Bool.{cases_eq}
-use Rattle.std.specs.Int.{Width}
+use Rattle.std.{proofs.lemmas.Bool.{cases_eq}, specs.Int.{Width}}
 use Rattle.zf_spec.specs.Numbers.{wrap}
-use Rattle.zf_base.specs.Formats.{Format, with_at}
-use Rattle.zf_base.proofs.Formats.{with_at-same, with_at-other}
-use Rattle.zf_cached.specs.State.{State, own_line}
+use Rattle.zf_base.{specs.Formats.{Format, with_at}, proofs.Formats.{with_at-same, with_at-other}}
+use Rattle.zf_cached.{specs.State.{State, own_line}, specs.Placing.{direct}, specs.Acts.{Act}}
 use Rattle.zf_cached.specs.Touch.{write_back, write_back_dirty, write_back_line, hit, miss, touch, soiled, with_values, touch_for_writing_at, touch_at}
 use Rattle.zf_cached.specs.Changes.{write_back_lines, emptied, flush, discard}
-use Rattle.zf_cached.specs.Placing.{direct}
 use Rattle.zf_cached.proofs.Caching.{at_change, write_back_line_by, write_back_line-other, touch_by, touch-left_away}
-use Rattle.zf_cache.proofs.Stands.{write_back_line-none, write_back_line-some, write_back_dirty-false, write_back_dirty-true}
-use Rattle.zf_cached.specs.Acts.{Act}
 use Rattle.zf_cached.specs.Views.{changed, acted, answered, IsWithin, HasOwn, AreAlike}
+use Rattle.zf_cache.proofs.Stands.{write_back_line-none, write_back_line-some, write_back_dirty-false, write_back_dirty-true}
 
 -- functions that are changed alike
 with_at-alike : {A : Type 0} (f g : ℕ → A) (k : ℕ) (x y : A) (n : ℕ) → x ≡ y → (n ≢ k → f n ≡ g n) → with_at f k x n ≡ with_at g k y n

@@ -1,8 +1,7 @@
 -- However the steps of several views are mixed, each view goes as it goes alone.
 use Rattle.std.proofs.Common.{◌≡◌, ◌≢◌, refl, sym, ap, subst, ◌∙◌, ℕ, ◌==◌, ℤ, Bool, true, false, eqb-true, eq-eqb, Option, List, [], ◌∷◌, rules}
 use Rattle.std.specs.Int.{Width}
-use Rattle.zf_base.specs.Formats.{Format}
-use Rattle.zf_base.proofs.Formats.{with_at-same, with_at-other}
+use Rattle.zf_base.{specs.Formats.{Format}, proofs.Formats.{with_at-same, with_at-other}}
 use Rattle.zf_cached.proofs.Caching.{at_change}
 use Rattle.zf_cached.specs.Views.{View, Views, Step, acted, answered, with_codes, without_codes, state_of_view, stepped, ran, answers, steps_of, NoneShared, IsUnowned, IsWithin, AreWithin, HasOwn, AreAlike}
 use Rattle.zf_private.proofs.Alike.{own-acted, stay-acted, alike-acted, alike-answered}

@@ -3,33 +3,21 @@ use Rattle.std.proofs.Common.{◌≡◌, refl, sym, ap, subst, ◌∙◌, ℕ, s
 use Rattle.std.specs.Int.{Width}
 use Rattle.std.proofs.lemmas.List.{length-take-le, set_split, map-set, length-map, length-drop, drop-drop, get_or-map}
 use Rattle.zf_spec.specs.Numbers.{wrap}
-use Rattle.zf_base.specs.declared.backing.Reading.{Ghosts as Reading}
-use Rattle.zf_base.specs.declared.position.Pos.{Pos}
-use Rattle.zf_base.specs.Positions.{used_axes}
-use Rattle.zf_base.specs.Places.{IsAt}
-use Rattle.zf_base.specs.Formats.{Format, existing_of}
+use Rattle.zf_base.{specs.declared.backing.Reading.{Ghosts as Reading}, specs.declared.position.Pos.{Pos}}
+use Rattle.zf_base.{specs.Positions.{used_axes}, specs.Places.{IsAt}, specs.Formats.{Format, existing_of}}
 use Rattle.zf_base.proofs.Formats.{existing_of-existing_of, existing_of-meant, existing_of-set, get_or-existing_of_exists}
 use Rattle.zf_base.proofs.Sizes.{blocks_le}
-use Rattle.zf_cached.specs.State.{State}
+use Rattle.zf_cached.{specs.State.{State}, specs.Placing.{direct}, proofs.Caching.{touch-left}}
 use Rattle.zf_cached.specs.Touch.{touch, soiled, touch_for_writing, with_values, touch_for_writing_at}
-use Rattle.zf_cached.specs.Placing.{direct}
-use Rattle.zf_cached.proofs.Caching.{touch-left}
-use Rattle.zf_lines.specs.Rows.{line_at, part, over_part, with_part}
-use Rattle.zf_lines.proofs.Sizes.{over_same}
+use Rattle.zf_cached.{specs.Acts.{Act}, specs.Views.{changed, acted, answered, IsWithin, HasOwn}}
+use Rattle.zf_lines.{specs.Rows.{line_at, part, over_part, with_part}, proofs.Sizes.{over_same}}
 use Rattle.zf_cache.specs.Kept.{Kept, HasBlocks, HasRow, IsIn, IsDirty, tag_at, block_in, dirty_tag, line_of}
-use Rattle.zf_cache.specs.Standing.{state_of, values_of, Fits, state_at}
-use Rattle.zf_cache.specs.Steps.{with_value, put, put_at}
-use Rattle.zf_cache.proofs.Tags.{names-dirty, named}
-use Rattle.zf_cache.specs.Backed.{BackedAt}
-use Rattle.zf_cache.specs.Loans.{StandsFor}
-use Rattle.zf_cache.proofs.Steps.{part_written}
-use Rattle.zf_cache.proofs.Sound.{values_here}
+use Rattle.zf_cache.{specs.Standing.{state_of, values_of, Fits, state_at}, proofs.Tags.{names-dirty, named}}
+use Rattle.zf_cache.{specs.Steps.{with_value, put, put_at}, specs.Backed.{BackedAt}, specs.Loans.{StandsFor}}
+use Rattle.zf_cache.{proofs.Steps.{part_written}, proofs.Sound.{values_here}}
 use Rattle.zf_cache.proofs.Sound as sound
-use Rattle.zf_cached.specs.Acts.{Act}
-use Rattle.zf_cached.specs.Views.{changed, acted, answered, IsWithin, HasOwn}
 use Rattle.zf_private.specs.Standing.{Held, Own, block_at, place_at, state, IsOver, HasPlaces, IsWhole}
-use Rattle.zf_private.specs.Doing.{SitsOnAt, DoesAct}
-use Rattle.zf_private.proofs.Alike.{own-acted, stay-acted}
+use Rattle.zf_private.{specs.Doing.{SitsOnAt, DoesAct}, proofs.Alike.{own-acted, stay-acted}}
 
 module _ {X Code : Type 0} (value : X → ℤ) where
   -- the values of a block are 0 where no place exists

@@ -1,19 +1,13 @@
 -- What the laws say of views over a backing, and of the parts of an array.
 use Rattle.std.proofs.Common.{◌≡◌, refl, sym, ap, subst, ◌∙◌, ◌⊎◌, inl, inr, ℕ, zero, suc, ◌+◌, ◌*◌, ◌/◌, ◌<◌, ◌≤◌, ℤ, ◌+ℤ◌, arith, rules}
-use Rattle.std.specs.Int.{Width}
-use Rattle.std.proofs.lemmas.Bool.{cases_lt}
+use Rattle.std.{specs.Int.{Width}, proofs.lemmas.Bool.{cases_lt}}
 use Rattle.std.proofs.Math.Nat.{zero-div, mul-div_cancel_left}
 use Rattle.zf_spec.specs.Numbers.{wrap}
 use Rattle.zf_base.specs.Formats.{Format, meant}
-use Rattle.zf_cached.specs.State.{State}
-use Rattle.zf_cached.specs.Touch.{touch}
-use Rattle.zf_cached.specs.Changes.{flush, discard}
-use Rattle.zf_cache.specs.Kept.{block_in}
-use Rattle.zf_cache.specs.Standing.{Fits, state_at}
-use Rattle.zf_cache.proofs.Tags.{names-clean}
-use Rattle.zf_cached.specs.Acts.{Act}
-use Rattle.zf_cached.specs.Views.{changed, acted, AreAlike}
+use Rattle.zf_cached.{specs.State.{State}, specs.Touch.{touch}, specs.Changes.{flush, discard}}
+use Rattle.zf_cached.{specs.Acts.{Act}, specs.Views.{changed, acted, AreAlike}}
 use Rattle.zf_cached.specs.Ownership.{OwnsPart, first_of}
+use Rattle.zf_cache.{specs.Kept.{block_in}, specs.Standing.{Fits, state_at}, proofs.Tags.{names-clean}}
 use Rattle.zf_private.specs.Standing.{Held, Own, state, IsWhole}
 
 pub acted-discard : {Code : Type 0} (w : Width) (f : Format Code) (s : State Code) → discard f s ≡ acted w f s Act.discard

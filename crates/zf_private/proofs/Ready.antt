@@ -5,8 +5,7 @@ use Rattle.zf_base.specs.Formats.{Format}
 use Rattle.zf_cache.specs.Standing.{Fits}
 use Rattle.zf_cached.specs.Ownership.{Owns}
 use Rattle.zf_private.specs.Standing.{Held, Own, IsOver, HasPlaces, IsSameView, IsWhole}
-use Rattle.zf_private.specs.Several.{IsReady}
-use Rattle.zf_private.proofs.Others.{other_codes_fit}
+use Rattle.zf_private.{specs.Several.{IsReady}, proofs.Others.{other_codes_fit}}
 
 -- the format of an array of these sizes, as far as a view of some blocks looks at it
 abbrev HasBlocksOf : {Code : Type 0} → Format Code → List ℕ × (ℕ × ℕ) → Type 0

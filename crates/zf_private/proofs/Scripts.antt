@@ -1,30 +1,21 @@
 -- The lines of one split: what a view answers does not depend on the lines on other views.
 use Rattle.std.proofs.Common.{◌≡◌, ◌≢◌, refl, sym, ap, subst, ◌∙◌, ◌⊎◌, inl, inr, ℕ, suc, ◌<◌, ℤ, Bool, true, false, not, ◌&&◌, cond, ltb, eqb, eq-eqb, ne_eqb, List, [], ◌∷◌, ◌++◌, map, length, set, Option, Some, None, is_some, arith, rules}
-use Rattle.std.specs.Int.{Width}
-use Rattle.std.specs.List.{AllByRecursion, list_any, flat_map, filter}
+use Rattle.std.{specs.Int.{Width}, specs.List.{AllByRecursion, list_any, flat_map, filter}}
 use Rattle.std.specs.Option.{option_map, option_to_list}
 use Rattle.std.proofs.lemmas.Bool.{and_parts, not-false, ltb-true, cases_eq, cond-true, cond-false}
 use Rattle.std.proofs.lemmas.List.{length-set, length-map, get_or-set_same, get_or-set_other}
-use Rattle.zf_spec.specs.Grid.{blocks, is_inside}
-use Rattle.zf_spec.proofs.Counting.{length-upto, get_or-map-upto}
-use Rattle.zf_base.specs.Formats.{Format}
-use Rattle.zf_base.specs.Places.{block_number, place_of}
-use Rattle.zf_cached.specs.State.{State, is_block}
-use Rattle.zf_cached.specs.Arrays.{array_format}
-use Rattle.zf_cached.specs.Commands.{Command}
-use Rattle.zf_cached.specs.Replies.{Refusal, Reply}
-use Rattle.zf_cached.specs.Changes.{raised}
-use Rattle.zf_cached.specs.Grammar.{line_of, read_line}
-use Rattle.zf_cached.proofs.ReadLines.{read_line-None}
-use Rattle.zf_cached.specs.Acts.{Act}
+use Rattle.zf_spec.{specs.Grid.{blocks, is_inside}, proofs.Counting.{length-upto, get_or-map-upto}}
+use Rattle.zf_base.{specs.Formats.{Format}, specs.Places.{block_number, place_of}}
+use Rattle.zf_cached.{specs.State.{State, is_block}, specs.Arrays.{array_format}, specs.Commands.{Command}}
+use Rattle.zf_cached.{specs.Replies.{Refusal, Reply}, specs.Changes.{raised}, specs.Acts.{Act}}
+use Rattle.zf_cached.{specs.Grammar.{line_of, read_line}, proofs.ReadLines.{read_line-None}}
 use Rattle.zf_cached.specs.Views.{View, with_codes, without_codes, acted, answered, IsWithin, HasOwn, AreAlike}
 use Rattle.zf_cached.specs.Splits.{is_view_count, is_owner, no_view, view_at, coded, opened_view, opened_views}
 use Rattle.zf_cached.specs.Steps.{Setting, Session, format_of, is_split, views_of, state_of_view, with_view, by_view, at_position, split_into, needs_split, refuses_split, is_of_type, is_line_count, counts_reply, tests, first_refusal, refusal, done, step}
-use Rattle.zf_cached.specs.Runs.{read_step, line_step, run_lines}
-use Rattle.zf_cached.proofs.Sessions.{step_by}
+use Rattle.zf_cached.{specs.Runs.{read_step, line_step, run_lines}, proofs.Sessions.{step_by}}
+use Rattle.zf_cached.proofs.Parts.{one_owner}
 use Rattle.zf_private.specs.Scripts.{Answered, answered_lines, view_named, named, is_accepted, is_on, is_elsewhere, without_others}
 use Rattle.zf_private.proofs.Alike.{own-acted, stay-acted, alike-acted, alike-answered, alike-refl}
-use Rattle.zf_cached.proofs.Parts.{one_owner}
 use Rattle.zf_private.proofs.Several.{alike-trans}
 
 module _ {Code : Type 0} (setting : Setting Code) (ns : List ℕ) (n : ℕ) (some : 0 < n) where

@@ -1,20 +1,14 @@
 -- The calls of several views over one backing are the steps of the definition.
-use Rattle.std.proofs.Common.{◌≡◌, ◌≢◌, sym, ap, subst, ◌∙◌, ◌⊎◌, inl, inr, ℕ, ℤ, rules}
-use Rattle.std.specs.Int.{Width}
+use Rattle.std.{proofs.Common.{◌≡◌, ◌≢◌, sym, ap, subst, ◌∙◌, ◌⊎◌, inl, inr, ℕ, ℤ, rules}, specs.Int.{Width}}
 use Rattle.std.proofs.lemmas.Bool.{cases_lt}
 use Rattle.zf_base.specs.Formats.{Format}
-use Rattle.zf_cached.specs.State.{State}
-use Rattle.zf_cache.specs.Standing.{Fits, state_at}
-use Rattle.zf_cache.proofs.Tags.{same_or_not}
-use Rattle.zf_cached.specs.Acts.{Act}
+use Rattle.zf_cached.{specs.State.{State}, specs.Acts.{Act}}
 use Rattle.zf_cached.specs.Views.{Views, Step, state_of_view, acted, answered, stepped, IsWithin, HasOwn, AreAlike}
-use Rattle.zf_private.specs.Standing.{Held, Own, IsSameView, IsWhole, state}
-use Rattle.zf_private.specs.Several.{AreReady, StandFor}
+use Rattle.zf_cache.{specs.Standing.{Fits, state_at}, proofs.Tags.{same_or_not}}
+use Rattle.zf_private.{specs.Standing.{Held, Own, IsSameView, IsWhole, state}, proofs.Calls.{own_state}}
+use Rattle.zf_private.{specs.Several.{AreReady, StandFor}, proofs.Alone.{there, stays, alike-other}}
 use Rattle.zf_private.proofs.Alike.{stay-acted, alike-acted, alike-answered, alike-refl}
-use Rattle.zf_private.proofs.Alone.{there, stays, alike-other}
-use Rattle.zf_private.proofs.Calls.{own_state}
-use Rattle.zf_private.proofs.Others.{other_codes_fit, other_codes_alike}
-use Rattle.zf_private.proofs.Ready.{own_before}
+use Rattle.zf_private.{proofs.Others.{other_codes_fit, other_codes_alike}, proofs.Ready.{own_before}}
 
 module _ {Code : Type 0} (owned : ℕ → Type 0) where
   alike-of : (own : ℕ → Type 0) (s t : State Code) → ((b : ℕ) → own b → owned b) → AreAlike owned s t → AreAlike own s t

@@ -1,25 +1,17 @@
 -- Changes of an array as steps of a script.
-use Rattle.std.proofs.Common.{rules}
-use Rattle.std.proofs.Common.{◌≡◌, refl, sym, ap, subst, ◌∙◌, ℕ, ◌^◌, ℤ, Bool, true, not, List, length, replicate, set, Option, None}
+use Rattle.std.proofs.Common.{rules, ◌≡◌, refl, sym, ap, subst, ◌∙◌, ℕ, ◌^◌, ℤ, Bool, true, not, List, length, replicate, set, Option, None}
 use Rattle.std.specs.Int.{Width}
-use Rattle.zf_base.specs.Formats.{existing_of}
-use Rattle.zf_base.specs.declared.position.Pos.{Pos}
+use Rattle.zf_base.{specs.Formats.{existing_of}, specs.declared.position.Pos.{Pos}}
 use Rattle.zf_base.specs.Positions.{used_axes, with_unused, IsPosition}
-use Rattle.zf_cached.specs.Arrays.{array_format}
-use Rattle.zf_cached.specs.Commands.{Command}
-use Rattle.zf_cached.specs.Replies.{Reply}
-use Rattle.zf_cached.specs.Runs.{array_setting}
-use Rattle.zf_cached.specs.State.{State}
+use Rattle.zf_cached.{specs.Arrays.{array_format}, specs.Commands.{Command}, specs.Replies.{Reply}}
+use Rattle.zf_cached.{specs.Runs.{array_setting}, specs.State.{State}, specs.Windows.{Window, LiesIn, mapped}}
 use Rattle.zf_cached.specs.Touch.{touch_for_writing, with_values}
-use Rattle.zf_cached.specs.Windows.{Window, LiesIn, mapped}
 use Rattle.zf_cached.specs.Steps.{changed, changed_at, is_of_type, done}
 use Rattle.zf_header.specs.declared.header.Header.{Header}
 use Rattle.zf_array.specs.Standing.{Held, shape, state, format, array_of, block_at, place_at}
-use Rattle.zf_commands.specs.Steps.{Does}
-use Rattle.zf_commands.proofs.Commanding.{within, numbers_there}
+use Rattle.zf_commands.{specs.Steps.{Does}, proofs.Commanding.{within, numbers_there}}
 use Rattle.zf_commands.proofs.Stepping.{accepted}
-use Rattle.zf_run.specs.Sessions.{setting_of, session_of, IsArray}
-use Rattle.zf_run.proofs.Sessions.{changed_is}
+use Rattle.zf_run.{specs.Sessions.{setting_of, session_of, IsArray}, proofs.Sessions.{changed_is}}
 
 -- an array that is as it was
 pub same_array : (w : Width) (c : Command) (a b : Held) (v : Window) (reply : Option Reply) → b ≡ a → Does (setting_of w a) c (session_of a v) (session_of a v) reply

@@ -1,25 +1,20 @@
 -- How a run over an array ends.
-use Rattle.std.proofs.Common.{rules}
-use Rattle.std.proofs.Common.{◌≡◌, refl, sym, ap, subst, ◌∙◌, ℕ, Bool, List, Option, ℤ, None}
+use Rattle.std.proofs.Common.{rules, ◌≡◌, refl, sym, ap, subst, ◌∙◌, ℕ, Bool, List, Option, ℤ, None}
 use Rattle.std.specs.Int.{Width}
 use Rattle.zf_base.specs.declared.lane.Ty.{Ty}
-use Rattle.zf_header.specs.declared.header.Mode.{Mode}
-use Rattle.zf_header.specs.HeaderBits.{block_bits}
-use Rattle.zf_cached.specs.Windows.{Window, whole}
-use Rattle.zf_cached.specs.Commands.{Command}
+use Rattle.zf_header.{specs.declared.header.Mode.{Mode}, specs.HeaderBits.{block_bits}}
+use Rattle.zf_cached.{specs.Windows.{Window, whole}, specs.Commands.{Command}}
 use Rattle.zf_cached.specs.Steps.{Setting, Session, flushed_views, joined, done}
 use Rattle.zf_cached.specs.Runs.{array_setting, run_lines, lines_of, run_script, ended, run, look}
 use Rattle.zf_array.specs.Standing.{Held, shape, state}
-use Rattle.zf_run.specs.declared.end.RunEnd.{RunEnd}
-use Rattle.zf_run.specs.declared.end.RunEnd.TheVariants.{Write}
+use Rattle.zf_run.{specs.declared.end.RunEnd.{RunEnd}, specs.declared.end.RunEnd.TheVariants.{Write}}
+use Rattle.zf_run.specs.Pairs.{pair_state, PairFits, two_setting_of}
+use Rattle.zf_run.specs.Sessions.{setting_of, session_of, kind, look_setting_of, look_start_of, stream_of}
+use Rattle.zf_run.specs.Ends.{RunsTwo, FinishesTwo, two_start_of, Finishes, IsEnd, end_of, Runs, FinishesLook, Looks}
 use Rattle.zf_const.specs.Standing as read
 use Rattle.zf_cache.specs.Kept.{Kept}
 use Rattle.zf_store.specs.Stored.{Stored}
-use Rattle.zf_run.specs.Pairs.{pair_state, PairFits, two_setting_of}
-use Rattle.zf_commands.specs.Sittings.{session}
-use Rattle.zf_run.specs.Sessions.{setting_of, session_of, kind, look_setting_of, look_start_of, stream_of}
-use Rattle.zf_commands.specs.Runs.{RunsAll, AllRun, HasStopped}
-use Rattle.zf_run.specs.Ends.{RunsTwo, FinishesTwo, two_start_of, Finishes, IsEnd, end_of, Runs, FinishesLook, Looks}
+use Rattle.zf_commands.{specs.Sittings.{session}, specs.Runs.{RunsAll, AllRun, HasStopped}}
 
 -- an end says that all lines were run
 pub ends_all : (all : ℕ → Type 0) (stopped : Type 0) (n : ℕ) (end : RunEnd) → end ≡ end_of n → all n → IsEnd all stopped end
@@ -74,9 +69,6 @@ module _ {X : Type 0} (value : X → ℤ) (w : Width) (s mid t : Stored) (c e d 
 
   module _ (n : ℕ) (all : AllRun S script (session s.header.shape (pair_state value s c) v) final old new n)
       (flushes : done (two_setting_of w mid.header) final Command.flush ≡ (session t.header.shape (pair_state value t d) z, None)) (head : t.header ≡ mid.header) (fits : PairFits value t d) where
-    ran_two : RunsAll S all.0 script (two_start_of value w s t c d script all.0 old new) final old new n
-    ran_two = subst (λ x. RunsAll S all.0 script (session s.header.shape (pair_state value s c) x) final old new n) from all.1
-
     at_two_end : (run S all.0 s.header.shape (pair_state value s c) script).0 ≡ session t.header.shape (pair_state value t d) z
     unfolding run run_script ended joined flushed_views done
     at_two_end = search rules

@@ -1,27 +1,17 @@
 -- A call of a view over the codes of an array, which were lent to it.
 use Rattle.std.proofs.Common.{◌≡◌, sym, ap, subst, ◌∙◌, ℕ, ◌<◌, ℤ, true, false, List, length, get_or, set, Option}
-use Rattle.std.specs.Borrow.{MutBor}
-use Rattle.std.specs.Int.{Width}
-use Rattle.std.specs.Option.{option_map}
-use Rattle.zf_base.specs.Widths.{width_of}
-use Rattle.zf_base.specs.Places.{block_number, place_of}
-use Rattle.zf_base.specs.Positions.{used_axes, with_unused, IsPosition}
-use Rattle.zf_base.specs.declared.position.Pos.{Pos}
+use Rattle.std.{specs.Borrow.{MutBor}, specs.Int.{Width}, specs.Option.{option_map}}
+use Rattle.zf_base.{specs.Widths.{width_of}, specs.Places.{block_number, place_of}}
+use Rattle.zf_base.{specs.Positions.{used_axes, with_unused, IsPosition}, specs.declared.position.Pos.{Pos}}
 use Rattle.zf_header.specs.declared.header.Header.{Header}
-use Rattle.zf_cached.specs.Windows.{Window, whole}
-use Rattle.zf_cached.specs.Commands.{Command}
-use Rattle.zf_cached.specs.Replies.{Reply}
-use Rattle.zf_cached.specs.Acts.{Act}
-use Rattle.zf_cached.specs.Views.{acted, answered, IsWithin}
+use Rattle.zf_cached.{specs.Windows.{Window, whole}, specs.Commands.{Command}, specs.Replies.{Reply}}
+use Rattle.zf_cached.{specs.Acts.{Act}, specs.Views.{acted, answered, IsWithin}}
 use Rattle.zf_cached.specs.Steps.{by_view, view_has, refuses_split, tests, done}
 use Rattle.zf_cache.specs.Standing.{Fits}
 use Rattle.zf_private.specs.Standing as private
-use Rattle.zf_private.specs.Standing.{Own, IsSameView, IsWhole}
-use Rattle.zf_private.specs.Several.{IsReady}
-use Rattle.zf_array.specs.Standing.{Held, shape, state, format}
-use Rattle.zf_array.specs.Coded.{IsCoded, Frame, frame_of}
-use Rattle.zf_run.specs.Sessions.{setting_of, kind}
-use Rattle.zf_run.specs.Splits.{view_state, split_session, AreParts}
+use Rattle.zf_private.{specs.Standing.{Own, IsSameView, IsWhole}, specs.Several.{IsReady}}
+use Rattle.zf_array.{specs.Standing.{Held, shape, state, format}, specs.Coded.{IsCoded, Frame, frame_of}}
+use Rattle.zf_run.{specs.Sessions.{setting_of, kind}, specs.Splits.{view_state, split_session, AreParts}}
 use Rattle.zf_commands.specs.Steps.{Does, HasWindow, starves}
 use Rattle.zf_run.proofs.Viewing as viewing
 

@@ -1,12 +1,7 @@
 -- A read-only array after a call as a session.
-use Rattle.std.proofs.Common.{◌≡◌, refl, sym, ℕ, None}
-use Rattle.std.specs.Int.{Width}
-use Rattle.zf_cached.specs.Touch.{touch}
-use Rattle.zf_cached.specs.Changes.{raised, relined}
-use Rattle.zf_cached.specs.Commands.{Command}
-use Rattle.zf_cached.specs.Windows.{Window}
-use Rattle.zf_cached.specs.Steps.{touched, done}
-use Rattle.zf_cached.specs.Runs.{look_setting}
+use Rattle.std.{proofs.Common.{◌≡◌, refl, sym, ℕ, None}, specs.Int.{Width}}
+use Rattle.zf_cached.{specs.Touch.{touch}, specs.Changes.{raised, relined}, specs.Commands.{Command}}
+use Rattle.zf_cached.{specs.Windows.{Window}, specs.Steps.{touched, done}, specs.Runs.{look_setting}}
 use Rattle.zf_const.specs.Standing as read
 use Rattle.zf_const.specs.Standing.{Held, shape, state, format}
 use Rattle.zf_commands.specs.Sittings.{session}

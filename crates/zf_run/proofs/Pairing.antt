@@ -1,44 +1,27 @@
 -- A store and a two-way cache after a call, as a session.
-use Rattle.std.proofs.Common.{rules}
-use Rattle.std.proofs.Common.{◌≡◌, sym, ap, subst, ◌∙◌, ℕ, ◌^◌, ◌<◌, ℤ, pos, ◌+ℤ◌, Bool, true, false, List, map, length, get_or, set, replicate, None, [], Result, Ok, Err, ext_get_or, arith}
-use Rattle.std.specs.Int.{Width}
-use Rattle.std.specs.Result.{OnOk, OnErr}
+use Rattle.std.proofs.Common.{rules, ◌≡◌, sym, ap, subst, ◌∙◌, ℕ, ◌^◌, ◌<◌, ℤ, pos, ◌+ℤ◌, Bool, true, false, List, map, length, get_or, set, replicate, None, [], Result, Ok, Err, ext_get_or, arith}
+use Rattle.std.{specs.Int.{Width}, specs.Result.{OnOk, OnErr}}
 use Rattle.std.proofs.lemmas.List.{length-set, length-map, length-replicate, map-set, get_or-map}
-use Rattle.zf_spec.specs.Numbers.{wrap}
-use Rattle.zf_spec.specs.Grid.{blocks}
-use Rattle.zf_base.specs.Widths.{width_of}
-use Rattle.zf_base.specs.Places.{block_number, place_of, IsAt}
-use Rattle.zf_base.specs.Positions.{used_axes}
-use Rattle.zf_base.specs.declared.position.Pos.{Pos}
+use Rattle.zf_spec.{specs.Numbers.{wrap}, specs.Grid.{blocks}}
+use Rattle.zf_base.{specs.Widths.{width_of}, specs.Places.{block_number, place_of, IsAt}}
+use Rattle.zf_base.{specs.Positions.{used_axes}, specs.declared.position.Pos.{Pos}, proofs.Sizes.{blocks_le}}
 use Rattle.zf_base.specs.Formats.{Format, existing_of, meant}
 use Rattle.zf_base.proofs.Formats as formats
-use Rattle.zf_base.proofs.Sizes.{blocks_le}
-use Rattle.zf_header.specs.declared.header.Header.{Header}
-use Rattle.zf_header.specs.HeaderBits.{block_bits}
-use Rattle.zf_cached.specs.State.{State, is_block}
-use Rattle.zf_cached.specs.Touch.{soiled, with_values, touch_for_writing_at}
-use Rattle.zf_cached.specs.Changes.{flush, discard, raised, relined}
-use Rattle.zf_cached.specs.Arrays.{rate_coding, array_format}
-use Rattle.zf_cached.specs.Windows.{Window}
-use Rattle.zf_cached.specs.Commands.{Command}
+use Rattle.zf_header.{specs.declared.header.Header.{Header}, specs.HeaderBits.{block_bits}}
+use Rattle.zf_cached.{specs.State.{State, is_block}, specs.Touch.{soiled, with_values, touch_for_writing_at}}
+use Rattle.zf_cached.{specs.Changes.{flush, discard, raised, relined}, specs.Windows.{Window}}
+use Rattle.zf_cached.{specs.Arrays.{rate_coding, array_format}, specs.Commands.{Command}}
 use Rattle.zf_cached.specs.Steps.{Setting, Session, format_of as format_in, touched, changed, done}
-use Rattle.zf_lines.specs.Rows.{over}
-use Rattle.zf_lines.proofs.Sizes.{over_same}
-use Rattle.zf_cache.specs.Kept.{Kept, HasBlocks, tag_at, block_in, line_by}
-use Rattle.zf_cache.specs.Standing.{state_at}
-use Rattle.zf_cache.specs.Steps.{with_value, put_at}
-use Rattle.zf_cache.proofs.Sound.{existing_of-set}
+use Rattle.zf_cached.proofs.Caching.{touch-left}
+use Rattle.zf_lines.{specs.Rows.{over}, proofs.Sizes.{over_same}}
+use Rattle.zf_cache.{specs.Kept.{Kept, HasBlocks, tag_at, block_in, line_by}, specs.Standing.{state_at}}
+use Rattle.zf_cache.{specs.Steps.{with_value, put_at}, proofs.Sound.{existing_of-set}}
 use Rattle.zf_store.specs.Stored.{Stored, Frame, IsStore, frame_of, rate_of, format_of, code_at}
 use Rattle.zf_store.proofs.Kept.{blocks_is, block_len_is}
-use Rattle.zf_twoway.specs.Touch.{touch, touch_for_writing, put}
-use Rattle.zf_twoway.specs.Placing.{skewed, two_lines}
-use Rattle.zf_twoway.specs.Standing.{state_of}
-use Rattle.zf_twoway.specs.Runs.{twoway_setting}
-use Rattle.zf_cached.proofs.Caching.{touch-left}
-use Rattle.zf_commands.specs.Sittings.{session}
-use Rattle.zf_commands.proofs.Passing.{map-replicate}
-use Rattle.zf_run.specs.Pairs.{pair_state, two_setting_of}
-use Rattle.zf_run.proofs.Sessions.{with_names}
+use Rattle.zf_twoway.{specs.Touch.{touch, touch_for_writing, put}, specs.Placing.{skewed, two_lines}}
+use Rattle.zf_twoway.{specs.Standing.{state_of}, specs.Runs.{twoway_setting}}
+use Rattle.zf_commands.{specs.Sittings.{session}, proofs.Passing.{map-replicate}}
+use Rattle.zf_run.{specs.Pairs.{pair_state, two_setting_of}, proofs.Sessions.{with_names}}
 
 -- a place of a position exists
 pub exists_two : (s : Stored) (ps : List ℕ) (b k : ℕ) → IsAt s.header.shape ps b k → (format_of s).exists b k ≡ true

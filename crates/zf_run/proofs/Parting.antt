@@ -6,8 +6,7 @@ use Rattle.zf_cached.specs.Steps.{Setting, Session, is_split, views_of, with_vie
 use Rattle.zf_private.specs.Standing as private
 use Rattle.zf_array.specs.Standing.{Held}
 use Rattle.zf_run.specs.Splits.{lists, split_of}
-use Rattle.zf_commands.specs.Steps.{Does, HasWindow}
-use Rattle.zf_commands.proofs.Stepping.{accepted}
+use Rattle.zf_commands.{specs.Steps.{Does, HasWindow}, proofs.Stepping.{accepted}}
 
 -- ---- whether there is a split
 

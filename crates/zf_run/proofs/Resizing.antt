@@ -1,27 +1,18 @@
 -- Shapes that an array may be resized to, and the array of another shape.
-use Rattle.std.proofs.Common.{rules}
-use Rattle.std.proofs.Common.{◌≡◌, refl, sym, ap, subst, ◌∙◌, ℕ, ◌+◌, ◌*◌, ◌<◌, ◌≤◌, Bool, true, false, not, ◌&&◌, eq-eqb, ne_eqb, List, length, replicate, None, is_none, arith}
-use Rattle.std.proofs.Math.Bool.{and-false}
-use Rattle.std.proofs.lemmas.Bool.{and_from, le-leb, lt-leb}
+use Rattle.std.proofs.Common.{rules, ◌≡◌, refl, sym, ap, subst, ◌∙◌, ℕ, ◌+◌, ◌*◌, ◌<◌, ◌≤◌, Bool, true, false, not, ◌&&◌, eq-eqb, ne_eqb, List, length, replicate, None, is_none, arith}
+use Rattle.std.{proofs.Math.Bool.{and-false}, proofs.lemmas.Bool.{and_from, le-leb, lt-leb}}
 use Rattle.std.specs.Int.{Width, div_ceil}
-use Rattle.zf_spec.specs.Grid.{blocks}
-use Rattle.zf_spec.specs.Stream.{header, fixed_rate}
-use Rattle.zf_base.specs.Widths.{width_of}
-use Rattle.zf_base.specs.Shapes.{shape_fault}
-use Rattle.zf_base.specs.declared.lane.Ty.{Ty}
-use Rattle.zf_header.specs.declared.header.Header.{Header}
-use Rattle.zf_header.specs.declared.header.Mode.TheVariants.{Rate}
+use Rattle.zf_spec.{specs.Grid.{blocks}, specs.Stream.{header, fixed_rate}}
+use Rattle.zf_base.{specs.Widths.{width_of}, specs.Shapes.{shape_fault}, specs.declared.lane.Ty.{Ty}}
+use Rattle.zf_header.{specs.declared.header.Header.{Header}, specs.declared.header.Mode.TheVariants.{Rate}}
 use Rattle.zf_header.specs.HeaderBits.{header_bits, rate_bytes_of, block_bits}
-use Rattle.zf_cached.specs.Commands.{Command}
-use Rattle.zf_cached.specs.Changes.{resized}
+use Rattle.zf_cached.{specs.Commands.{Command}, specs.Changes.{resized}, specs.Runs.{array_setting}}
 use Rattle.zf_cached.specs.Arrays.{rate_coding, array_format, max_file, file_bytes}
 use Rattle.zf_cached.specs.Windows.{Window, LiesIn, whole}
 use Rattle.zf_cached.specs.Steps.{Setting, Session, is_new_shape, done}
-use Rattle.zf_cached.specs.Runs.{array_setting}
 use Rattle.zf_array.specs.Standing.{Held, shape, state, format}
 use Rattle.zf_run.specs.Sessions.{setting_of, session_of, start_of, IsArray}
-use Rattle.zf_commands.specs.Steps.{Does}
-use Rattle.zf_commands.proofs.Stepping.{accepted}
+use Rattle.zf_commands.{specs.Steps.{Does}, proofs.Stepping.{accepted}}
 
 module _ {Code : Type 0} (setting : Setting Code) (s : Session Code) (ns : List ℕ) where
   pub not_as_many : (length ns ≡ length s.shape → ⊥) → is_new_shape setting s ns ≡ false

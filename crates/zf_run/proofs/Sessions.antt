@@ -1,26 +1,17 @@
 -- An array after a call as a session.
-use Rattle.std.proofs.Common.{rules}
-use Rattle.std.proofs.Common.{◌≡◌, sym, ap, ◌∙◌, ℕ, ◌^◌, ℤ, Bool, List, None, length, to_z, of_z}
-use Rattle.std.specs.Int.{Width, w128}
-use Rattle.std.proofs.lemmas.Int.{to_z-of_z}
+use Rattle.std.proofs.Common.{rules, ◌≡◌, sym, ap, ◌∙◌, ℕ, ◌^◌, ℤ, Bool, List, None, length, to_z, of_z}
+use Rattle.std.{specs.Int.{Width, w128}, proofs.lemmas.Int.{to_z-of_z}}
 use Rattle.zf_spec.specs.Grid.{IsShape, extent_of}
-use Rattle.zf_base.specs.declared.position.Extent.{Extent}
-use Rattle.zf_base.specs.Positions.{used_axes, IsExtent}
-use Rattle.zf_base.specs.Widths.{width_of}
-use Rattle.zf_base.specs.Formats.{Format, existing_of}
+use Rattle.zf_base.{specs.declared.position.Extent.{Extent}, specs.Positions.{used_axes, IsExtent}}
+use Rattle.zf_base.{specs.Widths.{width_of}, specs.Formats.{Format, existing_of}}
 use Rattle.zf_header.specs.HeaderBits.{block_bits}
-use Rattle.zf_cached.specs.State.{State}
+use Rattle.zf_cached.{specs.State.{State}, specs.Arrays.{Coding, rate_coding, array_format}}
 use Rattle.zf_cached.specs.Touch.{touch, touch_for_writing, with_values, touch_for_writing_at}
-use Rattle.zf_cached.specs.Arrays.{Coding, rate_coding, array_format}
-use Rattle.zf_cached.specs.Windows.{Window}
-use Rattle.zf_cached.specs.Changes.{flush, discard, raised, relined}
-use Rattle.zf_cached.specs.Commands.{Command}
-use Rattle.zf_cached.specs.Steps.{format_of, touched, changed, done, total}
+use Rattle.zf_cached.{specs.Windows.{Window}, specs.Changes.{flush, discard, raised, relined}}
+use Rattle.zf_cached.{specs.Commands.{Command}, specs.Steps.{format_of, touched, changed, done, total}}
 use Rattle.zf_cached.specs.Runs.{array_setting}
-use Rattle.zf_window.specs.Bounds.{IsUpTo}
-use Rattle.zf_window.proofs.Bounds.{up_to_fits}
-use Rattle.zf_commands.specs.Sums.{within}
-use Rattle.zf_commands.proofs.Passing.{within_is, up_to_less}
+use Rattle.zf_window.{specs.Bounds.{IsUpTo}, proofs.Bounds.{up_to_fits}}
+use Rattle.zf_commands.{specs.Sums.{within}, proofs.Passing.{within_is, up_to_less}}
 use Rattle.zf_array.specs.Standing.{Held, shape, state, format}
 use Rattle.zf_run.specs.Sessions.{setting_of, session_of, kind}
 

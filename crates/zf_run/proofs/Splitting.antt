@@ -1,44 +1,27 @@
 -- An array that is split into views, and the end of a split.
-use Rattle.std.proofs.Common.{rules}
-use Rattle.std.proofs.Common.{◌≡◌, refl, sym, ap, subst, ◌∙◌, ◌⊎◌, inl, inr, ℕ, zero, suc, ◌+◌, ◌^◌, ◌<◌, ◌≤◌, ℤ, Bool, true, not, List, [], ◌∷◌, ◌++◌, map, length, length-append, get_or, Some, None, arith}
-use Rattle.std.specs.Int.{Width}
-use Rattle.std.proofs.Math.Path.{fun_ext}
+use Rattle.std.proofs.Common.{rules, ◌≡◌, refl, sym, ap, subst, ◌∙◌, ◌⊎◌, inl, inr, ℕ, zero, suc, ◌+◌, ◌^◌, ◌<◌, ◌≤◌, ℤ, Bool, true, not, List, [], ◌∷◌, ◌++◌, map, length, length-append, get_or, Some, None, arith}
+use Rattle.std.{specs.Int.{Width}, proofs.Math.Path.{fun_ext}}
 use Rattle.std.proofs.lemmas.Bool.{and_from, ne_eqb, cases_lt}
 use Rattle.std.proofs.lemmas.List.{length-map, length-replicate, ext_get_or, get_or_append_left, get_or_push}
 use Rattle.zf_spec.specs.Grid.{upto, blocks, is_inside, indices, extent_of}
 use Rattle.zf_spec.proofs.Counting.{get_or-map-upto, length-upto}
-use Rattle.zf_base.specs.Widths.{width_of}
-use Rattle.zf_base.specs.Formats.{Format}
-use Rattle.zf_base.specs.declared.lane.Ty.{Ty}
-use Rattle.zf_header.specs.declared.header.Header.{Header}
-use Rattle.zf_header.specs.declared.header.Mode.{Mode}
+use Rattle.zf_base.{specs.Widths.{width_of}, specs.Formats.{Format}, specs.declared.lane.Ty.{Ty}}
+use Rattle.zf_header.{specs.declared.header.Header.{Header}, specs.declared.header.Mode.{Mode}}
 use Rattle.zf_header.specs.HeaderBits.{block_bits}
-use Rattle.zf_cached.specs.State.{State, no_counts}
-use Rattle.zf_cached.specs.Changes.{flush, opened, raised}
-use Rattle.zf_cached.specs.Arrays.{rate_coding, array_format}
-use Rattle.zf_cached.specs.Windows.{Window}
-use Rattle.zf_cached.specs.Commands.{Command}
-use Rattle.zf_cached.specs.Acts.{Act}
-use Rattle.zf_cached.specs.Views.{View}
-use Rattle.zf_cached.specs.Ownership.{first_of, count_of}
+use Rattle.zf_cached.{specs.State.{State, no_counts}, specs.Changes.{flush, opened, raised}, specs.Acts.{Act}}
+use Rattle.zf_cached.{specs.Arrays.{rate_coding, array_format}, specs.Windows.{Window}, specs.Views.{View}}
+use Rattle.zf_cached.{specs.Commands.{Command}, specs.Ownership.{first_of, count_of}}
 use Rattle.zf_cached.specs.Splits.{is_view_count, is_owner, opened_view, opened_views, no_view}
 use Rattle.zf_cached.specs.Steps.{Setting, Session, format_of, by_view, split_into, flushed_views, joined, is_line_count, done}
-use Rattle.zf_cached.specs.Runs.{array_setting, ended}
-use Rattle.zf_cached.proofs.States.{same_state}
-use Rattle.zf_cache.specs.Kept.{Kept, IsEmpty}
-use Rattle.zf_cache.specs.Standing.{state_of, HasRoom}
-use Rattle.zf_cache.proofs.Stands.{standing}
-use Rattle.zf_cache.proofs.Steps.{empty_fits}
-use Rattle.zf_cache.proofs.Touches.{state_is, no_tag, all_meant}
+use Rattle.zf_cached.{specs.Runs.{array_setting, ended}, proofs.States.{same_state}}
+use Rattle.zf_cache.{specs.Kept.{Kept, IsEmpty}, specs.Standing.{state_of, HasRoom}, proofs.Stands.{standing}}
+use Rattle.zf_cache.{proofs.Steps.{empty_fits}, proofs.Touches.{state_is, no_tag, all_meant}}
 use Rattle.zf_private.specs.Standing as private
-use Rattle.zf_array.specs.Standing.{Held, shape, state, format}
-use Rattle.zf_array.specs.Coded.{IsCoded}
-use Rattle.zf_run.specs.Sessions.{setting_of, session_of, kind}
-use Rattle.zf_commands.specs.Steps.{Does, HasWindow}
+use Rattle.zf_array.{specs.Standing.{Held, shape, state, format}, specs.Coded.{IsCoded}}
+use Rattle.zf_run.{specs.Sessions.{setting_of, session_of, kind}, proofs.Sessions.{format_is}}
 use Rattle.zf_run.specs.Splits.{view_of, views_seen, split_session, IsPart, AreParts, IsNewPart, AreNewParts}
-use Rattle.zf_run.proofs.Sessions.{format_is}
-use Rattle.zf_commands.proofs.Stepping.{accepted}
 use Rattle.zf_run.proofs.Viewing.{is_owner_is, seen_at}
+use Rattle.zf_commands.{specs.Steps.{Does, HasWindow}, proofs.Stepping.{accepted}}
 
 -- an item of a list
 item_at : {Y : Type 0} (ys : List Y) (i : ℕ) → i < length ys → (y : Y) × (y ≡ get_or ys i y)

@@ -1,46 +1,29 @@
 -- What a call of a view makes of an array that is split.
-use Rattle.std.proofs.Common.{rules}
-use Rattle.std.proofs.Common.{◌≡◌, ◌≢◌, ◌↔◌, refl, sym, ap, subst, ◌∙◌, ◌⊎◌, inl, inr, ℕ, ◌+◌, ◌<◌, ◌≤◌, ℤ, Bool, true, false, not, ◌&&◌, ltb, leb, List, [], length, get_or, set, Option, Some, None, if◌then◌else◌, arith}
-use Rattle.std.specs.Int.{Width}
-use Rattle.std.specs.Option.{option_map}
-use Rattle.std.proofs.Math.Path.{fun_ext}
+use Rattle.std.proofs.Common.{rules, ◌≡◌, ◌≢◌, ◌↔◌, refl, sym, ap, subst, ◌∙◌, ◌⊎◌, inl, inr, ℕ, ◌+◌, ◌<◌, ◌≤◌, ℤ, Bool, true, false, not, ◌&&◌, ltb, leb, List, [], length, get_or, set, Option, Some, None, if◌then◌else◌, arith}
+use Rattle.std.{specs.Int.{Width}, specs.Option.{option_map}, proofs.Math.Path.{fun_ext}}
 use Rattle.std.proofs.Math.Bool.{and-false}
 use Rattle.std.proofs.lemmas.Bool.{false≢true, and_from, and_parts, lt-ltb, ltb-true, le-ltb, le-leb, leb-true, cases_lt, cases_eq}
 use Rattle.std.proofs.lemmas.List.{get_or-map, get_or_default, map-set, length-map, length-set, get_or-set_other, get_or-set_same, ext_get_or}
 use Rattle.zf_spec.specs.Grid.{blocks, is_inside}
-use Rattle.zf_base.specs.Widths.{width_of}
-use Rattle.zf_base.specs.Places.{block_number}
-use Rattle.zf_base.specs.Positions.{used_axes, with_unused, IsPosition}
-use Rattle.zf_base.specs.declared.position.Pos.{Pos}
-use Rattle.zf_base.specs.Formats.{Format, meant}
-use Rattle.zf_header.specs.declared.header.Header.{Header}
-use Rattle.zf_header.specs.HeaderBits.{block_bits}
-use Rattle.zf_cached.specs.State.{Counts, State, empty_line, none_dirty}
-use Rattle.zf_cached.specs.Arrays.{rate_coding, array_format}
-use Rattle.zf_cached.specs.Windows.{Window, LiesIn}
-use Rattle.zf_cached.specs.Commands.{Command}
-use Rattle.zf_cached.specs.Replies.{Reply}
-use Rattle.zf_cached.specs.Acts.{Act}
+use Rattle.zf_base.{specs.Widths.{width_of}, specs.Places.{block_number}, specs.declared.position.Pos.{Pos}}
+use Rattle.zf_base.{specs.Positions.{used_axes, with_unused, IsPosition}, specs.Formats.{Format, meant}}
+use Rattle.zf_header.{specs.declared.header.Header.{Header}, specs.HeaderBits.{block_bits}}
+use Rattle.zf_cached.{specs.State.{Counts, State, empty_line, none_dirty}, specs.Windows.{Window, LiesIn}}
+use Rattle.zf_cached.{specs.Arrays.{rate_coding, array_format}, specs.Commands.{Command}, specs.Acts.{Act}}
+use Rattle.zf_cached.{specs.Replies.{Reply}, specs.Ownership.{Owns, first_of, count_of}}
 use Rattle.zf_cached.specs.Views.{View, with_codes, without_codes, acted, answered, IsWithin, HasOwn, AreAlike}
-use Rattle.zf_cached.specs.Ownership.{Owns, first_of, count_of}
 use Rattle.zf_cached.specs.Splits.{is_view_count, is_owner, no_view, view_at, coded}
 use Rattle.zf_cached.specs.Steps.{Setting, Session, format_of, state_of_view, with_view, by_view, has_view, view_has, refuses_split, tests, done}
-use Rattle.zf_cached.specs.Runs.{array_setting}
+use Rattle.zf_cached.{specs.Runs.{array_setting}, proofs.Parts.{part_end, parts_apart}}
 use Rattle.zf_cache.specs.Standing.{Fits, state_at}
 use Rattle.zf_private.specs.Standing as private
-use Rattle.zf_private.specs.Standing.{Own, IsSameView, IsWhole}
+use Rattle.zf_private.{specs.Standing.{Own, IsSameView, IsWhole}, proofs.Calls.{own_state}}
 use Rattle.zf_private.proofs.Alike.{stay-acted, quiet-acted, alike-acted, alike-answered}
-use Rattle.zf_private.proofs.Calls.{own_state}
-use Rattle.zf_private.proofs.Others.{other_codes_alike}
-use Rattle.zf_cached.proofs.Parts.{part_end, parts_apart}
-use Rattle.zf_private.proofs.Ready.{ready_after, ready_beside}
-use Rattle.zf_array.specs.Standing.{Held, shape, state, format}
-use Rattle.zf_array.specs.Coded.{IsCoded}
-use Rattle.zf_run.specs.Sessions.{setting_of}
+use Rattle.zf_private.{proofs.Others.{other_codes_alike}, proofs.Ready.{ready_after, ready_beside}}
+use Rattle.zf_array.{specs.Standing.{Held, shape, state, format}, specs.Coded.{IsCoded}}
+use Rattle.zf_run.{specs.Sessions.{setting_of}, proofs.Sessions.{format_is}}
 use Rattle.zf_run.specs.Splits.{owns_block, view_state, view_of, views_seen, split_session, IsPart, AreParts}
-use Rattle.zf_commands.specs.Steps.{Does, HasWindow, starves}
-use Rattle.zf_run.proofs.Sessions.{format_is}
-use Rattle.zf_commands.proofs.Stepping.{accepted}
+use Rattle.zf_commands.{specs.Steps.{Does, HasWindow, starves}, proofs.Stepping.{accepted}}
 
 -- ---- which blocks a view owns
 

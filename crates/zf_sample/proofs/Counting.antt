@@ -1,19 +1,13 @@
 -- Changes so far and those to come.
 use Rattle.std.proofs.Common.{◌≡◌, ℕ, zero, suc, ◌+◌, ◌*◌, min, Bool, true, false, not, cond, List, [], ◌∷◌, length, take, drop, refl, ap, ◌∙◌, arith, zero-add, mul_comm, ⊎_elim, eqb}
-use Rattle.std.specs.Str.{bytes_eq}
-use Rattle.std.specs.Int.{byte_len}
-use Rattle.std.proofs.lemmas.List.{length-map}
-use Rattle.std.proofs.lemmas.Bool.{and_from}
-use Rattle.std.proofs.lemmas.Bool.Decides.{eqb_tells}
+use Rattle.std.{specs.Str.{bytes_eq}, specs.Int.{byte_len}, proofs.lemmas.List.{length-map}}
+use Rattle.std.{proofs.lemmas.Bool.{and_from}, proofs.lemmas.Bool.Decides.{eqb_tells}}
 use Rattle.rand_core.specs.Stream.{Stream, next_u64}
-use Rattle.zf_spec.specs.Grid.{product}
-use Rattle.zf_spec.proofs.RawValues.{length-raw, raw_small}
+use Rattle.zf_spec.{specs.Grid.{product}, proofs.RawValues.{length-raw, raw_small}}
 use Rattle.zf_base.specs.Widths.{width_of}
-use Rattle.zf_header.specs.declared.header.Header.{Header}
+use Rattle.zf_header.{specs.declared.header.Header.{Header}, specs.HeaderBits.{IsHeader}}
 use Rattle.zf_header.specs.declared.header.Mode.TheVariants.{Reversible}
-use Rattle.zf_header.specs.HeaderBits.{IsHeader}
-use Rattle.zf_parse.specs.Raw.{raw_len}
-use Rattle.zf_parse.proofs.StreamsBack.{text-reversible_text}
+use Rattle.zf_parse.{specs.Raw.{raw_len}, proofs.StreamsBack.{text-reversible_text}}
 use Rattle.zf_sample.specs.Made.{generator, words, value_of_word, made_values}
 use Rattle.zf_sample.specs.Summaries.{changes, made_bytes, summary_of}
 

@@ -1,10 +1,7 @@
 -- Digits one by one, and numbers as words.
 use Rattle.std.proofs.Common.{◌≡◌, ◌≢◌, ℕ, zero, suc, ◌+◌, ◌*◌, ◌<◌, ◌^◌, List, [], ◌∷◌, length, get_or, take, Option, Some, None, IfSome, IfNone, ap, sym, ◌∙◌, subst, arith, decimal, slice_get, refl, rules}
-use Rattle.std.specs.Char.{digit_value}
-use Rattle.std.specs.Option.{SomeIff}
-use Rattle.std.specs.Str.Parse.{AllDigits, digits_value}
-use Rattle.std.proofs.lemmas.Int.Digits.{digits_value_more}
-use Rattle.std.proofs.lemmas.Str.Parse.{digits_value-take-le}
+use Rattle.std.{specs.Char.{digit_value}, specs.Option.{SomeIff}, specs.Str.Parse.{AllDigits, digits_value}}
+use Rattle.std.{proofs.lemmas.Int.Digits.{digits_value_more}, proofs.lemmas.Str.Parse.{digits_value-take-le}}
 use Rattle.std.proofs.lemmas.Fmt.{digits_decimal, decimal-digits_value, decimal_nonempty}
 use Rattle.zf_cached.proofs.Numerals.{own, number-decimal}
 use Rattle.zf_script.specs.NumberWords.{IsShortNumeral, IsDigitMore}

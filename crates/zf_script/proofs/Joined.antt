@@ -1,12 +1,10 @@
 -- Numbers with a byte between two of them, part by part.
 use Rattle.std.proofs.Common.{◌≡◌, ℕ, zero, suc, ◌+◌, ◌<◌, ◌≤◌, ◌^◌, true, ◌==◌, List, [], ◌∷◌, ◌++◌, map, length, get_or, set, take, refl, ap, sym, ◌∙◌, arith, lit<, decimal, get_or-set_other, length-take, append_assoc, append-nil, length-append, rules}
-use Rattle.std.specs.List.{join_with_byte, list_all}
+use Rattle.std.{specs.List.{join_with_byte, list_all}, proofs.lemmas.List.Folds.{list_all-append}}
 use Rattle.std.proofs.lemmas.Bool.{ltb-true, lt-ltb, le-leb, and_from, and_parts}
 use Rattle.std.proofs.lemmas.List.{length-map, map-append, take_more_set}
-use Rattle.std.proofs.lemmas.List.Folds.{list_all-append}
 use Rattle.std.proofs.lemmas.List.Splits.{length-slice_split}
-use Rattle.zf_base.specs.declared.position.Pos.{Pos}
-use Rattle.zf_base.specs.Positions.{used_axes, with_unused}
+use Rattle.zf_base.{specs.declared.position.Pos.{Pos}, specs.Positions.{used_axes, with_unused}}
 use Rattle.zf_cached.specs.Grammar.{IsNoDigit, numbers_text, is_number, has_axes, has_sizes, cut_at}
 use Rattle.zf_cached.proofs.Cutting.{cut_at-numbers, joined-cut_at}
 use Rattle.zf_cached.proofs.ReadLines.{axes-parts, sizes-parts}

@@ -1,21 +1,15 @@
 -- The number before a byte.
 use Rattle.std.proofs.Common.{◌≡◌, ◌≢◌, ℕ, ◌+◌, ◌<◌, ◌≤◌, ◌^◌, List, [], ◌∷◌, ◌++◌, length, get_or, take, drop, ◌==◌, ⊎_elim, refl, ap, sym, ◌∙◌, arith, decimal, append-nil, false, length-append, get_or-take, length-take-le}
-use Rattle.std.specs.List.{join_with_byte}
-use Rattle.std.specs.Str.Parse.{AllDigits, digits_value}
-use Rattle.std.proofs.Math.Nat.{eq-or-lt_of_le}
-use Rattle.std.proofs.Math.Seq.{get_or-append_seam}
-use Rattle.std.proofs.lemmas.Bool.{cases_lt, eq-eqb, ne_eqb}
+use Rattle.std.{specs.List.{join_with_byte}, specs.Str.Parse.{AllDigits, digits_value}}
+use Rattle.std.{proofs.Math.Nat.{eq-or-lt_of_le}, proofs.Math.Seq.{get_or-append_seam}}
+use Rattle.std.{proofs.lemmas.Bool.{cases_lt, eq-eqb, ne_eqb}, proofs.lemmas.List.Elements.{All-from_get_or}}
 use Rattle.std.proofs.lemmas.List.{drop_more, take-append-drop, take-append-le, get_or_append_left}
-use Rattle.std.proofs.lemmas.List.Elements.{All-from_get_or}
-use Rattle.std.proofs.lemmas.List.Splits.{slice_split_at}
-use Rattle.std.proofs.lemmas.Str.Parse.{not_in_digits}
+use Rattle.std.{proofs.lemmas.List.Splits.{slice_split_at}, proofs.lemmas.Str.Parse.{not_in_digits}}
 use Rattle.std.proofs.lemmas.Fmt.{digits_decimal, decimal_nonempty, decimal-digits_value}
 use Rattle.zf_base.proofs.Decimals.{one_zero}
-use Rattle.zf_cached.specs.Grammar.{IsNoDigit, cut_at}
-use Rattle.zf_cached.proofs.Cutting.{cut_at-one, joined-cut_at}
+use Rattle.zf_cached.{specs.Grammar.{IsNoDigit, cut_at}, proofs.Cutting.{cut_at-one, joined-cut_at}}
 use Rattle.zf_cached.proofs.Numerals.{own, HasNo, number-decimal}
-use Rattle.zf_script.specs.NumberWords.{IsDigitMore}
-use Rattle.zf_script.proofs.Digits.{digit_more}
+use Rattle.zf_script.{specs.NumberWords.{IsDigitMore}, proofs.Digits.{digit_more}}
 
 no_byte : (byte : ℕ) (word : List ℕ) → IsNoDigit byte → AllDigits 10 word → HasNo byte word
 no_byte byte word no_digit digits =

@@ -1,30 +1,22 @@
 -- Words of lines and the commands that they are.
 use Rattle.std.proofs.Common.{◌≡◌, ◌≢◌, ℕ, suc, ◌+◌, ◌<◌, ◌≤◌, ◌^◌, ℤ, pos, negsuc, List, [], ◌∷◌, length, get_or, drop, ◌⊎◌, inl, inr, false, bytes_eq, Option, Some, None, Result, Ok, Err, IsTrue, IfSome, IfNone, IfOk, IfErr, FitsSigned, refl, ap, sym, subst, ◌∙◌, arith, rules, codes, decimal}
-use Rattle.std.specs.Int.{w128}
-use Rattle.std.specs.Fmt.{signed_decimal}
-use Rattle.std.specs.Option.{ok_or}
+use Rattle.std.{specs.Int.{w128}, specs.Fmt.{signed_decimal}, specs.Option.{ok_or}, proofs.lemmas.Int.{ints}}
 use Rattle.std.proofs.lemmas.Bool.{lt-ltb, ltb-true, false≢true, and_parts, and_from}
-use Rattle.std.proofs.lemmas.Int.{ints}
 use Rattle.std.proofs.lemmas.Slice.Eq.{bytes_eq-Decides}
 use Rattle.zf_base.specs.declared.position.Pos.{Pos}
-use Rattle.zf_cached.specs.Commands.{Command}
+use Rattle.zf_cached.{specs.Commands.{Command}, proofs.Numerals.{HasNo}}
 use Rattle.zf_cached.specs.Grammar.{space, comma, letter_x, numbers_text, view_word, words_of, is_value, has_axes, has_sizes, cut_at, read_line}
-use Rattle.zf_cached.proofs.Numerals.{HasNo}
 use Rattle.zf_cached.proofs.Cutting.{cut_at-one, joined-cut_at, one_word}
 use Rattle.zf_cached.proofs.ReadLines.{sizes-parts, position_no_space, sizes_no_space, value_no_space, number_no_space, cut_at-line_of, read_line_iff, read_line-None}
-use Rattle.zf_script.specs.declared.command.Cmd.{Cmd}
-use Rattle.zf_script.specs.declared.command.Cmd.TheVariants as cmds
-use Rattle.zf_script.specs.declared.reply.Refusal.{Refusal}
-use Rattle.zf_script.specs.declared.reply.Refusal.TheVariants as refusals
-use Rattle.zf_script.specs.declared.verb.ValueVerb.{ValueVerb}
-use Rattle.zf_script.specs.declared.verb.ValueVerb.TheVariants as value_verbs
-use Rattle.zf_script.specs.declared.verb.Verb.{Verb}
-use Rattle.zf_script.specs.declared.verb.Verb.TheVariants as verbs
-use Rattle.zf_script.specs.NumberWords.{IsAxesWord, IsSizesWord}
+use Rattle.zf_script.{specs.declared.command.Cmd.{Cmd}, specs.declared.reply.Refusal.{Refusal}}
+use Rattle.zf_script.{specs.declared.verb.ValueVerb.{ValueVerb}, specs.declared.verb.Verb.{Verb}}
+use Rattle.zf_script.{specs.NumberWords.{IsAxesWord, IsSizesWord}, specs.Verbs.{value_verb_word, verb_word}}
 use Rattle.zf_script.specs.Arguments.{IsPositionAndValue, NoPositionAndValue, IsWindow, NoWindow, IsTwoNumbers, NoTwoNumbers}
-use Rattle.zf_script.specs.Verbs.{value_verb_word, verb_word}
-use Rattle.zf_script.specs.Seen.{command_of, IsCommand, IsNoCommand}
-use Rattle.zf_script.proofs.Joined.{some_part}
+use Rattle.zf_script.{specs.Seen.{command_of, IsCommand, IsNoCommand}, proofs.Joined.{some_part}}
+use Rattle.zf_script.specs.declared.command.Cmd.TheVariants as cmds
+use Rattle.zf_script.specs.declared.reply.Refusal.TheVariants as refusals
+use Rattle.zf_script.specs.declared.verb.ValueVerb.TheVariants as value_verbs
+use Rattle.zf_script.specs.declared.verb.Verb.TheVariants as verbs
 
 -- ---- the last word
 pub last_word : (word text : List ℕ) → word ≡ text → HasNo space text → cut_at space word ≡ text ∷ []

@@ -1,11 +1,9 @@
 -- Values as words.
 use Rattle.std.proofs.Common.{◌≡◌, ◌≢◌, ℕ, ◌<◌, ◌^◌, ℤ, pos, negsuc, List, ◌∷◌, get_or, IsTrue, ap, sym, ◌∙◌, arith, decimal, rules}
-use Rattle.std.specs.Fmt.{signed_decimal}
-use Rattle.std.proofs.lemmas.Bool.{ltb-true}
+use Rattle.std.{specs.Fmt.{signed_decimal}, proofs.lemmas.Bool.{ltb-true}}
 use Rattle.std.proofs.lemmas.Fmt.{digits_decimal, decimal_nonempty, decimal_injective}
 use Rattle.std.proofs.lemmas.Str.Parse.{not_in_digits}
-use Rattle.zf_cached.specs.Grammar.{is_value}
-use Rattle.zf_cached.proofs.Numerals.{own}
+use Rattle.zf_cached.{specs.Grammar.{is_value}, proofs.Numerals.{own}}
 
 no_minus_first : (n : ℕ) → n < 2 ^ 64 → get_or (decimal n) 0 0 ≢ 45
 no_minus_first n small = not_in_digits own (decimal n) 45 (digits_decimal own n small) (λ r. omega arith) 0 (decimal_nonempty n small)

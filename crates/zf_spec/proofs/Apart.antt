@@ -1,14 +1,10 @@
 -- The code of planes, and what a budget keeps of them, plane by plane.
-use Rattle.std.proofs.Common.{rules}
-use Rattle.std.proofs.Common.{◌≡◌, refl, sym, ap, ◌∙◌, ℕ, zero, suc, ◌-◌, ◌≤◌, max, Bool, true, false, List, [], ◌∷◌, ◌++◌, map, length, get_or, take, ⊎_elim, arith}
-use Rattle.std.proofs.lemmas.Bool.{true≢false, cases_lt}
-use Rattle.std.proofs.lemmas.List.{length-append}
+use Rattle.std.proofs.Common.{rules, ◌≡◌, refl, sym, ap, ◌∙◌, ℕ, zero, suc, ◌-◌, ◌≤◌, max, Bool, true, false, List, [], ◌∷◌, ◌++◌, map, length, get_or, take, ⊎_elim, arith}
+use Rattle.std.{proofs.lemmas.Bool.{true≢false, cases_lt}, proofs.lemmas.List.{length-append}}
 use Rattle.std.specs.List.{flat_map}
-use Rattle.zf_spec.specs.Grid.{count_from, upto}
+use Rattle.zf_spec.{specs.Grid.{count_from, upto}, proofs.Reach.{only_end, none_past_reach, one_at_reach}}
 use Rattle.zf_spec.specs.Planes.{reach, reach_of_all, plane_code, code_from, code, code_at}
 use Rattle.zf_spec.specs.Kept.{kept_plane, kept_planes_from, kept_planes, kept_at}
-use Rattle.zf_spec.proofs.Reach.{only_end}
-use Rattle.zf_spec.proofs.Reach.{none_past_reach, one_at_reach}
 
 -- ---- the reach of all planes
 

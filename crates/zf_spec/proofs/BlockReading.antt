@@ -1,22 +1,13 @@
 -- What reading the code of a block gives.
-use Rattle.std.proofs.Common.{rules}
-use Rattle.std.proofs.Common.{◌≡◌, ℕ, ◌+◌, ◌-◌, ◌*◌, ◌^◌, ◌≤◌, min, max, Bool, le-ltb, ℤ, FitsSigned, Some, List, ◌++◌, length, take, All, mod-eq_of_lt, mul-le-mul_left, arith}
-use Rattle.std.proofs.lemmas.List.{length-append, length-take}
-use Rattle.std.proofs.lemmas.List.Elements.{All-take}
-use Rattle.std.specs.Int.{Width}
-use Rattle.std.proofs.Math.Nat.{one-le-pow}
+use Rattle.std.proofs.Common.{rules, ◌≡◌, ℕ, ◌+◌, ◌-◌, ◌*◌, ◌^◌, ◌≤◌, min, max, Bool, le-ltb, ℤ, FitsSigned, Some, List, ◌++◌, length, take, All, mod-eq_of_lt, mul-le-mul_left, arith}
+use Rattle.std.{proofs.lemmas.List.{length-append, length-take}, proofs.lemmas.List.Elements.{All-take}}
+use Rattle.std.{specs.Int.{Width}, proofs.Math.Nat.{one-le-pow}}
 use mir.Val.{bits}
-use Rattle.zf_spec.specs.Numbers.{field}
-use Rattle.zf_spec.specs.Padding.{pad}
-use Rattle.zf_spec.specs.Lorenzo.{lorenzo, unlorenzo}
-use Rattle.zf_spec.specs.Planes.{needed_planes, code}
-use Rattle.zf_spec.specs.Lift.{lift}
+use Rattle.zf_spec.{specs.Numbers.{field}, specs.Padding.{pad}, specs.Lorenzo.{lorenzo, unlorenzo}}
+use Rattle.zf_spec.{specs.Planes.{needed_planes, code}, specs.Lift.{lift}, proofs.Reach.{needed_planes-le}}
 use Rattle.zf_spec.specs.Codes.{planes, coefficients_of, count_bits, rev_of_planes, rev, existing_values, read_rev, rate, round, read_rate, prec, round_prec, read_prec}
-use Rattle.zf_spec.proofs.Fields.{length-field, number-field}
-use Rattle.zf_spec.proofs.Beginnings.{begins_itself, length-first_bits}
-use Rattle.zf_spec.proofs.Reach.{needed_planes-le}
-use Rattle.zf_spec.proofs.PlaneCode.{length-code-le}
-use Rattle.zf_spec.proofs.Full.{full_only}
+use Rattle.zf_spec.{proofs.Fields.{length-field, number-field}, proofs.PlaneCode.{length-code-le}}
+use Rattle.zf_spec.{proofs.Beginnings.{begins_itself, length-first_bits}, proofs.Full.{full_only}}
 use Rattle.zf_spec.proofs.KeptSame.{kept_planes-planes_in}
 use Rattle.zf_spec.proofs.PlaneDigits.{length-planes, planes-length, coefficients_of-needed_planes}
 use Rattle.zf_spec.proofs.Padding.{IsExtent, length-pad, existing_values-pad, pad_fits}

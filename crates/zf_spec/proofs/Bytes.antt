@@ -1,15 +1,12 @@
 -- Bytes of bits, and the bytes of numbers.
-use Rattle.std.proofs.Common.{rules}
-use Rattle.std.proofs.Common.{◌≡◌, refl, sym, ap, subst, ◌∙◌, ℕ, zero, suc, ◌+◌, ◌-◌, ◌*◌, ◌/◌, ◌%◌, ◌^◌, ◌<◌, ◌≤◌, Bool, false, List, [], ◌∷◌, ◌++◌, length, get_or, take, drop, replicate, All, pow-suc, mod-eq_of_lt, take-append-drop, take_at, drop_at, take_all, take-take, get_or-take, arith}
-use Rattle.std.proofs.Math.Nat.{div-one, div-div-eq-div-mul}
+use Rattle.std.proofs.Common.{rules, ◌≡◌, refl, sym, ap, subst, ◌∙◌, ℕ, zero, suc, ◌+◌, ◌-◌, ◌*◌, ◌/◌, ◌%◌, ◌^◌, ◌<◌, ◌≤◌, Bool, false, List, [], ◌∷◌, ◌++◌, length, get_or, take, drop, replicate, All, pow-suc, mod-eq_of_lt, take-append-drop, take_at, drop_at, take_all, take-take, get_or-take, arith}
+use Rattle.std.{proofs.Math.Nat.{div-one, div-div-eq-div-mul}, proofs.Math.Seq.{drop-nil}}
 use Rattle.std.proofs.lemmas.List.{length-append, length-take, length-drop, length-replicate}
 use Rattle.std.proofs.lemmas.List.Elements.{All-head, All-tail, All-nil, All-cons}
 use Rattle.std.specs.Int.{Width, div_ceil, byte_len, byte_at, byte_worth, bytes_low_first, sum_through, to_le_bytes, from_le_bytes}
 use mir.Val.{bits}
-use Rattle.zf_spec.specs.Numbers.{field}
+use Rattle.zf_spec.{specs.Numbers.{field}, proofs.Fields.{length-field, number-field, field-number}}
 use Rattle.zf_spec.specs.Stream.{fill, with_fill, bytes_from, to_bytes, to_bits, first_bytes}
-use Rattle.std.proofs.Math.Seq.{drop-nil}
-use Rattle.zf_spec.proofs.Fields.{length-field, number-field, field-number}
 
 -- ---- bytes of bits
 

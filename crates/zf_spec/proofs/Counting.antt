@@ -1,9 +1,7 @@
 -- The numbers from one number on, lists that a function makes of them, and lists of four.
-use Rattle.std.proofs.Common.{rules}
-use Rattle.std.proofs.Common.{◌≡◌, refl, sym, ap, ◌∙◌, ℕ, zero, suc, ◌+◌, ◌-◌, ◌<◌, ◌≤◌, List, [], ◌∷◌, ◌++◌, map, length, get_or, Contains, ext_get_or, arith}
-use Rattle.std.proofs.lemmas.List.{length-map, get_or-map}
+use Rattle.std.proofs.Common.{rules, ◌≡◌, refl, sym, ap, ◌∙◌, ℕ, zero, suc, ◌+◌, ◌-◌, ◌<◌, ◌≤◌, List, [], ◌∷◌, ◌++◌, map, length, get_or, Contains, ext_get_or, arith}
+use Rattle.std.{proofs.lemmas.List.{length-map, get_or-map}, specs.List.{range_with_len}}
 use Rattle.std.proofs.lemmas.List.FromFn.{length-range_with_len, get_or-range_with_len}
-use Rattle.std.specs.List.{range_with_len}
 use Rattle.zf_spec.specs.Grid.{count_from, upto}
 
 -- std's word for the same list

@@ -1,16 +1,12 @@
 -- A plane that a budget cuts has a code that is too long for the bits that were left, as its whole plane has.
-use Rattle.std.proofs.Common.{rules}
-use Rattle.std.proofs.Common.{◌≡◌, refl, ap, ℕ, zero, suc, ◌-◌, ◌<◌, ◌≤◌, max, Bool, true, false, List, [], ◌∷◌, length, take, All, arith}
-use Rattle.std.proofs.lemmas.Bool.{cases_lt}
+use Rattle.std.proofs.Common.{rules, ◌≡◌, refl, ap, ℕ, zero, suc, ◌-◌, ◌<◌, ◌≤◌, max, Bool, true, false, List, [], ◌∷◌, length, take, All, arith}
+use Rattle.std.{proofs.lemmas.Bool.{cases_lt}, proofs.lemmas.List.Elements.{All-head, All-tail}}
 use Rattle.std.proofs.lemmas.List.{length-append, length-take, length-drop, length-replicate, take_at, drop_at}
-use Rattle.std.proofs.lemmas.List.Elements.{All-head, All-tail}
 use Rattle.zf_spec.specs.Planes.{has_one, reach, code_from_run, tail, plane_code, code_from, code}
 use Rattle.zf_spec.specs.Kept.{zeros, kept_group, kept_run, kept_tail, cut_plane, kept_planes_from, kept_planes}
 use Rattle.zf_spec.proofs.Full.{code_from_run-true, code_from_run-false, tail-some}
-use Rattle.zf_spec.proofs.KeptCases.{kept_tail-one}
-use Rattle.zf_spec.proofs.KeptSame.{kept_whole, kept_cut}
-use Rattle.zf_spec.proofs.PlaneCode.{tail-zeros}
-use Rattle.zf_spec.proofs.Reach.{reach_within}
+use Rattle.zf_spec.{proofs.KeptCases.{kept_tail-one}, proofs.KeptSame.{kept_whole, kept_cut}}
+use Rattle.zf_spec.{proofs.PlaneCode.{tail-zeros}, proofs.Reach.{reach_within}}
 
 -- ---- how many digits are kept
 

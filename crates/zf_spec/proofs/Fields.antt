@@ -1,9 +1,7 @@
 -- The lowest bits of a number, and the number that bits stand for.
 use Rattle.std.proofs.Common.{◌≡◌, refl, sym, ap, ◌∙◌, ℕ, zero, suc, ◌+◌, ◌*◌, ◌/◌, ◌%◌, ◌^◌, ◌<◌, Bool, true, false, List, [], ◌∷◌, ◌++◌, length, get_or, replicate, pow-suc, mod-eq_of_lt, pow_pos, arith}
-use Rattle.std.proofs.lemmas.Nat.{mod-pow-add, shr-shr}
-use Rattle.std.proofs.Math.Nat.{div-one, mod-one}
-use Rattle.zf_spec.specs.Numbers.{is_odd, digit_value, field, number}
-use Rattle.zf_spec.proofs.Halves.{digit_value-is_odd}
+use Rattle.std.{proofs.lemmas.Nat.{mod-pow-add, shr-shr}, proofs.Math.Nat.{div-one, mod-one}}
+use Rattle.zf_spec.{specs.Numbers.{is_odd, digit_value, field, number}, proofs.Halves.{digit_value-is_odd}}
 
 pub length-field : (n v : ℕ) → length (field n v) ≡ n
 length-field zero v = refl

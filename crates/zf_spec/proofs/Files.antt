@@ -1,11 +1,7 @@
 -- How long a file is whose codes all have one length.
-use Rattle.std.proofs.Common.{rules}
-use Rattle.std.proofs.Common.{◌≡◌, ℕ, ◌+◌, ◌*◌, Bool, List, [], ◌∷◌, map, length, arith, suc-mul}
-use Rattle.std.specs.Int.{Width, div_ceil}
-use Rattle.std.specs.List.{flat_map}
-use Rattle.std.proofs.lemmas.List.{length-append}
-use Rattle.zf_spec.specs.Stream.{Mode, header, file}
-use Rattle.zf_spec.proofs.Bytes.{length-to_bytes, length-filled_bytes}
+use Rattle.std.proofs.Common.{rules, ◌≡◌, ℕ, ◌+◌, ◌*◌, Bool, List, [], ◌∷◌, map, length, arith, suc-mul}
+use Rattle.std.{specs.Int.{Width, div_ceil}, specs.List.{flat_map}, proofs.lemmas.List.{length-append}}
+use Rattle.zf_spec.{specs.Stream.{Mode, header, file}, proofs.Bytes.{length-to_bytes, length-filled_bytes}}
 
 -- codes of one length, end to end
 pub length-codes : {X : Type 0} (code : X → List Bool) (n : ℕ) (xs : List X) → ((x : X) → length (code x) ≡ n) → length (flat_map (λ c. c) (map code xs)) ≡ length xs * n

@@ -1,14 +1,12 @@
 -- The only planes whose code begins a list of bits.
-use Rattle.std.proofs.Common.{rules}
-use Rattle.std.proofs.Common.{◌≡◌, refl, sym, ap, subst, ℕ, zero, suc, ◌-◌, ◌≤◌, max, Bool, true, false, List, [], ◌∷◌, length, take, drop, replicate, All, take_at, drop_at, take-append-drop, arith}
+use Rattle.std.proofs.Common.{rules, ◌≡◌, refl, sym, ap, subst, ℕ, zero, suc, ◌-◌, ◌≤◌, max, Bool, true, false, List, [], ◌∷◌, length, take, drop, replicate, All, take_at, drop_at, take-append-drop, arith}
 use Rattle.std.proofs.lemmas.Bool.{true≢false, false≢true}
 use Rattle.std.proofs.lemmas.List.{length-append, length-take, length-drop, length-replicate}
 use Rattle.std.proofs.lemmas.List.Elements.{All-nil, All-cons, All-head, All-tail}
 use Rattle.zf_spec.specs.Planes.{has_one, reach, group, code_from_run, tail, plane_code, code_from, code}
 use Rattle.zf_spec.specs.ReadPlanes.{Begins, first_bits, group_in, run_in, tail_in, plane_in, planes_in_from, planes_in}
 use Rattle.zf_spec.proofs.Beginnings.{length-first_bits, first_begins, begins_is_first, begins_append, begins_prefix, begins_rest}
-use Rattle.zf_spec.proofs.Reach.{zeros_from_none, reach_within}
-use Rattle.zf_spec.proofs.PlaneCode.{tail-zeros}
+use Rattle.zf_spec.{proofs.Reach.{zeros_from_none, reach_within}, proofs.PlaneCode.{tail-zeros}}
 
 -- ---- runs and tails
 

@@ -1,8 +1,6 @@
 -- Halves that are rounded down, and the digit that a half leaves.
-use Rattle.std.proofs.Common.{rules}
-use Rattle.std.proofs.Common.{◌≡◌, ℕ, ◌+◌, ◌%◌, Bool, not, eqb-true, ℤ, pos, negsuc, ◌+ℤ◌, ◌*ℤ◌, ◌≤ℤ◌, ◌<ℤ◌, arith}
-use Rattle.std.proofs.lemmas.Bool.{eqb-false}
-use Rattle.std.proofs.lemmas.Int.{ints}
+use Rattle.std.proofs.Common.{rules, ◌≡◌, ℕ, ◌+◌, ◌%◌, Bool, not, eqb-true, ℤ, pos, negsuc, ◌+ℤ◌, ◌*ℤ◌, ◌≤ℤ◌, ◌<ℤ◌, arith}
+use Rattle.std.{proofs.lemmas.Bool.{eqb-false}, proofs.lemmas.Int.{ints}}
 use Rattle.zf_spec.specs.Numbers.{floor_half, is_odd, is_odd_int, digit_value}
 
 -- the lowest bit as a number

@@ -1,9 +1,7 @@
 -- The digits that planes hold in words.
-use Rattle.std.proofs.Common.{rules}
-use Rattle.std.proofs.Common.{◌≡◌, ℕ, ◌-◌, ◌*◌, ◌<◌, ◌≤◌, Bool, List, [], length, get_or, reverse, refl, ◌∙◌, arith}
+use Rattle.std.proofs.Common.{rules, ◌≡◌, ℕ, ◌-◌, ◌*◌, ◌<◌, ◌≤◌, Bool, List, [], length, get_or, reverse, refl, ◌∙◌, arith}
 use Rattle.std.proofs.lemmas.List.{get_or-map, get_or-reverse, length-take, length-map, length-reverse}
-use Rattle.zf_spec.specs.Numbers.{word_bits}
-use Rattle.zf_spec.specs.HeldPlanes.{digits_held, planes_held}
+use Rattle.zf_spec.{specs.Numbers.{word_bits}, specs.HeldPlanes.{digits_held, planes_held}}
 use Rattle.zf_spec.proofs.WordBits.{length-word_bits}
 
 -- ---- the digits of one plane

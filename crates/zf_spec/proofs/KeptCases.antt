@@ -1,10 +1,7 @@
 -- What a budget keeps of the digits from some rank on, by cases.
-use Rattle.std.proofs.Common.{rules}
-use Rattle.std.proofs.Common.{◌≡◌, refl, ap, ◌∙◌, ℕ, zero, suc, ◌+◌, ◌-◌, ◌<◌, ◌≤◌, Bool, true, false, cond, ltb, lt-ltb, List, [], ◌∷◌, ◌++◌, length, replicate, arith}
-use Rattle.std.proofs.lemmas.Bool.{and_right}
-use Rattle.std.proofs.lemmas.List.{length-append, length-replicate}
-use Rattle.zf_spec.specs.Planes.{has_one}
-use Rattle.zf_spec.specs.Kept.{zeros, kept_run, kept_tail}
+use Rattle.std.proofs.Common.{rules, ◌≡◌, refl, ap, ◌∙◌, ℕ, zero, suc, ◌+◌, ◌-◌, ◌<◌, ◌≤◌, Bool, true, false, cond, ltb, lt-ltb, List, [], ◌∷◌, ◌++◌, length, replicate, arith}
+use Rattle.std.{proofs.lemmas.Bool.{and_right}, proofs.lemmas.List.{length-append, length-replicate}}
+use Rattle.zf_spec.{specs.Planes.{has_one}, specs.Kept.{zeros, kept_run, kept_tail}}
 use Rattle.zf_spec.proofs.Reach.{has_one-append_one}
 
 -- ---- nothing is kept

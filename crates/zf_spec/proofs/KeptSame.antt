@@ -1,16 +1,13 @@
 -- What a budget keeps of planes is known from as many bits of their code.
-use Rattle.std.proofs.Common.{rules}
-use Rattle.std.proofs.Common.{◌≡◌, refl, sym, ap, ◌∙◌, ℕ, zero, suc, ◌+◌, ◌-◌, ◌<◌, ◌≤◌, min, max, Bool, true, false, cond, le-leb, List, [], ◌∷◌, ◌++◌, length, take, drop, replicate, All, append_assoc, append-nil, take-take, arith}
+use Rattle.std.proofs.Common.{rules, ◌≡◌, refl, sym, ap, ◌∙◌, ℕ, zero, suc, ◌+◌, ◌-◌, ◌<◌, ◌≤◌, min, max, Bool, true, false, cond, le-leb, List, [], ◌∷◌, ◌++◌, length, take, drop, replicate, All, append_assoc, append-nil, take-take, arith, ⊎_elim}
 use Rattle.std.proofs.lemmas.Bool.{true≢false, false≢true, cases_lt, lt-leb}
 use Rattle.std.proofs.lemmas.List.{length-append, length-take, length-drop, replicate-append-replicate}
 use Rattle.std.proofs.lemmas.List.Elements.{All-head, All-tail}
 use Rattle.zf_spec.specs.Planes.{has_one, reach, group, code_from_run, tail, plane_code, code_from, code}
 use Rattle.zf_spec.specs.Kept.{zeros, kept_run, kept_tail, cut_plane, kept_plane, kept_planes_from, kept_planes}
-use Rattle.zf_spec.specs.ReadPlanes.{first_bits, planes_in}
+use Rattle.zf_spec.{specs.ReadPlanes.{first_bits, planes_in}, proofs.Reach.{reach-le}}
 use Rattle.zf_spec.proofs.Beginnings.{begins_is_first, begins_from_first, begins_itself, first_bits-first_bits, first_bits-append, first_bits-rest, first_bits-prefix, first_bits-all}
-use Rattle.zf_spec.proofs.Reach.{reach-le}
 use Rattle.zf_spec.proofs.KeptCases.{kept_tail-zeros, kept_tail-one}
-use Rattle.std.proofs.Common.{⊎_elim}
 use Rattle.zf_spec.proofs.Full.{full_plane_only, full_begins, full_only, length-planes_in, planes_in-length}
 
 zeros_same : (a b : List Bool) → length a ≡ length b → zeros a ≡ zeros b

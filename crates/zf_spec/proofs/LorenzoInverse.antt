@@ -1,17 +1,12 @@
 -- The Lorenzo transform and its inverse undo each other.
-use Rattle.std.proofs.Common.{rules}
-use Rattle.std.proofs.Common.{◌≡◌, refl, sym, ap, ◌∙◌, ℕ, zero, suc, ◌*◌, ◌/◌, ◌%◌, ◌^◌, ◌<◌, ℤ, pos, ◌*ℤ◌, FitsSigned, List, map, length, get_or, All, arith}
-use Rattle.std.proofs.Math.IntN.{*ℤ_comm}
-use Rattle.std.proofs.lemmas.List.Elements.{All-get_or, All-map}
+use Rattle.std.proofs.Common.{rules, ◌≡◌, refl, sym, ap, ◌∙◌, ℕ, zero, suc, ◌*◌, ◌/◌, ◌%◌, ◌^◌, ◌<◌, ℤ, pos, ◌*ℤ◌, FitsSigned, List, map, length, get_or, All, arith, []}
+use Rattle.std.{proofs.Math.IntN.{*ℤ_comm}, proofs.lemmas.List.Elements.{All-get_or, All-map}}
 use Rattle.std.specs.Int.{Width}
 use mir.Val.{bits}
-use Rattle.zf_spec.specs.Numbers.{wrap, IsSameModulo}
-use Rattle.zf_spec.specs.Grid.{upto}
+use Rattle.zf_spec.{specs.Numbers.{wrap, IsSameModulo}, specs.Grid.{upto}, proofs.Ring.{*ℤ_assoc}}
 use Rattle.zf_spec.specs.Lorenzo.{signed_choose, plain_choose, weight, weighted_sum, lorenzo, unlorenzo}
-use Rattle.zf_spec.proofs.Ring.{*ℤ_assoc}
 use Rattle.zf_spec.proofs.Counting.{length-map-upto, get_or-map-upto, map-get_or-upto, from_places}
 use Rattle.zf_spec.proofs.Wrapping.{same_modulo_mul, wrap_is_same, wrap_fits, wrap_only, same_modulo_sym}
-use Rattle.std.proofs.Common.{[]}
 use Rattle.zf_spec.proofs.Sums.{total, total_same, total_same_modulo, total-scale, total-scale_right, total_swap, total_fours, same_number, same_number-fours, one_term, weighted_sum-map}
 
 -- ---- the weights along one axis

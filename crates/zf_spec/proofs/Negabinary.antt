@@ -1,12 +1,9 @@
 -- The negabinary digits of a number, and the number that digits stand for.
 use Rattle.std.proofs.Common.{◌≡◌, refl, sym, ap, ◌∙◌, ℕ, zero, suc, ◌^◌, Bool, true, false, ℤ, pos, negsuc, ◌+ℤ◌, ◌*ℤ◌, neg_ℤ, FitsSigned, List, [], ◌∷◌, length, pow-suc, arith}
-use Rattle.std.proofs.lemmas.Int.{ints}
-use Rattle.std.specs.Int.{Width}
-use Rattle.std.proofs.Math.IntN.{*ℤ_comm}
+use Rattle.std.{proofs.lemmas.Int.{ints}, specs.Int.{Width}, proofs.Math.IntN.{*ℤ_comm}}
 use mir.Val.{bits}
 use Rattle.zf_spec.specs.Numbers.{IsSameModulo, floor_half, is_odd_int, digit_value, digits_sum, digits, value_of}
-use Rattle.zf_spec.proofs.Ring.{*ℤ_assoc, neg-*ℤ}
-use Rattle.zf_spec.proofs.Halves.{half_split}
+use Rattle.zf_spec.{proofs.Ring.{*ℤ_assoc, neg-*ℤ}, proofs.Halves.{half_split}}
 use Rattle.zf_spec.proofs.Wrapping.{same_modulo_sym, wrap_is_same, wrap_only, wrap_fits}
 
 pub length-digits : (k : ℕ) (v : ℤ) → length (digits k v) ≡ k

@@ -1,11 +1,8 @@
 -- The order of keys: it is strict, any two keys of one length are in it, and a place is known by its key.
-use Rattle.std.proofs.Common.{rules}
-use Rattle.std.proofs.Common.{◌≡◌, refl, ap, ◌∙◌, ℕ, zero, suc, ◌-◌, ◌/◌, ◌%◌, ◌^◌, ◌<◌, true, false, ◌&&◌, eqb, ltb, eqb-true, ltb-true, lt-ltb, eq-eqb, List, [], ◌∷◌, map, length, ◌⊎◌, inl, ⊎_elim, arith}
+use Rattle.std.proofs.Common.{rules, ◌≡◌, refl, ap, ◌∙◌, ℕ, zero, suc, ◌-◌, ◌/◌, ◌%◌, ◌^◌, ◌<◌, true, false, ◌&&◌, eqb, ltb, eqb-true, ltb-true, lt-ltb, eq-eqb, List, [], ◌∷◌, map, length, ◌⊎◌, inl, ⊎_elim, arith}
 use Rattle.std.proofs.lemmas.Bool.{or_cases, and_parts, or_left, or_right, and_from, cases_order, true≢false}
 use Rattle.std.proofs.lemmas.List.{length-map}
-use Rattle.zf_spec.specs.Grid.{indices}
-use Rattle.zf_spec.specs.Ranks.{key, comes_before}
-use Rattle.zf_spec.proofs.Raster.{length-indices}
+use Rattle.zf_spec.{specs.Grid.{indices}, specs.Ranks.{key, comes_before}, proofs.Raster.{length-indices}}
 
 -- what it is that one key comes before another
 comes_before_cases : (a b : ℕ) (as' bs : List ℕ) → comes_before (a ∷ as') (b ∷ bs) ≡ true → (a < b) ⊎ ((a ≡ b) × (comes_before as' bs ≡ true))

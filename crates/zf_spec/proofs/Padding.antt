@@ -1,14 +1,9 @@
 -- The padded block and the values that exist.
-use Rattle.std.proofs.Common.{rules}
-use Rattle.std.proofs.Common.{◌≡◌, refl, sym, ap, ◌∙◌, ℕ, ◌+◌, ◌*◌, ◌/◌, ◌%◌, ◌^◌, ◌<◌, ◌≤◌, true, cond, ltb, ltb-true, lt-ltb, ℤ, pos, FitsSigned, List, [], ◌∷◌, length, get_or, All, pow-suc, arith}
-use Rattle.std.proofs.lemmas.Bool.{and_parts, cases_lt}
-use Rattle.std.proofs.lemmas.List.{get_or_past}
+use Rattle.std.proofs.Common.{rules, ◌≡◌, refl, sym, ap, ◌∙◌, ℕ, ◌+◌, ◌*◌, ◌/◌, ◌%◌, ◌^◌, ◌<◌, ◌≤◌, true, cond, ltb, ltb-true, lt-ltb, ℤ, pos, FitsSigned, List, [], ◌∷◌, length, get_or, All, pow-suc, arith}
+use Rattle.std.{proofs.lemmas.Bool.{and_parts, cases_lt}, proofs.lemmas.List.{get_or_past}, specs.Int.{Width}}
 use Rattle.std.proofs.lemmas.List.Elements.{All-head, All-tail, All-from_get_or}
-use Rattle.std.specs.Int.{Width}
-use Rattle.zf_spec.specs.Grid.{indices, is_inside}
-use Rattle.zf_spec.specs.Padding.{sources, source_place, pad}
-use Rattle.zf_spec.specs.Codes.{existing_values}
-use Rattle.zf_spec.proofs.Wrapping.{zero_fits}
+use Rattle.zf_spec.{specs.Grid.{indices, is_inside}, specs.Padding.{sources, source_place, pad}}
+use Rattle.zf_spec.{specs.Codes.{existing_values}, proofs.Wrapping.{zero_fits}}
 use Rattle.zf_spec.proofs.Counting.{length-map-upto, get_or-map-upto, map-upto_same}
 
 -- extents of a block: from 1 to 4 along each axis

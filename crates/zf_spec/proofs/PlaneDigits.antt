@@ -1,21 +1,15 @@
 -- Planes and the coefficients that they are the digits of.
-use Rattle.std.proofs.Common.{rules}
-use Rattle.std.proofs.Common.{◌≡◌, refl, sym, ap, ◌∙◌, ℕ, zero, suc, ◌-◌, ◌^◌, ◌<◌, ◌≤◌, max, Bool, false, ℤ, pos, FitsSigned, List, [], ◌∷◌, ◌++◌, map, reverse, length, get_or, take, replicate, All, ext_get_or, ⊎_elim, get_or-take, arith}
-use Rattle.std.proofs.lemmas.Bool.{cases_lt}
+use Rattle.std.proofs.Common.{rules, ◌≡◌, refl, sym, ap, ◌∙◌, ℕ, zero, suc, ◌-◌, ◌^◌, ◌<◌, ◌≤◌, max, Bool, false, ℤ, pos, FitsSigned, List, [], ◌∷◌, ◌++◌, map, reverse, length, get_or, take, replicate, All, ext_get_or, ⊎_elim, get_or-take, arith}
+use Rattle.std.{proofs.lemmas.Bool.{cases_lt}, proofs.lemmas.Simd.{map-map}, specs.Int.{Width}}
 use Rattle.std.proofs.lemmas.List.{length-map, get_or-map, get_or_past, length-reverse, get_or-reverse, length-append, length-replicate, get_or-replicate, get_or_append_left, get_or-append_right, length-take}
-use Rattle.std.proofs.lemmas.Simd.{map-map}
 use Rattle.std.proofs.lemmas.List.Elements.{All-get_or, All-append, All-replicate}
-use Rattle.std.specs.Int.{Width}
 use mir.Val.{bits}
-use Rattle.zf_spec.specs.Numbers.{digits, value_of}
-use Rattle.zf_spec.specs.Grid.{upto}
-use Rattle.zf_spec.specs.Ranks.{by_rank, by_place}
+use Rattle.zf_spec.{specs.Numbers.{digits, value_of}, specs.Grid.{upto}, specs.Ranks.{by_rank, by_place}}
 use Rattle.zf_spec.specs.Planes.{plane, planes_of, digits_in_planes, needed_planes}
-use Rattle.zf_spec.specs.Codes.{planes, coefficients_of}
+use Rattle.zf_spec.{specs.Codes.{planes, coefficients_of}, proofs.Reach.{none_at, none_past_used}}
 use Rattle.zf_spec.proofs.Counting.{length-upto, get_or-upto, length-map-upto, get_or-map-upto, from_places, map-upto_same}
 use Rattle.zf_spec.proofs.Negabinary.{length-digits, value_of-digits, digits-value_of}
 use Rattle.zf_spec.proofs.Ranking.{order_below, length-by_rank, length-by_place, get_or-by_rank, by_place-by_rank, by_rank-by_place}
-use Rattle.zf_spec.proofs.Reach.{none_at, none_past_used}
 
 -- ---- the numbers below n, the greatest first
 

@@ -1,13 +1,9 @@
 -- The place of each rank and the rank of each place, and a block by rank and by place.
-use Rattle.std.proofs.Common.{rules}
-use Rattle.std.proofs.Common.{◌≡◌, refl, sym, ap, ◌∙◌, ℕ, zero, suc, ◌^◌, ◌<◌, ◌≤◌, eqb, eqb-true, ℤ, pos, List, [], ◌∷◌, length, get_or, Contains, ext_get_or, arith}
-use Rattle.std.proofs.lemmas.Bool.{eqb-false}
-use Rattle.std.proofs.lemmas.List.{length-map, get_or-map}
-use Rattle.std.proofs.lemmas.List.Elements.{Contains-get_or}
+use Rattle.std.proofs.Common.{rules, ◌≡◌, refl, sym, ap, ◌∙◌, ℕ, zero, suc, ◌^◌, ◌<◌, ◌≤◌, eqb, eqb-true, ℤ, pos, List, [], ◌∷◌, length, get_or, Contains, ext_get_or, arith}
+use Rattle.std.{proofs.lemmas.Bool.{eqb-false}, proofs.lemmas.List.{length-map, get_or-map}}
+use Rattle.std.{proofs.lemmas.List.Elements.{Contains-get_or}, specs.List.{position_or_len}}
 use Rattle.std.proofs.lemmas.List.Sorted.{IsPermutation-sym, Contains-permutation, length_permutation}
-use Rattle.std.specs.List.{position_or_len}
-use Rattle.zf_spec.specs.Grid.{places}
-use Rattle.zf_spec.specs.Ranks.{order, by_rank, by_place}
+use Rattle.zf_spec.{specs.Grid.{places}, specs.Ranks.{order, by_rank, by_place}}
 use Rattle.zf_spec.proofs.Counting.{count_from_bounds, Contains-count_from, length-upto, from_places, get_or-map-upto, length-map-upto}
 use Rattle.zf_spec.proofs.Rising.{contains_cases, contains_none, same_place, order_moves, order_rises}
 

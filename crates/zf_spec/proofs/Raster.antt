@@ -1,8 +1,7 @@
 -- Positions in a box and their raster numbers.
 use Rattle.std.proofs.Common.{◌≡◌, refl, ap, ◌∙◌, ℕ, zero, suc, ◌+◌, ◌*◌, ◌/◌, ◌%◌, ◌^◌, ◌<◌, ◌≤◌, true, ltb, ltb-true, lt-ltb, List, [], ◌∷◌, length, All, mod-lt, mod-eq_of_lt, pow-suc, div-add-mod', mul-le-mul_left, arith}
 use Rattle.std.proofs.Math.Nat.{add-mul-mod_self_left, add-mul-div_left, div-eq_of_lt}
-use Rattle.std.proofs.lemmas.Bool.{and_from, and_parts}
-use Rattle.std.proofs.lemmas.Nat.{div_below}
+use Rattle.std.{proofs.lemmas.Bool.{and_from, and_parts}, proofs.lemmas.Nat.{div_below}}
 use Rattle.std.proofs.lemmas.List.Elements.{All-head, All-tail}
 use Rattle.zf_spec.specs.Grid.{product, coordinates, raster, is_inside, extents, fours, indices}
 

@@ -1,7 +1,6 @@
 -- The laws of products of whole numbers that std lacks.
 use Rattle.std.proofs.Common.{◌≡◌, ◌*◌, zero, suc, ℤ, pos, negsuc, ◌+ℤ◌, ◌*ℤ◌, neg_ℤ, ap, arith}
-use Rattle.std.proofs.lemmas.Int.{ints}
-use Rattle.std.proofs.Math.IntN.{zero-*ℤ}
+use Rattle.std.{proofs.lemmas.Int.{ints}, proofs.Math.IntN.{zero-*ℤ}}
 use borrow.Author.Differences.{up, down, sum_is_lem, product_is}
 
 pub add-*ℤ : (a b c : ℤ) → (a +ℤ b) *ℤ c ≡ a *ℤ c +ℤ b *ℤ c

@@ -1,12 +1,9 @@
 -- Places whose keys rise: the order of the places rises, and no other arrangement of them does.
-use Rattle.std.proofs.Common.{◌≡◌, refl, sym, subst, ◌∙◌, ℕ, zero, suc, ◌+◌, ◌^◌, ◌<◌, ◌≤◌, Bool, true, false, cond, List, [], ◌∷◌, length, get_or, ◌⊎◌, ⊎_elim, Contains, IsPermutation, arith}
-use Rattle.std.proofs.lemmas.List.Elements.{Contains-get_or}
+use Rattle.std.proofs.Common.{◌≡◌, refl, sym, subst, ◌∙◌, ℕ, zero, suc, ◌+◌, ◌^◌, ◌<◌, ◌≤◌, Bool, true, false, cond, List, [], ◌∷◌, length, get_or, ◌⊎◌, ⊎_elim, Contains, IsPermutation, arith, rules}
+use Rattle.std.{proofs.lemmas.List.Elements.{Contains-get_or}, proofs.lemmas.Bool.{cases_lt}}
 use Rattle.std.proofs.lemmas.List.Sorted.{IsPermutation-refl, IsPermutation-sym, IsPermutation-cons, IsPermutation-trans, IsPermutation-append_left, IsPermutation-append_comm, Contains-permutation}
-use Rattle.zf_spec.specs.Grid.{count_from, places}
+use Rattle.zf_spec.{specs.Grid.{count_from, places}, proofs.Counting.{count_from_bounds}}
 use Rattle.zf_spec.specs.Ranks.{key, comes_before, put_in_order, in_order, order, Rises}
-use Rattle.zf_spec.proofs.Counting.{count_from_bounds}
-use Rattle.std.proofs.Common.{rules}
-use Rattle.std.proofs.lemmas.Bool.{cases_lt}
 use Rattle.zf_spec.proofs.Order.{comes_before_irrefl, comes_before_trans, places_total}
 
 -- the key of p comes before that of q

@@ -1,15 +1,9 @@
 -- Sums of whole numbers over the numbers from one number on.
-use Rattle.std.proofs.Common.{rules}
-use Rattle.std.proofs.Common.{◌≡◌, refl, sym, ap, ◌∙◌, ℕ, zero, suc, ◌+◌, ◌*◌, ◌/◌, ◌%◌, ◌<◌, ◌≤◌, cond, eqb, eq-eqb, ne_eqb, ℤ, pos, ◌+ℤ◌, ◌*ℤ◌, map, arith}
-use Rattle.std.proofs.Math.IntN.{zero-*ℤ, *ℤ-zero, +ℤ_idl}
-use Rattle.std.proofs.lemmas.Bool.{cases_eq}
+use Rattle.std.proofs.Common.{rules, ◌≡◌, refl, sym, ap, ◌∙◌, ℕ, zero, suc, ◌+◌, ◌*◌, ◌/◌, ◌%◌, ◌<◌, ◌≤◌, cond, eqb, eq-eqb, ne_eqb, ℤ, pos, ◌+ℤ◌, ◌*ℤ◌, map, arith, ⊎_elim}
+use Rattle.std.{proofs.Math.IntN.{zero-*ℤ, *ℤ-zero, +ℤ_idl}, proofs.lemmas.Bool.{cases_eq}}
 use Rattle.std.proofs.lemmas.Int.{ints}
-use Rattle.zf_spec.specs.Numbers.{IsSameModulo}
-use Rattle.zf_spec.specs.Grid.{count_from}
-use Rattle.zf_spec.specs.Lorenzo.{weighted_sum}
-use Rattle.zf_spec.proofs.Ring.{add-*ℤ, *ℤ-add}
-use Rattle.std.proofs.Common.{⊎_elim}
-use Rattle.zf_spec.proofs.Wrapping.{same_modulo_refl, same_modulo_add}
+use Rattle.zf_spec.{specs.Numbers.{IsSameModulo}, specs.Grid.{count_from}, specs.Lorenzo.{weighted_sum}}
+use Rattle.zf_spec.{proofs.Ring.{add-*ℤ, *ℤ-add}, proofs.Wrapping.{same_modulo_refl, same_modulo_add}}
 
 -- the sum of f at the numbers from k on, n of them
 abbrev pub total : (ℕ → ℤ) → ℕ → ℕ → ℤ

@@ -1,13 +1,9 @@
 -- The bits of words of any width, end to end, and a word of 64 in which a bit is set.
-use Rattle.std.proofs.Common.{rules}
-use Rattle.std.proofs.Common.{◌≡◌, ℕ, ◌+◌, ◌*◌, ◌/◌, ◌%◌, ◌^◌, ◌<◌, Bool, false, List, [], ◌∷◌, length, get_or, take, ap, ◌∙◌, arith, length-append}
-use Rattle.std.specs.List.{flat_map}
-use Rattle.std.proofs.Math.Nat.{mul-suc, mul_comm}
-use Rattle.std.proofs.lemmas.List.{length-take-le}
-use Rattle.std.proofs.lemmas.List.Concat.{get_or-flat_map}
+use Rattle.std.proofs.Common.{rules, ◌≡◌, ℕ, ◌+◌, ◌*◌, ◌/◌, ◌%◌, ◌^◌, ◌<◌, Bool, false, List, [], ◌∷◌, length, get_or, take, ap, ◌∙◌, arith, length-append}
+use Rattle.std.{specs.List.{flat_map}, proofs.Math.Nat.{mul-suc, mul_comm}}
+use Rattle.std.{proofs.lemmas.List.{length-take-le}, proofs.lemmas.List.Concat.{get_or-flat_map}}
 use Rattle.std.proofs.lemmas.Nat.{div_below, mod_below, div-add-mod'}
-use Rattle.zf_spec.specs.Numbers.{is_odd, field, word_bits}
-use Rattle.zf_spec.proofs.Fields.{length-field, get_or-field}
+use Rattle.zf_spec.{specs.Numbers.{is_odd, field, word_bits}, proofs.Fields.{length-field, get_or-field}}
 
 -- ---- the bits of words
 

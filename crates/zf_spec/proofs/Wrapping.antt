@@ -1,13 +1,9 @@
 -- Numbers that agree modulo a power of two, and the wrapped number.
-use Rattle.std.proofs.Common.{◌≡◌, sym, ap, ◌∙◌, ℕ, zero, suc, ◌+◌, ◌-◌, ◌/◌, ◌%◌, ◌^◌, ◌<◌, ℤ, pos, negsuc, ◌+ℤ◌, ◌*ℤ◌, neg_ℤ, FitsSigned, mod-lt, div-add-mod', pow_pos, pow-add, mul-le-mul_left, zero-lt-suc, arith}
-use Rattle.std.proofs.lemmas.Int.{ints, SFits-int_wrap}
-use Rattle.std.specs.Int.{Width, int_wrap, cast_signed}
-use Rattle.std.proofs.Math.IntN.{zero-*ℤ}
+use Rattle.std.proofs.Common.{◌≡◌, sym, ap, ◌∙◌, ℕ, zero, suc, ◌+◌, ◌-◌, ◌/◌, ◌%◌, ◌^◌, ◌<◌, ℤ, pos, negsuc, ◌+ℤ◌, ◌*ℤ◌, neg_ℤ, FitsSigned, mod-lt, div-add-mod', pow_pos, pow-add, mul-le-mul_left, zero-lt-suc, arith, ⊎_elim, lt-ltb, le-ltb}
+use Rattle.std.{proofs.lemmas.Int.{ints, SFits-int_wrap}, specs.Int.{Width, int_wrap, cast_signed}}
+use Rattle.std.{proofs.Math.IntN.{zero-*ℤ}, proofs.lemmas.Bool.{cases_lt}}
 use mir.Val.{bits, hbits}
-use Rattle.zf_spec.specs.Numbers.{wrap, IsSameModulo}
-use Rattle.std.proofs.lemmas.Bool.{cases_lt}
-use Rattle.std.proofs.Common.{⊎_elim, lt-ltb, le-ltb}
-use Rattle.zf_spec.proofs.Ring.{add-*ℤ, *ℤ-add, *ℤ_assoc, neg-*ℤ}
+use Rattle.zf_spec.{specs.Numbers.{wrap, IsSameModulo}, proofs.Ring.{add-*ℤ, *ℤ-add, *ℤ_assoc, neg-*ℤ}}
 
 -- ---- numbers that agree modulo 2^k
 

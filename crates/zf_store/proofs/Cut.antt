@@ -1,20 +1,13 @@
 -- Codes of one length, cut from bits one after another.
 use Rattle.std.proofs.Common.{◌≡◌, ◌⊎◌, sym, ap, ◌∙◌, ℕ, suc, ◌+◌, ◌-◌, ◌*◌, ◌<◌, ◌≤◌, Bool, false, List, ◌++◌, map, length, get_or, take, drop, replicate, append_assoc, length-append, length-drop, inl, inr, arith, suc-mul, rules}
-use Rattle.std.specs.Int.{div_ceil}
-use Rattle.std.specs.List.{flat_map}
-use Rattle.std.proofs.Math.Path.{fun_ext}
-use Rattle.std.proofs.Math.Nat.{mul-le-mul_right}
-use Rattle.std.proofs.Math.Seq.{drop-append-add}
+use Rattle.std.{specs.Int.{div_ceil}, specs.List.{flat_map}, proofs.Math.Path.{fun_ext}}
+use Rattle.std.{proofs.Math.Nat.{mul-le-mul_right}, proofs.Math.Seq.{drop-append-add}}
 use Rattle.std.proofs.lemmas.Bool.{cases_order, cases_lt}
 use Rattle.std.proofs.lemmas.List.{length-take-le, length-replicate, take-append-drop, take-take, take_at, take-append-le, drop-take, drop_at, drop-drop, drop-append-le, get_or_past, get_or-replicate, take-replicate, drop-replicate}
-use Rattle.zf_spec.specs.Grid.{upto}
-use Rattle.zf_spec.specs.Numbers.{word_bits}
-use Rattle.zf_spec.specs.Stream.{with_fill}
-use Rattle.zf_spec.proofs.Bytes.{filled_only}
+use Rattle.zf_spec.{specs.Grid.{upto}, specs.Numbers.{word_bits}, specs.Stream.{with_fill}}
+use Rattle.zf_spec.{proofs.Bytes.{filled_only}, proofs.WordBits.{length-word_bits}}
 use Rattle.zf_spec.proofs.Counting.{length-map-upto, get_or-map-upto, map-upto_same, map-get_or-upto}
-use Rattle.zf_spec.proofs.WordBits.{length-word_bits}
-use Rattle.zf_base.specs.Formats.{with_at}
-use Rattle.zf_base.proofs.Formats.{with_at-same, with_at-other}
+use Rattle.zf_base.{specs.Formats.{with_at}, proofs.Formats.{with_at-same, with_at-other}}
 use Rattle.zf_bits.proofs.Packed.{flat_map-field-replicate}
 use Rattle.zf_parse.proofs.RateStreams.{code_cut, end_to_end-cut}
 use Rattle.zf_store.specs.Words.{codes_in}

@@ -1,18 +1,14 @@
 -- The words of two runs of bits end to end, and their bytes.
 use Rattle.std.proofs.Common.{◌≡◌, refl, sym, ap, ◌∙◌, ◌⊎◌, inl, inr, ℕ, zero, suc, ◌+◌, ◌-◌, ◌*◌, ◌/◌, ◌^◌, ◌<◌, ◌≤◌, min, Bool, false, List, [], ◌∷◌, ◌++◌, length, get_or, take, drop, replicate, append_assoc, append-nil, length-append, length-drop, arith, rules}
-use Rattle.std.specs.Int.{w64, to_le_bytes, from_le_bytes, div_ceil}
+use Rattle.std.{specs.Int.{w64, to_le_bytes, from_le_bytes, div_ceil}, proofs.lemmas.Bool.{cases_lt}}
 use Rattle.std.proofs.Math.Seq.{drop-append-add, take-append-add}
-use Rattle.std.proofs.lemmas.Bool.{cases_lt}
 use Rattle.std.proofs.lemmas.List.{length-take-le, length-take, length-replicate, take-take, take_at, take_all, take-append-le, drop-take, drop-drop, drop_all, drop-append-le, take-replicate, get_or-take, get_or-drop, get_or_past}
 use Rattle.std.proofs.lemmas.List.Elements.{All-from_get_or}
-use Rattle.zf_spec.specs.Numbers.{field, number, word_bits}
+use Rattle.zf_spec.{specs.Numbers.{field, number, word_bits}, proofs.Bytes.{first_bytes-all}}
 use Rattle.zf_spec.specs.Stream.{bytes_from, to_bytes, to_bits, with_fill, fill_len, first_bytes}
-use Rattle.zf_spec.proofs.Bytes.{first_bytes-all}
 use Rattle.zf_spec.proofs.Fields.{length-field}
-use Rattle.zf_bits.specs.Packing.{word_of}
-use Rattle.zf_bits.proofs.Fields.{take-field}
-use Rattle.zf_bits.proofs.Packed.{bytes-words, field-word_of}
-use Rattle.zf_bits.proofs.Words.{take-words, drop-words}
+use Rattle.zf_bits.{specs.Packing.{word_of}, proofs.Fields.{take-field}}
+use Rattle.zf_bits.{proofs.Packed.{bytes-words, field-word_of}, proofs.Words.{take-words, drop-words}}
 use Rattle.zf_store.proofs.Runs.{field_of_number}
 
 -- ---- bits continued with zeros

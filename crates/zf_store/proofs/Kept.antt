@@ -1,27 +1,20 @@
 -- What follows from what holds of the fields of a store.
 use Rattle.std.proofs.Common.{◌≡◌, refl, sym, ap, ◌∙◌, ℕ, ◌+◌, ◌-◌, ◌*◌, ◌^◌, ◌<◌, ◌≤◌, Bool, false, ℤ, List, [], ◌++◌, length, take, drop, replicate, length-drop, arith, rules}
-use Rattle.std.specs.List.{flat_map}
-use Rattle.std.specs.Int.{Width}
+use Rattle.std.{specs.List.{flat_map}, specs.Int.{Width}}
 use Rattle.std.proofs.lemmas.List.{length-take-le, take_at, drop_at, drop-replicate}
-use Rattle.zf_spec.specs.Grid.{blocks, extent_of}
-use Rattle.zf_spec.specs.Codes.{existing_values, read_rate, rate}
-use Rattle.zf_spec.specs.Numbers.{word_bits}
-use Rattle.zf_spec.specs.Stream.{file, to_bytes, with_fill}
+use Rattle.zf_spec.{specs.Grid.{blocks, extent_of}, specs.Codes.{existing_values, read_rate, rate}}
+use Rattle.zf_spec.{specs.Numbers.{word_bits}, specs.Stream.{file, to_bytes, with_fill}}
 use Rattle.zf_spec.proofs.WordBits.{length-word_bits}
-use Rattle.zf_base.specs.Formats.{existing_of, meant, encoded, with_at}
-use Rattle.zf_base.proofs.Extents.{length-extent_of}
-use Rattle.zf_bits.specs.Writer.{Writer}
-use Rattle.zf_bits.proofs.Packed.{flat_map-field-replicate}
-use Rattle.zf_header.specs.declared.header.Header.{Header}
-use Rattle.zf_header.specs.HeaderBits.{block_bits, header_bits}
+use Rattle.zf_base.{specs.Formats.{existing_of, meant, encoded, with_at}, proofs.Extents.{length-extent_of}}
+use Rattle.zf_bits.{specs.Writer.{Writer}, proofs.Packed.{flat_map-field-replicate}}
+use Rattle.zf_header.{specs.declared.header.Header.{Header}, specs.HeaderBits.{block_bits, header_bits}}
+use Rattle.zf_header.proofs.Parts.{length-header_bits_le}
 use Rattle.zf_cached.specs.Arrays.{array_format}
 use Rattle.zf_cached.proofs.Arrays.{existing_of-array, meant-rate, encoded-rate}
-use Rattle.zf_header.proofs.Parts.{length-header_bits_le}
-use Rattle.zf_store.proofs.Opened.{all_bits_most}
-use Rattle.zf_parse.proofs.RateStreams.{length-cut}
+use Rattle.zf_store.{proofs.Opened.{all_bits_most}, specs.Words.{IsKept, all_bits, codes_in, with_codes}}
 use Rattle.zf_store.specs.Stored.{Stored, IsStore, code_at, format_of, file_of}
-use Rattle.zf_store.specs.Words.{IsKept, all_bits, codes_in, with_codes}
 use Rattle.zf_store.proofs.Cut.{behind_change, code_cut-take, codes_in-put, ends_within, get_or-codes_in, joined-codes_in, length-codes_in, words_are_filled}
+use Rattle.zf_parse.proofs.RateStreams.{length-cut}
 
 -- how many blocks there are, and how many places each has
 pub blocks_is : (s : Stored) → (format_of s).blocks ≡ blocks s.header.shape

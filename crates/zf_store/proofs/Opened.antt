@@ -1,34 +1,25 @@
 -- What a file of a rate says, and why it says nothing.
 use Rattle.std.proofs.Common.{◌≡◌, ◌≢◌, ◌⊎◌, inl, inr, refl, sym, ap, subst, ◌∙◌, ℕ, ◌+◌, ◌-◌, ◌*◌, ◌/◌, ◌^◌, ◌<◌, ◌≤◌, min, Bool, false, List, ◌++◌, map, length, take, drop, replicate, All, Err, append_assoc, length-append, length-drop, arith, rules}
-use Rattle.std.specs.Int.{div_ceil}
-use Rattle.std.proofs.Math.Nat.{div-lt_iff_lt-mul, le-div_iff_mul-le, mul-le-mul}
+use Rattle.std.{specs.Int.{div_ceil}, proofs.Math.Nat.{div-lt_iff_lt-mul, le-div_iff_mul-le, mul-le-mul}}
 use Rattle.std.proofs.lemmas.Bool.{cases_lt}
 use Rattle.std.proofs.lemmas.List.{length-take-le, take-append-drop, take-append-le, take_at, drop-append-le, drop-drop, take_all}
-use Rattle.zf_spec.specs.Grid.{upto, blocks, extent_of, IsShape}
-use Rattle.zf_spec.specs.Codes.{read_rate}
-use Rattle.zf_spec.specs.Numbers.{field, number, word_bits}
-use Rattle.zf_bits.proofs.Words.{take-words}
+use Rattle.zf_spec.{specs.Grid.{upto, blocks, extent_of, IsShape}, specs.Codes.{read_rate}}
+use Rattle.zf_spec.{specs.Numbers.{field, number, word_bits}, proofs.Bytes.{length-to_bits, to_bytes-to_bits}}
 use Rattle.zf_spec.specs.Stream.{to_bits, to_bytes, with_fill, fill_len, file}
-use Rattle.zf_spec.proofs.Bytes.{length-to_bits, to_bytes-to_bits}
-use Rattle.zf_spec.proofs.Fields.{field-number, field-zero}
-use Rattle.zf_spec.proofs.Counting.{map-upto_same}
-use Rattle.zf_base.specs.Widths.{width_of}
-use Rattle.zf_base.proofs.Sizes.{blocks_le}
-use Rattle.zf_base.specs.Formats.{meant}
-use Rattle.zf_header.specs.declared.header.Header.{Header}
+use Rattle.zf_spec.{proofs.Fields.{field-number, field-zero}, proofs.Counting.{map-upto_same}}
+use Rattle.zf_bits.proofs.Words.{take-words}
+use Rattle.zf_base.{specs.Widths.{width_of}, proofs.Sizes.{blocks_le}, specs.Formats.{meant}}
+use Rattle.zf_header.{specs.declared.header.Header.{Header}, proofs.Good.{good}}
 use Rattle.zf_header.specs.HeaderBits.{IsRate, IsHeader, BeginsWith, block_bits, header_bits, rate_bytes_of}
-use Rattle.zf_header.proofs.Good.{good}
 use Rattle.zf_header.proofs.Modes.{mode_is_rate, rate_is_some}
 use Rattle.zf_header.proofs.Parts.{length-header_bits, length-header_bits_le}
 use Rattle.zf_header.proofs.Found.{read_is_spelled, read_is_header, begins_within}
 use Rattle.zf_parse.specs.declared.fault.StreamFault.TheVariants.{Truncated, Pad, Trailing}
-use Rattle.zf_parse.specs.Parsing.{values_of_blocks, parse}
-use Rattle.zf_parse.specs.ReadStreams.{BeginsWithHeader}
+use Rattle.zf_parse.{specs.Parsing.{values_of_blocks, parse}, specs.ReadStreams.{BeginsWithHeader}}
 use Rattle.zf_parse.proofs.ParseOfStream.{end_to_end, ReadsBack, parse-file}
 use Rattle.zf_parse.proofs.RateStreams.{code_cut, end_to_end-cut, length-cut, read_code-rate, parse_cut, parse_fill_short, parse_pad, parse_trailing}
 use Rattle.zf_cached.proofs.Arrays.{meant-rate}
-use Rattle.zf_store.specs.Stored.{code_at, format_of}
-use Rattle.zf_store.specs.Files.{HasHeader, IsOpened, values_of}
+use Rattle.zf_store.{specs.Stored.{code_at, format_of}, specs.Files.{HasHeader, IsOpened, values_of}}
 use Rattle.zf_store.specs.Words.{with_codes, all_bits, IsWholeFile}
 use Rattle.zf_store.proofs.Cut.{codes_in-prefix, get_or-codes_in, joined-codes_in, length-codes_in}
 

@@ -1,13 +1,10 @@
 -- Runs of bits that move between words, a word at a time.
 use Rattle.std.proofs.Common.{◌≡◌, refl, sym, ap, ◌∙◌, ℕ, suc, ◌+◌, ◌-◌, ◌*◌, ◌/◌, ◌^◌, ◌<◌, ◌≤◌, Bool, false, List, ◌++◌, length, get_or, set, take, drop, replicate, append_assoc, append-nil, length-append, length-drop, arith, rules}
-use Rattle.std.proofs.Math.Nat.{div-eq_of_lt}
-use Rattle.std.proofs.Math.Seq.{take-add, drop-append-add}
+use Rattle.std.{proofs.Math.Nat.{div-eq_of_lt}, proofs.Math.Seq.{take-add, drop-append-add}}
 use Rattle.std.proofs.lemmas.List.{length-take-le, take-append-drop, take_at, take-append-le, drop_at, drop-drop}
-use Rattle.zf_spec.specs.Numbers.{field, number, word_bits}
+use Rattle.zf_spec.{specs.Numbers.{field, number, word_bits}, proofs.WordBits.{length-word_bits}}
 use Rattle.zf_spec.proofs.Fields.{length-field, field-number, field-add, field-zero, number-lt}
-use Rattle.zf_spec.proofs.WordBits.{length-word_bits}
-use Rattle.zf_bits.proofs.Fields.{take-field}
-use Rattle.zf_bits.proofs.Words.{words-set, words_here}
+use Rattle.zf_bits.{proofs.Fields.{take-field}, proofs.Words.{words-set, words_here}}
 
 -- ---- bits of words
 

@@ -1,11 +1,8 @@
 -- What an answer says of the input.
-use Rattle.std.proofs.Common.{rules}
-use Rattle.std.proofs.Common.{◌≡◌, sym, ap, ◌∙◌, ℕ, inl, inr, List, [], ◌++◌, Option, Some, None, Result, Ok, Err}
+use Rattle.std.proofs.Common.{rules, ◌≡◌, sym, ap, ◌∙◌, ℕ, inl, inr, List, [], ◌++◌, Option, Some, None, Result, Ok, Err}
 use Rattle.std.specs.Prelude.{IfErr, OnOk, OnErr}
-use Rattle.zf_dev.specs.Source.{Takes, Gives, IsAtEnd}
-use Rattle.zf_dev.proofs.Taking.{Takes-none, Takes-to_end}
-use Rattle.zf_dev.proofs.Giving.{Gives-none, Gives-from}
-use Rattle.zf_dev.proofs.Appending.{AppendsPrefix-none}
+use Rattle.zf_dev.{specs.Source.{Takes, Gives, IsAtEnd}, proofs.Taking.{Takes-none, Takes-to_end}}
+use Rattle.zf_dev.{proofs.Giving.{Gives-none, Gives-from}, proofs.Appending.{AppendsPrefix-none}}
 use Rattle.zf_parse.specs.declared.fault.StreamFault.{StreamFault}
 use Rattle.zf_parse.specs.declared.fault.StreamFault.TheVariants.{Write, Memory}
 use Rattle.zf_stream.specs.Outcomes.{Answers, IsRefusal, LeavesPrefix, WritesText, WritesPrefix}

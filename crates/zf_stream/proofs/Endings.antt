@@ -1,25 +1,19 @@
 -- How compressing ends, put together.
-use Rattle.std.proofs.Common.{rules}
-use Rattle.std.proofs.Common.{◌≡◌, ◌∙◌, ℕ, ◌<◌, Bool, List, [], ◌++◌, length, Option, Result, Ok, Err}
+use Rattle.std.proofs.Common.{rules, ◌≡◌, ◌∙◌, ℕ, ◌<◌, Bool, List, [], ◌++◌, length, Option, Result, Ok, Err}
 use Rattle.std.specs.Prelude.{IfErr, OnOk, OnErr}
-use Rattle.zf_dev.specs.Source.{Gives, IsAtEnd}
-use Rattle.zf_dev.specs.declared.source.Source.{Ghosts as Source}
-use Rattle.zf_dev.specs.Devices.{Reads}
-use Rattle.zf_dev.proofs.Devices.{Reads-none, Reads-by}
-use Rattle.zf_header.specs.declared.header.Header.{Header}
+use Rattle.zf_dev.{specs.Source.{Gives, IsAtEnd}, specs.declared.source.Source.{Ghosts as Source}}
+use Rattle.zf_dev.{specs.Devices.{Reads}, proofs.Devices.{Reads-none, Reads-by}}
+use Rattle.zf_header.{specs.declared.header.Header.{Header}, specs.HeaderBits.{header_bits}}
 use Rattle.zf_parse.specs.declared.fault.StreamFault.{StreamFault}
 use Rattle.zf_parse.specs.declared.fault.StreamFault.TheVariants.{Read, Write, Memory}
 use Rattle.zf_parse.specs.Raw.{raw_len, compress_answer, stream_text}
 use Rattle.zf_stream.specs.Outcomes.{LeavesPrefix, WritesPrefix, Compressed, CompressedGiven, RefusesRaw}
-use Rattle.zf_stream.specs.Flows.{Flows, Spills}
-use Rattle.zf_stream.specs.Rows.{Compresses, Stops, Ends}
-use Rattle.zf_spec.specs.Stream.{fill}
-use Rattle.zf_pad.specs.Slabs.{rows_of}
-use Rattle.zf_header.specs.HeaderBits.{header_bits}
-use Rattle.zf_stream.proofs.Slabwise.{rows_len-all}
+use Rattle.zf_stream.{specs.Flows.{Flows, Spills}, specs.Rows.{Compresses, Stops, Ends}}
+use Rattle.zf_stream.{proofs.Slabwise.{rows_len-all}, proofs.RawRows.{write_refused, good_answer}}
 use Rattle.zf_stream.proofs.PrefixesOfStreams.{prefix_where_stopped, prefix_of_given, given_at_end, prefix_at_end, text_at_end}
 use Rattle.zf_stream.proofs.Answering.{answer_of_refusal, answer_at_end, nothing_left, on_ok_weaker, after_err, text_from, prefix_from}
-use Rattle.zf_stream.proofs.RawRows.{write_refused, good_answer}
+use Rattle.zf_spec.specs.Stream.{fill}
+use Rattle.zf_pad.specs.Slabs.{rows_of}
 
 module _ (h : Header) {src0 src1 out0 out1 : Option (List ℕ)} {gives : List ℕ → Type 0} where
   refusal : (e : StreamFault) → RefusesRaw (compress_answer h) (raw_len h) src0 src1 e → LeavesPrefix (stream_text h) src0 src1 out0 out1 → WritesPrefix (stream_text h) gives out0 out1

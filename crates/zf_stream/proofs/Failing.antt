@@ -1,9 +1,7 @@
 -- Calls that fail only where a device does, one after another.
 use Rattle.std.proofs.Common.{◌≡◌, Ok, Err}
-use Rattle.zf_dev.specs.declared.source.Source.{Ghosts as Source}
-use Rattle.zf_dev.specs.declared.sink.Sink.{Ghosts as Sink}
-use Rattle.zf_dev.specs.Devices.{Reads, Writes}
-use Rattle.zf_dev.proofs.Devices.{Reads-by, Writes-by}
+use Rattle.zf_dev.{specs.declared.source.Source.{Ghosts as Source}, specs.declared.sink.Sink.{Ghosts as Sink}}
+use Rattle.zf_dev.{specs.Devices.{Reads, Writes}, proofs.Devices.{Reads-by, Writes-by}}
 use Rattle.zf_parse.specs.declared.fault.StreamFault.TheVariants.{Read, Write}
 use Rattle.zf_stream.specs.Outcomes.{ReadsOnly, WritesOnly}
 

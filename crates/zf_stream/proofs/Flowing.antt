@@ -1,8 +1,6 @@
 -- Bits on their way through a writer to a sink, one part after another.
-use Rattle.std.proofs.Common.{rules}
-use Rattle.std.proofs.Common.{◌≡◌, sym, ap, ◌∙◌, ℕ, ◌<◌, Bool, List, ◌++◌, Option, length-append, append_assoc}
-use Rattle.std.proofs.lemmas.List.Elements.{All-append}
-use Rattle.std.proofs.lemmas.Grind.{flat_map-append}
+use Rattle.std.proofs.Common.{rules, ◌≡◌, sym, ap, ◌∙◌, ℕ, ◌<◌, Bool, List, ◌++◌, Option, length-append, append_assoc}
+use Rattle.std.{proofs.lemmas.List.Elements.{All-append}, proofs.lemmas.Grind.{flat_map-append}}
 use Rattle.zf_spec.specs.Stream.{to_bits}
 use Rattle.zf_dev.proofs.Appending.{Appends-append, AppendsPrefix-all, AppendsPrefix-append}
 use Rattle.zf_stream.specs.Flows.{Flows, Spills}

@@ -1,31 +1,20 @@
 -- What is restored of the codes in a window, said of the whole stream: the window holds the first bytes, and stands behind their header.
-use Rattle.std.proofs.Common.{rules}
-use Rattle.std.proofs.Common.{◌≡◌, refl, sym, ap, subst, ◌∙◌, ℕ, ◌+◌, inl, inr, ⊎_elim, Bool, List, [], ◌++◌, length, drop, Option, Some, None, Result, Ok, Err, append_assoc, length-append, arith}
-use Rattle.std.proofs.lemmas.List.{drop-append-le, length-drop}
-use Rattle.std.proofs.lemmas.Grind.{flat_map-append}
+use Rattle.std.proofs.Common.{rules, ◌≡◌, refl, sym, ap, subst, ◌∙◌, ℕ, ◌+◌, inl, inr, ⊎_elim, Bool, List, [], ◌++◌, length, drop, Option, Some, None, Result, Ok, Err, append_assoc, length-append, arith}
+use Rattle.std.{proofs.lemmas.List.{drop-append-le, length-drop}, proofs.lemmas.Grind.{flat_map-append}}
 use Rattle.std.specs.Prelude.{OnOk, IfErr}
-use Rattle.zf_spec.specs.Grid.{blocks}
-use Rattle.zf_spec.specs.Stream.{to_bits}
-use Rattle.zf_spec.proofs.Bytes.{length-to_bits}
-use Rattle.zf_header.specs.declared.header.Header.{Header}
-use Rattle.zf_header.specs.HeaderBits.{IsHeader}
-use Rattle.zf_header.proofs.Good.{good}
+use Rattle.zf_spec.{specs.Grid.{blocks}, specs.Stream.{to_bits}, proofs.Bytes.{length-to_bits}}
+use Rattle.zf_header.{specs.declared.header.Header.{Header}, specs.HeaderBits.{IsHeader}, proofs.Good.{good}}
 use Rattle.zf_header.proofs.Found.{read_is_header}
-use Rattle.zf_dev.specs.Source.{Takes, TakesSome}
-use Rattle.zf_dev.specs.Sink.{Appends}
-use Rattle.zf_dev.proofs.Taking.{Takes-none}
+use Rattle.zf_dev.{specs.Source.{Takes, TakesSome}, specs.Sink.{Appends}, proofs.Taking.{Takes-none}}
 use Rattle.zf_dev.proofs.Appending.{AppendsPrefix-none}
-use Rattle.zf_parse.specs.declared.fault.StreamFault.{StreamFault}
-use Rattle.zf_parse.specs.Raw.{raw_bytes}
+use Rattle.zf_parse.{specs.declared.fault.StreamFault.{StreamFault}, specs.Raw.{raw_bytes}}
 use Rattle.zf_parse.specs.Parsing.{read_codes, restore_answer, restored_text}
 use Rattle.zf_parse.proofs.Steps.{values_said, codes_answer, values_behind, blocks_text, without_values, restore_answer-values}
-use Rattle.zf_parse.specs.ReadStreams.{BeginsWithHeader}
-use Rattle.zf_stream.specs.Outcomes.{Answers, IsRefusal, Finishes, LeavesPrefix}
-use Rattle.zf_stream.specs.Windows.{Window}
+use Rattle.zf_parse.{specs.ReadStreams.{BeginsWithHeader}, proofs.Parsed.{parse_is, begun_more}}
+use Rattle.zf_parse.proofs.TextOfParse.{text_of_parse}
+use Rattle.zf_stream.{specs.Outcomes.{Answers, IsRefusal, Finishes, LeavesPrefix}, specs.Windows.{Window}}
 use Rattle.zf_stream.specs.Restoring.{behind, FinishesBehind, CanRefuseBehind, still, stream_from, text_of_codes, answer_of_codes, LeavesRows, HasFault, Refuses, RestoresAll}
 use Rattle.zf_stream.proofs.Answering.{answer_of_refusal, answer_at_end}
-use Rattle.zf_parse.proofs.Parsed.{parse_is, begun_more}
-use Rattle.zf_parse.proofs.TextOfParse.{text_of_parse}
 
 -- ---- bytes in front of a source
 

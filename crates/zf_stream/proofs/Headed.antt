@@ -2,11 +2,9 @@
 use Rattle.std.proofs.Common.{◌≡◌, ℕ, ◌≤◌, List, Option, Some, None, sym, ap, ◌∙◌, inl}
 use Rattle.zf_header.specs.HeaderFaults.{header_fault}
 use Rattle.zf_stream.specs.Outcomes.{IsPrefix, IsRefusal}
-use Rattle.zf_parse.specs.declared.fault.StreamFault.{StreamFault}
+use Rattle.zf_parse.{specs.declared.fault.StreamFault.{StreamFault}, specs.Parsing.{restore_answer}}
+use Rattle.zf_parse.{specs.ReadStreams.{HasGoodHeader, IsFaultOf}, proofs.Parsed.{fault_first, parse_fault}}
 use Rattle.zf_parse.specs.declared.fault.StreamFault.TheVariants as faults
-use Rattle.zf_parse.specs.Parsing.{restore_answer}
-use Rattle.zf_parse.specs.ReadStreams.{HasGoodHeader, IsFaultOf}
-use Rattle.zf_parse.proofs.Parsed.{fault_first, parse_fault}
 
 -- the header of a source that exposes its contents is good where that of its first bytes is
 pub good_of_prefix : (n : ℕ) (known : Option (List ℕ)) (prefix : List ℕ) → 19 ≤ n → IsPrefix n known prefix → header_fault prefix ≡ None → HasGoodHeader known

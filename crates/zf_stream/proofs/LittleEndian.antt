@@ -1,11 +1,8 @@
 -- Raw bytes as values, one after another.
-use Rattle.std.proofs.Common.{rules}
-use Rattle.std.proofs.Common.{◌≡◌, ℕ, zero, suc, ◌+◌, ◌*◌, ◌<◌, ◌≤◌, ◌⊎◌, pos, List, [], ◌∷◌, ◌++◌, All, length, take, drop, refl, ap, ◌∙◌, arith}
-use Rattle.std.proofs.lemmas.List.{drop-drop, length-drop}
-use Rattle.std.proofs.Math.Nat.{mod-eq_of_lt}
+use Rattle.std.proofs.Common.{rules, ◌≡◌, ℕ, zero, suc, ◌+◌, ◌*◌, ◌<◌, ◌≤◌, ◌⊎◌, pos, List, [], ◌∷◌, ◌++◌, All, length, take, drop, refl, ap, ◌∙◌, arith}
+use Rattle.std.{proofs.lemmas.List.{drop-drop, length-drop}, proofs.Math.Nat.{mod-eq_of_lt}}
 use Rattle.std.specs.Int.{Width, w32, w64, byte_len, from_le_bytes, cast_signed}
-use Rattle.zf_spec.specs.Numbers.{wrap}
-use Rattle.zf_spec.specs.Stream.{first_bytes, values_from}
+use Rattle.zf_spec.{specs.Numbers.{wrap}, specs.Stream.{first_bytes, values_from}}
 use Rattle.zf_spec.proofs.Bytes.{first_bytes-all, from_le_bytes_below}
 use Rattle.zf_base.proofs.Wrapping.{cast_signed_low}
 

@@ -1,13 +1,11 @@
 -- What the stream of raw bytes looks at: as many bytes as the array has, continued with zeros.
 use Rattle.std.proofs.Common.{◌≡◌, refl, sym, ap, ◌∙◌, ℕ, zero, suc, ◌+◌, ◌*◌, ◌≤◌, ℤ, List, [], ◌∷◌, ◌++◌, length, drop, replicate, drop_at, suc-mul, arith}
 use Rattle.std.specs.Int.{Width, byte_len, from_le_bytes, cast_signed}
-use Rattle.zf_spec.specs.Grid.{product}
-use Rattle.zf_spec.specs.Stream.{first_bytes, values_from, stream, stream_of_bytes}
+use Rattle.zf_spec.{specs.Grid.{product}, specs.Stream.{first_bytes, values_from, stream, stream_of_bytes}}
 use Rattle.zf_spec.proofs.Bytes.{length-first_bytes, first_bytes-append, first_bytes-add}
 use Rattle.zf_bits.proofs.Packed.{first_bytes-more}
 use Rattle.zf_base.specs.Widths.{width_of}
-use Rattle.zf_header.specs.declared.header.Header.{Header}
-use Rattle.zf_header.specs.HeaderBits.{coding}
+use Rattle.zf_header.{specs.declared.header.Header.{Header}, specs.HeaderBits.{coding}}
 use Rattle.zf_parse.specs.Raw.{stream_text}
 
 first_bytes-zeros : (k : ℕ) (s : List ℕ) (z : ℕ) → first_bytes k (s ++ replicate z 0) ≡ first_bytes k s

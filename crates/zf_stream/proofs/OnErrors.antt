@@ -1,6 +1,5 @@
 -- What holds anyhow holds after an error.
-use Rattle.std.proofs.Common.{Result, Ok, Err}
-use Rattle.std.specs.Prelude.{OnErr}
+use Rattle.std.{proofs.Common.{Result, Ok, Err}, specs.Prelude.{OnErr}}
 
 pub on_err : {T E : Type 0} (r : Result T E) (P : Type 0) → P → OnErr r P
 on_err (Ok x) P p = tt

@@ -1,18 +1,12 @@
 -- What is said of the bytes of a stream is never a fault of a device, nor one of raw values; what is said of codes is none of a header either.
-use Rattle.std.proofs.Common.{rules}
-use Rattle.std.proofs.Common.{◌≡◌, ℕ, ℤ, Bool, true, false, cond, nat_lt, List, Option, Some, None, Result, Ok, Err, take, length, ◌-◌, ◌⊎◌, subst, ◌%◌, refl, ⊎_elim}
+use Rattle.std.proofs.Common.{rules, ◌≡◌, ℕ, ℤ, Bool, true, false, cond, nat_lt, List, Option, Some, None, Result, Ok, Err, take, length, ◌-◌, ◌⊎◌, subst, ◌%◌, refl, ⊎_elim}
 use Rattle.std.specs.Prelude.{IfErr}
-use Rattle.zf_spec.specs.Grid.{blocks}
-use Rattle.zf_spec.specs.Planes.{has_one}
-use Rattle.zf_header.specs.declared.header.Header.{Header}
-use Rattle.zf_header.specs.declared.header.HeaderFault.{HeaderFault}
-use Rattle.zf_parse.specs.declared.fault.StreamFault.{StreamFault}
-use Rattle.zf_parse.specs.declared.fault.StreamFault.TheVariants as faults
-use Rattle.zf_parse.specs.Parsing.{restore_answer}
+use Rattle.zf_spec.{specs.Grid.{blocks}, specs.Planes.{has_one}}
+use Rattle.zf_header.{specs.declared.header.Header.{Header}, specs.declared.header.HeaderFault.{HeaderFault}}
+use Rattle.zf_parse.{specs.declared.fault.StreamFault.{StreamFault}, specs.Parsing.{restore_answer}}
 use Rattle.zf_parse.proofs.Steps.{values_said, values_said-is, values_behind, header_or, codes_answer, values_or_fault, without_values, restore_answer-values}
-use Rattle.zf_stream.specs.Outcomes.{IsBeforeWriting}
-use Rattle.zf_stream.specs.Windows.{Window}
-use Rattle.zf_stream.specs.Restoring.{Refuses}
+use Rattle.zf_parse.specs.declared.fault.StreamFault.TheVariants as faults
+use Rattle.zf_stream.{specs.Outcomes.{IsBeforeWriting}, specs.Windows.{Window}, specs.Restoring.{Refuses}}
 
 -- the faults of devices, and those of raw values
 unfoldable pub is_foreign : StreamFault → Bool

@@ -1,7 +1,6 @@
 -- Bytes that are written part by part: those of elements, of which so many were written before.
 use Rattle.std.proofs.Common.{◌≡◌, ℕ, ◌+◌, ◌-◌, ◌≤◌, length, arith, List, ◌++◌, take, drop, Option, sym, ap, ◌∙◌, take-append-drop}
-use Rattle.std.proofs.Math.Seq.{take-add}
-use Rattle.std.proofs.lemmas.List.{take_at, length-take-le}
+use Rattle.std.{proofs.Math.Seq.{take-add}, proofs.lemmas.List.{take_at, length-take-le}}
 use Rattle.zf_dev.specs.Sink.{Appends, AppendsPrefix}
 use Rattle.zf_dev.proofs.Appending.{Appends-append, AppendsPrefix-append, AppendsPrefix-more}
 

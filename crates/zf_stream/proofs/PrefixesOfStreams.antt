@@ -1,33 +1,23 @@
 -- What was written of a stream: a prefix, or all of it.
-use Rattle.std.proofs.Common.{rules}
-use Rattle.std.proofs.Common.{◌≡◌, refl, sym, ap, ◌∙◌, ℕ, suc, ◌+◌, ◌-◌, ◌*◌, ◌/◌, ◌<◌, ◌≤◌, Bool, List, [], ◌∷◌, ◌++◌, map, length, drop, All, Option, append_assoc, length-append, mul_comm, take_at, drop_at, arith}
-use Rattle.std.proofs.lemmas.List.{nil_from_length, append-nil}
+use Rattle.std.proofs.Common.{rules, ◌≡◌, refl, sym, ap, ◌∙◌, ℕ, suc, ◌+◌, ◌-◌, ◌*◌, ◌/◌, ◌<◌, ◌≤◌, Bool, List, [], ◌∷◌, ◌++◌, map, length, drop, All, Option, append_assoc, length-append, mul_comm, take_at, drop_at, arith}
+use Rattle.std.{proofs.lemmas.List.{nil_from_length, append-nil}, specs.List.{flat_map}, specs.Int.{byte_len}}
 use Rattle.std.proofs.lemmas.List.Elements.{All-head, All-tail}
 use Rattle.std.proofs.Math.Nat.{mul-le-mul_left, mod-eq_of_lt}
-use Rattle.std.specs.List.{flat_map}
-use Rattle.std.specs.Int.{byte_len}
-use Rattle.zf_spec.specs.Numbers.{field, number}
-use Rattle.zf_spec.specs.Grid.{product, grid, upto, count_from}
+use Rattle.zf_spec.{specs.Numbers.{field, number}, specs.Grid.{product, grid, upto, count_from}}
 use Rattle.zf_spec.specs.Stream.{fill, with_fill, bytes_from, to_bytes, to_bits, codes, values_from, file, stream, stream_of_bytes}
 use Rattle.zf_spec.proofs.Fields.{length-field, number-field}
 use Rattle.zf_spec.proofs.Bytes.{length-to_bits, to_bytes-to_bits, fill_whole}
 use Rattle.zf_base.specs.Widths.{width_of}
 use Rattle.zf_pad.specs.Slabs.{rows_of, row_len, IsSlab, first_block}
-use Rattle.zf_dev.specs.Source.{Takes, Gives, GivesSome}
-use Rattle.zf_dev.specs.Sink.{Appends, AppendsPrefix}
-use Rattle.zf_dev.proofs.Taking.{Takes-append}
-use Rattle.zf_dev.proofs.Giving.{Gives-append}
+use Rattle.zf_dev.{specs.Source.{Takes, Gives, GivesSome}, specs.Sink.{Appends, AppendsPrefix}}
+use Rattle.zf_dev.{proofs.Taking.{Takes-append}, proofs.Giving.{Gives-append}}
 use Rattle.zf_dev.proofs.Appending.{AppendsPrefix-more}
-use Rattle.zf_header.specs.declared.header.Header.{Header}
-use Rattle.zf_header.specs.HeaderBits.{coding, header_bits}
-use Rattle.zf_parse.specs.Raw.{stream_text}
-use Rattle.zf_stream.specs.Outcomes.{LeavesPrefix, WritesPrefix}
-use Rattle.zf_stream.specs.Flows.{Flows, Spills}
+use Rattle.zf_header.{specs.declared.header.Header.{Header}, specs.HeaderBits.{coding, header_bits}}
+use Rattle.zf_parse.{specs.Raw.{stream_text}, proofs.Codes.{joined-prefix}}
+use Rattle.zf_stream.{specs.Outcomes.{LeavesPrefix, WritesPrefix}, specs.Flows.{Flows, Spills}}
 use Rattle.zf_stream.specs.Rows.{rows_len, code_of_block, codes_of_rows, Compresses, Stops}
-use Rattle.zf_parse.proofs.Codes.{joined-prefix}
 use Rattle.zf_stream.proofs.Flowing.{Flows-more, Flows-next, Flows-spill, Spills-flows}
-use Rattle.zf_stream.proofs.Rows.{codes_of_rows-more, codes_of_all_rows}
-use Rattle.zf_stream.proofs.Slabwise.{rows_len-all}
+use Rattle.zf_stream.{proofs.Rows.{codes_of_rows-more, codes_of_all_rows}, proofs.Slabwise.{rows_len-all}}
 use Rattle.zf_stream.proofs.LookedAt.{stream_text-more}
 
 -- ---- bytes in front of bits

@@ -1,12 +1,10 @@
 -- Raw values that are read row by row: what is refused, and what is said of it.
-use Rattle.std.proofs.Common.{rules}
-use Rattle.std.proofs.Common.{◌≡◌, refl, ap, ℕ, ◌+◌, ◌<◌, ◌≤◌, inr, cond, ltb, lt-ltb, le-ltb, List, [], ◌∷◌, ◌++◌, length, Option, Some, None, Ok, Err, length-append, arith}
-use Rattle.zf_dev.specs.Source.{Takes, TakesSome}
-use Rattle.zf_dev.proofs.Taking.{Takes-append}
+use Rattle.std.proofs.Common.{rules, ◌≡◌, refl, ap, ℕ, ◌+◌, ◌<◌, ◌≤◌, inr, cond, ltb, lt-ltb, le-ltb, List, [], ◌∷◌, ◌++◌, length, Option, Some, None, Ok, Err, length-append, arith}
+use Rattle.zf_dev.{specs.Source.{Takes, TakesSome}, proofs.Taking.{Takes-append}}
 use Rattle.zf_header.specs.declared.header.Header.{Header}
 use Rattle.zf_parse.specs.declared.fault.StreamFault.{StreamFault}
-use Rattle.zf_parse.specs.declared.fault.StreamFault.TheVariants as faults
 use Rattle.zf_parse.specs.Raw.{raw_len, length_answer, compress_answer}
+use Rattle.zf_parse.specs.declared.fault.StreamFault.TheVariants as faults
 use Rattle.zf_stream.specs.ReadRaw.{EndsShort, LacksRaw, GoesOn}
 use Rattle.zf_stream.specs.Outcomes.{IsFromOutside, IsRefusal, RefusesRaw}
 use Rattle.zf_stream.proofs.Refusals.{CanRefuse-short, CanRefuse-long}

@@ -1,7 +1,6 @@
 -- The raw bytes of values, one part after another.
 use Rattle.std.proofs.Common.{◌≡◌, sym, ap, ◌∙◌, ℕ, ℤ, List, ◌++◌, take, drop, take-append-drop}
-use Rattle.std.proofs.lemmas.Grind.{flat_map-append}
-use Rattle.std.specs.Int.{Width, to_le_bytes, cast_unsigned}
+use Rattle.std.{proofs.lemmas.Grind.{flat_map-append}, specs.Int.{Width, to_le_bytes, cast_unsigned}}
 use Rattle.zf_spec.specs.Stream.{raw}
 
 pub raw-append : (w : Width) (xs ys : List ℤ) → raw w (xs ++ ys) ≡ raw w xs ++ raw w ys

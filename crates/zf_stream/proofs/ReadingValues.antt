@@ -1,19 +1,13 @@
 -- Values that are read piece by piece: some were read, and then the next ones, or fewer bytes than these have.
-use Rattle.std.proofs.Common.{rules}
-use Rattle.std.proofs.Common.{◌≡◌, ℕ, ◌+◌, ◌*◌, ◌≤◌, ℤ, List, ◌++◌, map, length, take, Option, length-append, arith}
-use Rattle.std.proofs.lemmas.List.{map-append}
-use Rattle.std.proofs.lemmas.Slice.{take-put_mid}
-use Rattle.std.proofs.Math.Nat.{add-mul}
-use Rattle.std.specs.Int.{Width, byte_len}
+use Rattle.std.proofs.Common.{rules, ◌≡◌, ℕ, ◌+◌, ◌*◌, ◌≤◌, ℤ, List, ◌++◌, map, length, take, Option, length-append, arith}
+use Rattle.std.{proofs.lemmas.List.{map-append}, proofs.lemmas.Slice.{take-put_mid}}
+use Rattle.std.{proofs.Math.Nat.{add-mul}, specs.Int.{Width, byte_len}}
 use borrow.Rule.Slice.PartMut.{put_mid}
 use Rattle.zf_spec.specs.Stream.{values_from}
-use Rattle.zf_dev.specs.Source.{Takes, Gives}
-use Rattle.zf_dev.proofs.Taking.{Takes-append}
-use Rattle.zf_dev.proofs.Giving.{Gives-append}
+use Rattle.zf_dev.{specs.Source.{Takes, Gives}, proofs.Taking.{Takes-append}, proofs.Giving.{Gives-append}}
 use Rattle.zf_parse.specs.declared.fault.StreamFault.{StreamFault}
 use Rattle.zf_parse.specs.declared.fault.StreamFault.TheVariants as faults
-use Rattle.zf_stream.specs.ReadRaw.{ReadsValues, LacksRaw}
-use Rattle.zf_stream.proofs.Rows.{values_from-append}
+use Rattle.zf_stream.{specs.ReadRaw.{ReadsValues, LacksRaw}, proofs.Rows.{values_from-append}}
 
 -- the values of the next bytes were put behind those that were read
 pub reads_more : {X : Type 0} (w : Width) (value : X → ℤ) (at n k : ℕ) (xs ys : List X) (old mid new : Option (List ℕ)) {a b c : List ℕ → Type 0} (more : List ℕ)

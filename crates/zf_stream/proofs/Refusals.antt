@@ -1,14 +1,10 @@
 -- Each refusal is that of some input, or comes from outside.
-use Rattle.std.proofs.Common.{rules}
-use Rattle.std.proofs.Common.{◌≡◌, ℕ, ◌+◌, ◌<◌, ◌≤◌, cond, ltb, lt-ltb, le-ltb, List, length, replicate, Some, Ok, Err, sym, ap, ◌∙◌, inl, inr, ⊎_elim}
+use Rattle.std.proofs.Common.{rules, ◌≡◌, ℕ, ◌+◌, ◌<◌, ◌≤◌, cond, ltb, lt-ltb, le-ltb, List, length, replicate, Some, Ok, Err, sym, ap, ◌∙◌, inl, inr, ⊎_elim}
 use Rattle.std.proofs.lemmas.List.{take_all, length-replicate}
-use Rattle.zf_parse.specs.declared.fault.StreamFault.{StreamFault}
+use Rattle.zf_parse.{specs.declared.fault.StreamFault.{StreamFault}, specs.Raw.{length_answer}}
+use Rattle.zf_parse.{specs.Parsing.{restore_answer}, specs.ReadStreams.{IsFaultOf}}
 use Rattle.zf_parse.specs.declared.fault.StreamFault.TheVariants as faults
-use Rattle.zf_parse.specs.Raw.{length_answer}
-use Rattle.zf_parse.specs.Parsing.{restore_answer}
-use Rattle.zf_parse.specs.ReadStreams.{IsFaultOf}
-use Rattle.zf_stream.specs.Outcomes.{CanRefuse}
-use Rattle.zf_stream.proofs.Headed.{refusal_of_fault}
+use Rattle.zf_stream.{specs.Outcomes.{CanRefuse}, proofs.Headed.{refusal_of_fault}}
 
 -- what is answered for so many zero bytes
 zeros_answer : (wanted n : ℕ) → length_answer wanted (replicate n 0) ≡ cond (ltb n wanted) (Err (faults.RawShort n)) (cond (ltb wanted n) (Err faults.RawLong) (Ok tt))

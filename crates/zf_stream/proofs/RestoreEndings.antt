@@ -1,23 +1,18 @@
 -- How restoring ends, put together.
-use Rattle.std.proofs.Common.{rules}
-use Rattle.std.proofs.Common.{◌≡◌, refl, subst, ℕ, inl, inr, List, Option, Some, None, Result, Err, arith}
-use Rattle.std.specs.Prelude.{IfErr, OnOk, OnErr}
-use Rattle.std.proofs.lemmas.Result.{IfErr-weaker}
+use Rattle.std.proofs.Common.{rules, ◌≡◌, refl, subst, ℕ, inl, inr, List, Option, Some, None, Result, Err, arith}
+use Rattle.std.{specs.Prelude.{IfErr, OnOk, OnErr}, proofs.lemmas.Result.{IfErr-weaker}}
 use Rattle.zf_spec.specs.Stream.{to_bits}
 use Rattle.zf_header.specs.declared.header.Header.{Header}
-use Rattle.zf_dev.specs.Source.{Takes, TakesSome}
+use Rattle.zf_dev.{specs.Source.{Takes, TakesSome}, proofs.Appending.{AppendsPrefix-none}}
 use Rattle.zf_parse.specs.declared.fault.StreamFault.{StreamFault}
 use Rattle.zf_parse.specs.declared.fault.StreamFault.TheVariants.{Read, Memory}
 use Rattle.zf_parse.specs.Parsing.{restore_answer, restored_text}
 use Rattle.zf_parse.specs.ReadStreams.{BeginsWithHeader, HasGoodHeader, IsFaultOf}
 use Rattle.zf_stream.specs.Outcomes.{IsBeforeWriting, Answers, LeavesPrefix, TakesFirst, Restored}
-use Rattle.zf_stream.specs.Windows.{Window}
+use Rattle.zf_stream.{specs.Windows.{Window}, proofs.OwnFaults.{refused_later}}
 use Rattle.zf_stream.specs.Restoring.{RestoredBehind, RestoresAll, LeavesRows, Refuses}
 use Rattle.zf_stream.proofs.Answering.{answer_of_refusal, answer_of_memory, after_err, on_ok_weaker}
-use Rattle.zf_dev.proofs.Appending.{AppendsPrefix-none}
-use Rattle.zf_stream.proofs.OwnFaults.{refused_later}
-use Rattle.zf_stream.proofs.Headed.{refusal_of_fault}
-use Rattle.zf_stream.proofs.Refusals.{CanRefuse-header}
+use Rattle.zf_stream.{proofs.Headed.{refusal_of_fault}, proofs.Refusals.{CanRefuse-header}}
 use Rattle.zf_stream.proofs.FromPrefix.{nothing_taken, finishes_behind, leaves_prefix, can_refuse, answers}
 
 -- memory was wanting

@@ -1,32 +1,25 @@
 -- An array that is restored slab by slab: one slab more, and where it stops.
-use Rattle.std.proofs.Common.{rules}
-use Rattle.std.proofs.Common.{◌≡◌, refl, sym, ap, subst, ◌∙◌, ℕ, ◌+◌, ◌-◌, ◌*◌, ◌/◌, ◌≤◌, inl, inr, ⊎_elim, Bool, false, ℤ, List, [], ◌++◌, length, take, drop, replicate, Option, Some, None, Ok, Err, mul_comm, append_assoc, length-append, arith}
-use Rattle.std.proofs.lemmas.List.{append-nil, length-map, get_or_append_left}
-use Rattle.std.proofs.Math.Nat.{mul-add}
-use Rattle.zf_spec.specs.Grid.{grid, blocks, blocks_of}
-use Rattle.zf_spec.specs.Stream.{to_bits}
+use Rattle.std.proofs.Common.{rules, ◌≡◌, refl, sym, ap, subst, ◌∙◌, ℕ, ◌+◌, ◌-◌, ◌*◌, ◌/◌, ◌≤◌, inl, inr, ⊎_elim, Bool, false, ℤ, List, [], ◌++◌, length, take, drop, replicate, Option, Some, None, Ok, Err, mul_comm, append_assoc, length-append, arith}
+use Rattle.std.{proofs.lemmas.List.{append-nil, length-map, get_or_append_left}, proofs.Math.Nat.{mul-add}}
+use Rattle.zf_spec.{specs.Grid.{grid, blocks, blocks_of}, specs.Stream.{to_bits}}
 use Rattle.zf_spec.proofs.Counting.{get_or-map-upto, length-map-upto}
 use Rattle.zf_base.specs.Widths.{width_of}
 use Rattle.zf_pad.specs.Slabs.{rows_of, row_len, with_rows, IsSlab, first_block}
 use Rattle.zf_pad.proofs.Slabs.{product-rows, rows_of-grid, extent_of-slab, blocks-with_rows}
 use Rattle.zf_header.specs.declared.header.Header.{Header}
-use Rattle.zf_dev.specs.Source.{TakesSome, IsAtEnd}
-use Rattle.zf_dev.specs.Sink.{Appends, AppendsPrefix}
+use Rattle.zf_dev.{specs.Source.{TakesSome, IsAtEnd}, specs.Sink.{Appends, AppendsPrefix}}
 use Rattle.zf_dev.proofs.Taking.{Takes-append}
 use Rattle.zf_dev.proofs.Appending.{Appends-none, Appends-append, AppendsPrefix-all, AppendsPrefix-append, AppendsPrefix-more}
-use Rattle.zf_parse.specs.declared.fault.StreamFault.{StreamFault}
-use Rattle.zf_parse.specs.declared.fault.StreamFault.TheVariants as faults
-use Rattle.zf_parse.specs.Raw.{raw_bytes}
+use Rattle.zf_parse.{specs.declared.fault.StreamFault.{StreamFault}, specs.Raw.{raw_bytes}}
 use Rattle.zf_parse.specs.Parsing.{read_codes, values_of_blocks, longest_codes}
-use Rattle.zf_parse.proofs.Steps.{codes_answer, blocks_text, values_behind}
-use Rattle.zf_stream.specs.Windows.{Window, left_of}
-use Rattle.zf_stream.specs.Restoring.{still, stream_from, ReadsSlab, LacksSlab, blocks_of_rows, Restores, text_of_codes, LeavesRows, Refuses}
-use Rattle.zf_parse.proofs.Enough.{enough_for_all}
+use Rattle.zf_parse.{proofs.Steps.{codes_answer, blocks_text, values_behind}, proofs.Enough.{enough_for_all}}
 use Rattle.zf_parse.proofs.Joining.{with_blocks, with_blocks-both, with_blocks-cut, with_blocks-found, read_codes-then, read_codes-cut_more}
-use Rattle.zf_stream.proofs.RawValues.{raw-append, raw_prefix}
+use Rattle.zf_parse.proofs.TextOfParse.{read_codes_more}
+use Rattle.zf_parse.specs.declared.fault.StreamFault.TheVariants as faults
+use Rattle.zf_stream.{specs.Windows.{Window, left_of}, proofs.RawValues.{raw-append, raw_prefix}}
+use Rattle.zf_stream.specs.Restoring.{still, stream_from, ReadsSlab, LacksSlab, blocks_of_rows, Restores, text_of_codes, LeavesRows, Refuses}
 use Rattle.zf_stream.proofs.Slabwise.{part_of, IsNext}
 use Rattle.zf_stream.proofs.SlabsBack.{counted_from, read_codes-slab, count_next, blocks_next, prefix_joined}
-use Rattle.zf_parse.proofs.TextOfParse.{read_codes_more}
 use Rattle.zf_stream.proofs.Windows.{Goes-none, Goes-next, to_bits-append}
 
 -- nothing is to come at the end

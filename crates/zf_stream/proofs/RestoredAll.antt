@@ -1,23 +1,17 @@
 -- The end of an array that is restored slab by slab: the fill, and what follows.
-use Rattle.std.proofs.Common.{rules}
-use Rattle.std.proofs.Common.{◌≡◌, refl, sym, ap, ◌∙◌, ℕ, ◌+◌, ◌-◌, ◌*◌, ◌%◌, ◌≤◌, Bool, true, false, List, [], ◌++◌, length, Option, Result, Ok, Err, length-append, arith}
-use Rattle.std.proofs.lemmas.List.{append-nil}
-use Rattle.std.specs.Prelude.{OnOk, IfErr}
-use Rattle.zf_spec.specs.Grid.{blocks, blocks_of}
-use Rattle.zf_spec.specs.Stream.{to_bits}
-use Rattle.zf_pad.specs.Slabs.{rows_of}
-use Rattle.zf_pad.proofs.Slabs.{product-rows}
+use Rattle.std.proofs.Common.{rules, ◌≡◌, refl, sym, ap, ◌∙◌, ℕ, ◌+◌, ◌-◌, ◌*◌, ◌%◌, ◌≤◌, Bool, true, false, List, [], ◌++◌, length, Option, Result, Ok, Err, length-append, arith}
+use Rattle.std.{proofs.lemmas.List.{append-nil}, specs.Prelude.{OnOk, IfErr}}
+use Rattle.zf_spec.{specs.Grid.{blocks, blocks_of}, specs.Stream.{to_bits}}
+use Rattle.zf_pad.{specs.Slabs.{rows_of}, proofs.Slabs.{product-rows}}
 use Rattle.zf_header.specs.declared.header.Header.{Header}
 use Rattle.zf_dev.specs.Source.{IsAtEnd}
-use Rattle.zf_parse.specs.declared.fault.StreamFault.{StreamFault}
-use Rattle.zf_parse.specs.Parsing.{read_codes, fill_answer}
+use Rattle.zf_parse.{specs.declared.fault.StreamFault.{StreamFault}, specs.Parsing.{read_codes, fill_answer}}
 use Rattle.zf_parse.proofs.Steps.{values_or_fault, codes_answer, values_behind}
+use Rattle.zf_parse.{proofs.Fill.{fill_place, fill_told, fill_not_good}, proofs.TextOfParse.{read_codes_more}}
+use Rattle.zf_parse.proofs.Joined.{values_of_blocks-blocks}
 use Rattle.zf_stream.specs.Windows.{Window, left_of, KnowsEnd, Refills}
 use Rattle.zf_stream.specs.Restoring.{still, stream_from, Restores, answer_of_codes, LeavesRows, HasFault, RestoresAll}
-use Rattle.zf_parse.proofs.Fill.{fill_place, fill_told, fill_not_good}
-use Rattle.zf_parse.proofs.Joined.{values_of_blocks-blocks}
 use Rattle.zf_stream.proofs.Restored.{all_blocks, still_none, rows_left}
-use Rattle.zf_parse.proofs.TextOfParse.{read_codes_more}
 use Rattle.zf_stream.proofs.Windows.{Goes-next, codes_refilled, to_bits-append}
 
 -- an answer by its two cases

@@ -1,20 +1,13 @@
 -- The room that an array is compressed in, and the one that a stream is restored in, as they are used.
-use Rattle.std.proofs.Common.{rules}
-use Rattle.std.proofs.Common.{◌≡◌, sym, ◌∙◌, ℕ, ◌≤◌, List, length, Option, arith}
-use Rattle.std.specs.Int.{Width}
+use Rattle.std.{proofs.Common.{rules, ◌≡◌, sym, ◌∙◌, ℕ, ◌≤◌, List, length, Option, arith}, specs.Int.{Width}}
 use Rattle.std.specs.declared.cmp.PartialEq.{Ghosts as PartialEq}
 use Rattle.zf_base.specs.declared.lane.Lane.{Ghosts as Lane}
 use Rattle.zf_header.specs.declared.header.Header.{Header}
-use Rattle.zf_stream.specs.declared.room.Room.{Room}
-use Rattle.zf_stream.specs.declared.restore_room.RestoreRoom.{RestoreRoom}
-use Rattle.zf_stream.specs.Windows.{KnowsEnd}
+use Rattle.zf_stream.{specs.declared.room.Room.{Room}, specs.declared.restore_room.RestoreRoom.{RestoreRoom}}
+use Rattle.zf_stream.{specs.Windows.{KnowsEnd}, proofs.Slabwise.{with_shape, longest_part}}
 use Rattle.zf_stream.specs.Rooms.{IsRoomFor, IsRoomOf, Keeps, CanRestore, CanRestoreAll, Stays}
-use Rattle.zf_stream.proofs.Slabwise.{with_shape, longest_part}
 
 module _ {X : Type 0} {l : Lane X} {e : PartialEq X} where
-  pub Keeps-none : (room : Room X l e) → Keeps room room
-  Keeps-none room = search rules
-
   pub Keeps-next : {a b c : Room X l e} → Keeps a b → Keeps b c → Keeps a c
   Keeps-next {a} {b} {c} first next = search rules
 

@@ -1,19 +1,14 @@
 -- The codes of an array, row by row.
-use Rattle.std.proofs.Common.{rules}
-use Rattle.std.proofs.Common.{◌≡◌, sym, ap, ◌∙◌, ℕ, zero, suc, ◌+◌, ◌-◌, ◌*◌, ◌/◌, ◌<◌, ◌≤◌, inl, Bool, ℤ, List, [], ◌++◌, map, length, take, drop, length-append, take_at, drop_at, arith}
+use Rattle.std.proofs.Common.{rules, ◌≡◌, sym, ap, ◌∙◌, ℕ, zero, suc, ◌+◌, ◌-◌, ◌*◌, ◌/◌, ◌<◌, ◌≤◌, inl, Bool, ℤ, List, [], ◌++◌, map, length, take, drop, length-append, take_at, drop_at, arith}
 use Rattle.std.proofs.lemmas.List.{nil_from_length, append-nil, length-map, take-append-le, drop-append-le, length-drop, get_or-map}
-use Rattle.std.proofs.Math.Nat.{mul-add}
-use Rattle.std.specs.List.{flat_map}
-use Rattle.std.specs.Int.{Width, byte_len}
+use Rattle.std.{proofs.Math.Nat.{mul-add}, specs.List.{flat_map}, specs.Int.{Width, byte_len}}
 use Rattle.zf_spec.specs.Grid.{product, blocks, upto, count_from, extent_of, block_of}
-use Rattle.zf_spec.specs.Stream.{values_from, block_code, codes}
+use Rattle.zf_spec.{specs.Stream.{values_from, block_code, codes}, proofs.RawValues.{length-values_from}}
 use Rattle.zf_spec.proofs.Counting.{map-upto_same, from_places, length-count_from, get_or-count_from}
-use Rattle.zf_spec.proofs.RawValues.{length-values_from}
 use Rattle.zf_base.specs.Widths.{width_of}
 use Rattle.zf_pad.specs.Slabs.{rows_of, row_len, with_rows, IsSlab, slab_of, first_block}
 use Rattle.zf_pad.proofs.Slabs.{product-rows, rows_of-grid, blocks-with_rows, extent_of-slab, block_of-slab}
-use Rattle.zf_header.specs.declared.header.Header.{Header}
-use Rattle.zf_header.specs.HeaderBits.{coding}
+use Rattle.zf_header.{specs.declared.header.Header.{Header}, specs.HeaderBits.{coding}}
 use Rattle.zf_stream.specs.Rows.{rows_len, code_of_block, codes_of_rows}
 use Rattle.zf_stream.proofs.LittleEndian.{first_bytes-take}
 use Rattle.zf_parse.proofs.Codes.{joined-prefix}

@@ -1,23 +1,19 @@
 -- The blocks and the values of an array, slab by slab, as they are restored.
-use Rattle.std.proofs.Common.{rules}
-use Rattle.std.proofs.Common.{◌≡◌, refl, sym, ap, ◌∙◌, ℕ, zero, suc, ◌+◌, ◌-◌, ◌*◌, ◌/◌, ◌<◌, ◌≤◌, inl, Bool, ℤ, pos, List, [], ◌++◌, map, length, get_or, take, drop, Option, Some, None, Result, Ok, Err, mul_comm, take_at, drop_at, arith}
+use Rattle.std.proofs.Common.{rules, ◌≡◌, refl, sym, ap, ◌∙◌, ℕ, zero, suc, ◌+◌, ◌-◌, ◌*◌, ◌/◌, ◌<◌, ◌≤◌, inl, Bool, ℤ, pos, List, [], ◌++◌, map, length, get_or, take, drop, Option, Some, None, Result, Ok, Err, mul_comm, take_at, drop_at, arith}
 use Rattle.std.proofs.lemmas.List.{append-nil, length-map, map-append, take_all}
 use Rattle.std.proofs.Math.Nat.{mul-add, mul-le-mul_left}
 use Rattle.zf_spec.specs.Grid.{product, grid, blocks, upto, count_from, coordinates, raster, extent_of, block_of, blocks_of}
 use Rattle.zf_spec.proofs.Counting.{map-upto_same, count_from-add, from_places, length-upto}
 use Rattle.zf_spec.proofs.Raster.{raster-coordinates, length-coordinates}
-use Rattle.zf_base.specs.Widths.{width_of}
-use Rattle.zf_base.specs.Places.{block_number, place_of}
-use Rattle.zf_base.proofs.Boxes.{is_inside-coordinates}
-use Rattle.zf_base.proofs.Places.{IsAt-position}
+use Rattle.zf_base.{specs.Widths.{width_of}, specs.Places.{block_number, place_of}}
+use Rattle.zf_base.{proofs.Boxes.{is_inside-coordinates}, proofs.Places.{IsAt-position}}
 use Rattle.zf_pad.specs.Slabs.{rows_of, row_len, with_rows, IsSlab, slab_of, first_block}
 use Rattle.zf_pad.proofs.Slabs.{product-rows, product-with_rows, length-with_rows, grid-with_rows, blocks-with_rows, coordinates-rows_on, raster-rows_on, rows_on-none, block_of-slab}
 use Rattle.zf_pad.proofs.Blocks.{value_of_block}
 use Rattle.zf_header.specs.declared.header.Header.{Header}
 use Rattle.zf_parse.specs.Parsing.{read_code, read_codes, values_of_blocks}
 use Rattle.zf_parse.proofs.Steps.{read_next, with_block, read_codes-suc}
-use Rattle.zf_stream.specs.Restoring.{blocks_of_rows}
-use Rattle.zf_stream.proofs.Rows.{map-count_from}
+use Rattle.zf_stream.{specs.Restoring.{blocks_of_rows}, proofs.Rows.{map-count_from}}
 use Rattle.zf_stream.proofs.Slabwise.{with_shape}
 
 -- ---- the codes of a slab, as codes of the array

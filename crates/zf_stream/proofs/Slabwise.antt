@@ -1,25 +1,18 @@
 -- An array that is compressed slab by slab: one slab more, and where it stops.
-use Rattle.std.proofs.Common.{rules}
-use Rattle.std.proofs.Common.{◌≡◌, refl, sym, ap, ◌∙◌, ℕ, ◌+◌, ◌-◌, ◌*◌, ◌/◌, ◌%◌, ◌<◌, ◌≤◌, ◌^◌, ◌⊎◌, inl, inr, ⊎_elim, min, Bool, List, [], ◌++◌, length, map, mul_comm, Option, append_assoc, length-append, arith}
-use Rattle.std.proofs.lemmas.Bool.{cases_lt}
-use Rattle.std.proofs.lemmas.List.{append-nil}
-use Rattle.std.proofs.Math.Nat.{add-mul, mul-add, mul-le-mul_left, mul-le-mul_right}
-use Rattle.std.specs.Int.{byte_len}
-use Rattle.std.specs.List.{flat_map}
+use Rattle.std.proofs.Common.{rules, ◌≡◌, refl, sym, ap, ◌∙◌, ℕ, ◌+◌, ◌-◌, ◌*◌, ◌/◌, ◌%◌, ◌<◌, ◌≤◌, ◌^◌, ◌⊎◌, inl, inr, ⊎_elim, min, Bool, List, [], ◌++◌, length, map, mul_comm, Option, append_assoc, length-append, arith}
+use Rattle.std.{proofs.lemmas.Bool.{cases_lt}, proofs.lemmas.List.{append-nil}, specs.Int.{byte_len}}
+use Rattle.std.{proofs.Math.Nat.{add-mul, mul-add, mul-le-mul_left, mul-le-mul_right}, specs.List.{flat_map}}
 use Rattle.zf_spec.specs.Grid.{IsShape, product, grid, upto}
 use Rattle.zf_base.specs.Widths.{width_of}
 use Rattle.zf_pad.specs.Slabs.{rows_of, row_len, with_rows, IsSlab, first_block}
 use Rattle.zf_pad.proofs.Slabs.{all_rows, product-with_rows, product-rows}
 use Rattle.zf_header.specs.declared.header.Header.{Header}
-use Rattle.zf_dev.specs.Source.{Takes, Gives, GivesSome}
-use Rattle.zf_dev.proofs.Taking.{Takes-append}
+use Rattle.zf_dev.{specs.Source.{Takes, Gives, GivesSome}, proofs.Taking.{Takes-append}}
 use Rattle.zf_dev.proofs.Giving.{Gives-none, Gives-append}
-use Rattle.zf_parse.specs.declared.fault.StreamFault.{StreamFault}
-use mir.Val.{bits}
-use Rattle.zf_parse.specs.Parsing.{longest_code}
+use Rattle.zf_parse.{specs.declared.fault.StreamFault.{StreamFault}, specs.Parsing.{longest_code}}
 use Rattle.zf_parse.specs.Raw.{raw_len, compress_answer}
-use Rattle.zf_stream.specs.Outcomes.{RefusesRaw}
-use Rattle.zf_stream.specs.Flows.{Flows, Spills}
+use mir.Val.{bits}
+use Rattle.zf_stream.{specs.Outcomes.{RefusesRaw}, specs.Flows.{Flows, Spills}}
 use Rattle.zf_stream.specs.Rows.{rows_len, code_of_block, codes_of_rows, ArePieces, Compresses, Stops, slab_codes, WritesSlab, BreaksSlab}
 use Rattle.zf_stream.proofs.Flowing.{Flows-more, Flows-next, Flows-spill, Spills-flows}
 use Rattle.zf_stream.proofs.Rows.{codes_of_rows-next}

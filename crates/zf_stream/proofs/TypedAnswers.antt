@@ -1,22 +1,17 @@
 -- What is answered where a stream is restored if its values are of one type.
-use Rattle.std.proofs.Common.{rules}
-use Rattle.std.proofs.Common.{◌≡◌, ◌≢◌, refl, sym, ap, ◌∙◌, ℕ, ◌≤◌, inl, inr, ⊎_elim, Bool, true, false, List, ◌++◌, Option, Some, None, Result, Ok, Err, arith}
+use Rattle.std.proofs.Common.{rules, ◌≡◌, ◌≢◌, refl, sym, ap, ◌∙◌, ℕ, ◌≤◌, inl, inr, ⊎_elim, Bool, true, false, List, ◌++◌, Option, Some, None, Result, Ok, Err, arith}
 use Rattle.std.specs.Prelude.{IsErrAnd}
-use Rattle.zf_base.specs.declared.lane.Ty.{Ty}
-use Rattle.zf_base.specs.declared.lane.Ty.TheVariants.{I32, I64}
+use Rattle.zf_base.{specs.declared.lane.Ty.{Ty}, specs.declared.lane.Ty.TheVariants.{I32, I64}}
 use Rattle.zf_header.specs.declared.header.Header.{Header}
 use Rattle.zf_dev.specs.Source.{Takes, TakesSome}
-use Rattle.zf_parse.specs.declared.fault.StreamFault.{StreamFault}
-use Rattle.zf_parse.specs.declared.fault.StreamFault.TheVariants as faults
-use Rattle.zf_parse.specs.Parsing.{header_of, restore_answer}
-use Rattle.zf_parse.proofs.Steps.{header_or}
-use Rattle.zf_stream.specs.Outcomes.{Answers, IsPrefix, TakesFirst, IsFromOutside}
+use Rattle.zf_parse.{specs.declared.fault.StreamFault.{StreamFault}, proofs.Steps.{header_or}}
+use Rattle.zf_parse.{specs.Parsing.{header_of, restore_answer}, proofs.Parsed.{begun_more, fault_first}}
 use Rattle.zf_parse.specs.ReadStreams.{BeginsWithHeader, HasGoodHeader, IsFaultOf}
+use Rattle.zf_parse.specs.declared.fault.StreamFault.TheVariants as faults
+use Rattle.zf_stream.specs.Outcomes.{Answers, IsPrefix, TakesFirst, IsFromOutside}
 use Rattle.zf_stream.specs.Restoring.{behind, FinishesBehind, CanRefuseBehind, RestoredBehind}
 use Rattle.zf_stream.specs.Typed.{with_true, answer_of_types, typed_answer, CanRefuseTyped, RestoresTyped, RestoredWhere}
-use Rattle.zf_parse.proofs.Parsed.{begun_more, fault_first}
-use Rattle.zf_stream.proofs.FromPrefix.{Answers-known, Takes-known}
-use Rattle.zf_stream.proofs.Headed.{good_of_prefix}
+use Rattle.zf_stream.{proofs.FromPrefix.{Answers-known, Takes-known}, proofs.Headed.{good_of_prefix}}
 use Rattle.zf_stream.proofs.RestoreEndings.{answer_unread, nothing_written, bad_memory}
 
 same_types : (wanted ty : Ty) (answer : Result (Unit {0}) StreamFault) → ty ≡ wanted → answer_of_types wanted ty answer ≡ with_true answer

@@ -1,19 +1,13 @@
 -- The bits of a window, as its words are moved and more are put behind them.
-use Rattle.std.proofs.Common.{rules}
-use Rattle.std.proofs.Common.{◌≡◌, sym, ap, ◌∙◌, ℕ, ◌+◌, ◌-◌, ◌*◌, ◌/◌, ◌%◌, ◌≤◌, Bool, List, [], ◌++◌, length, take, drop, ℤ, Option, Ok, append_assoc, length-append, arith}
+use Rattle.std.proofs.Common.{rules, ◌≡◌, sym, ap, ◌∙◌, ℕ, ◌+◌, ◌-◌, ◌*◌, ◌/◌, ◌%◌, ◌≤◌, Bool, List, [], ◌++◌, length, take, drop, ℤ, Option, Ok, append_assoc, length-append, arith}
 use Rattle.std.proofs.lemmas.List.{drop-take, drop-drop, drop-append-le, length-drop, append-nil}
 use Rattle.std.proofs.lemmas.Grind.{flat_map-append}
-use Rattle.zf_spec.specs.Numbers.{field, word_bits}
-use Rattle.zf_spec.specs.Stream.{to_bits}
-use Rattle.zf_spec.proofs.Bytes.{length-to_bits}
-use Rattle.zf_dev.specs.Source.{Takes}
-use Rattle.zf_dev.proofs.Taking.{Takes-none, Takes-append}
-use Rattle.zf_stream.specs.Windows.{Window, left_of, Goes, Refills}
-use Rattle.zf_header.specs.declared.header.Header.{Header}
-use Rattle.zf_parse.specs.Parsing.{read_codes}
-use Rattle.zf_stream.specs.Restoring.{stream_from}
-use Rattle.zf_parse.proofs.TextOfParse.{read_codes_more}
+use Rattle.zf_spec.{specs.Numbers.{field, word_bits}, specs.Stream.{to_bits}, proofs.Bytes.{length-to_bits}}
+use Rattle.zf_dev.{specs.Source.{Takes}, proofs.Taking.{Takes-none, Takes-append}}
+use Rattle.zf_stream.{specs.Windows.{Window, left_of, Goes, Refills}, specs.Restoring.{stream_from}}
 use Rattle.zf_stream.proofs.WordBytes.{word_bits-take, word_bits-drop}
+use Rattle.zf_header.specs.declared.header.Header.{Header}
+use Rattle.zf_parse.{specs.Parsing.{read_codes}, proofs.TextOfParse.{read_codes_more}}
 
 -- ---- words moved to the front
 

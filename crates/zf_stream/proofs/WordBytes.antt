@@ -1,11 +1,8 @@
 -- The bytes of words.
 use Rattle.std.proofs.Common.{◌≡◌, refl, sym, ap, ◌∙◌, ℕ, ◌*◌, ◌<◌, ◌^◌, ◌≤◌, List, [], ◌∷◌, length, take, drop, All, length-append, take-append-drop, drop_at, arith}
-use Rattle.std.proofs.lemmas.List.{take_at, length-take-le}
-use Rattle.std.proofs.lemmas.Grind.{flat_map-append}
-use Rattle.std.proofs.lemmas.List.Elements.{All-nil, All-append}
-use Rattle.std.specs.Int.{w64, to_le_bytes}
-use Rattle.zf_spec.specs.Numbers.{field, word_bits}
-use Rattle.zf_spec.specs.Stream.{to_bits}
+use Rattle.std.{proofs.lemmas.List.{take_at, length-take-le}, proofs.lemmas.Grind.{flat_map-append}}
+use Rattle.std.{proofs.lemmas.List.Elements.{All-nil, All-append}, specs.Int.{w64, to_le_bytes}}
+use Rattle.zf_spec.{specs.Numbers.{field, word_bits}, specs.Stream.{to_bits}}
 use Rattle.zf_spec.proofs.Bytes.{to_bits-to_bytes, length-to_le_bytes, to_le_bytes_small}
 use Rattle.zf_spec.proofs.WordBits.{length-word_bits}
 use Rattle.zf_bits.proofs.Packed.{bytes-words}

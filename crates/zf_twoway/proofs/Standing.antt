@@ -1,27 +1,20 @@
 -- Two-way caches that fit, and a touch of them, in the words of their contracts.
 use Rattle.std.proofs.Common.{◌≡◌, refl, sym, ap, subst, ◌∙◌, ℕ, ◌^◌, ◌<◌, ◌==◌, Bool, true, false, ◌||◌, inl, inr, ℤ, Some, None, List, length, replicate}
-use Rattle.std.proofs.lemmas.Bool.{ne_eqb}
-use Rattle.std.proofs.lemmas.List.{length-replicate}
-use Rattle.zf_base.specs.Formats.{Format, meant}
-use Rattle.zf_base.specs.declared.backing.Reading.{Ghosts as Reading}
-use Rattle.zf_cached.specs.State.{State, no_counts}
-use Rattle.zf_cached.specs.Touch.{soiled}
-use Rattle.zf_cached.specs.Changes.{flush, opened}
+use Rattle.std.{proofs.lemmas.Bool.{ne_eqb}, proofs.lemmas.List.{length-replicate}}
+use Rattle.zf_base.{specs.Formats.{Format, meant}, specs.declared.backing.Reading.{Ghosts as Reading}}
+use Rattle.zf_cached.{specs.State.{State, no_counts}, specs.Touch.{soiled}, specs.Changes.{flush, opened}}
 use Rattle.zf_cached.proofs.States.{same_state}
 use Rattle.zf_lines.specs.Rows.{line_at, over}
-use Rattle.zf_cache.specs.declared.body.Body.{Body}
+use Rattle.zf_cache.{specs.declared.body.Body.{Body}, specs.Backed.{StepsTo}}
 use Rattle.zf_cache.specs.Kept.{Kept, HasBlocks, IsEmpty, IsIn, IsAway, tag_at, block_in, dirty_tag, line_by, written_in}
 use Rattle.zf_cache.specs.Bodies.{IsWhole, IsSound, IsSoundAt, ComesTo, kept_of, state_in}
-use Rattle.zf_cache.specs.Backed.{StepsTo}
-use Rattle.zf_cache.specs.Standing.{line_values, state_at, FitsAt}
-use Rattle.zf_cache.specs.Steps.{touch_in, with_value}
+use Rattle.zf_cache.{specs.Standing.{line_values, state_at, FitsAt}, specs.Steps.{touch_in, with_value}}
 use Rattle.zf_cache.proofs.Tags.{names-dirty, is_or_not}
 use Rattle.zf_cache.proofs.Stands.{standing_at, vals-in, vals-out, dirty-in, dirty-out}
 use Rattle.zf_cache.proofs.Touches.{no_tag, state_stands, all_meant_at}
 use Rattle.zf_cache.proofs.Placed as by_placing
-use Rattle.zf_twoway.specs.Touch.{touch, put}
+use Rattle.zf_twoway.{specs.Touch.{touch, put}, specs.Standing.{line_of, is_dirty, state_of, values_of, Fits}}
 use Rattle.zf_twoway.specs.Placing.{first_line, second_line, two_lines, skewed, either, skewed-first, skewed-second, IsOneOfTwo, skewed_rule, skewed_told}
-use Rattle.zf_twoway.specs.Standing.{line_of, is_dirty, state_of, values_of, Fits}
 use Rattle.zf_twoway.specs.Loans.{StandsFor, LendsBlock, lent_block}
 
 -- ---- the three facts, and where blocks are looked for

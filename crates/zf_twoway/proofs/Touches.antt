@@ -1,19 +1,14 @@
 -- Touches of a two-way cache, in the words of its two lines.
-use Rattle.std.specs.Prelude.{if◌then◌else◌}
+use Rattle.std.{specs.Prelude.{if◌then◌else◌}, specs.Int.{Width}}
 use Rattle.std.proofs.Common.{◌≡◌, ◌⊎◌, inl, inr, refl, sym, ap, subst, ◌∙◌, ℕ, Bool, true, false, not, ◌||◌, Option, Some, None, is_none}
-use Rattle.std.specs.Int.{Width}
 use Rattle.zf_base.specs.Formats.{Format}
-use Rattle.zf_cached.specs.State.{State, is_block}
-use Rattle.zf_cached.specs.Placing.{line_in, is_at}
-use Rattle.zf_cached.specs.Touch.{hit, miss}
-use Rattle.zf_cached.specs.Fates.{IsLeft, IsRounded}
-use Rattle.zf_cached.specs.Consistency.{IsCached}
+use Rattle.zf_cached.{specs.State.{State, is_block}, specs.Placing.{line_in, is_at}, specs.Touch.{hit, miss}}
+use Rattle.zf_cached.{specs.Fates.{IsLeft, IsRounded}, specs.Consistency.{IsCached}}
 use Rattle.zf_cached.proofs.Arrays.{meant-zeros}
 use Rattle.zf_cached.proofs.Caching.{true_is_not_false, write_back_line_by, is_block-true, is_block-some, touch_by, touch-lines, touch-here, touch-hit, touch-evicts}
 use Rattle.zf_cache.proofs.Tags.{is_or_not}
 use Rattle.zf_twoway.specs.Placing.{first_line, second_line, choice, IsOneOfTwo, two_lines, in_first, in_second, in_neither, two_placing}
-use Rattle.zf_twoway.specs.Touch.{is_clean_line, is_here, goes_to, touch}
-use Rattle.zf_twoway.specs.Runs.{twoway_setting}
+use Rattle.zf_twoway.{specs.Touch.{is_clean_line, is_here, goes_to, touch}, specs.Runs.{twoway_setting}}
 
 is_here-by : (first second : Option ℕ) (b : ℕ) → (first ≡ Some b) ⊎ (second ≡ Some b) → (is_block first b || is_block second b) ≡ true
 is_here-by first second b (inl is) = ap (λ x. x || is_block second b) (is_block-some first b is)

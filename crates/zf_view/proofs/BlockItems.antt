@@ -3,8 +3,7 @@ use Rattle.std.proofs.Common.{◌≡◌, ℕ, ◌+◌, ◌-◌, ◌*◌, ◌<◌
 use Rattle.std.proofs.lemmas.List.{length-map}
 use Rattle.zf_spec.specs.Grid.{count_from, grid, blocks, coordinates, extent_of}
 use Rattle.zf_spec.proofs.Counting.{length-count_from, count_from-below}
-use Rattle.zf_base.specs.declared.position.Pos.{Pos}
-use Rattle.zf_base.specs.declared.position.Extent.{Extent}
+use Rattle.zf_base.{specs.declared.position.Pos.{Pos}, specs.declared.position.Extent.{Extent}}
 use Rattle.zf_base.specs.Positions.{with_unused}
 use Rattle.zf_view.specs.BlockItems.{block_item, items_from}
 

@@ -3,26 +3,21 @@ use Rattle.std.proofs.Common.{◌≡◌, ℕ, ◌+◌, ◌-◌, ◌*◌, ◌%◌
 use Rattle.std.proofs.lemmas.Bool.{and_parts, and_from}
 use Rattle.std.proofs.lemmas.List.{length-map, length-take-le, length-drop}
 use Rattle.zf_spec.specs.Grid.{is_inside, extent_of, indices}
-use Rattle.zf_base.specs.declared.position.Pos.{Pos}
-use Rattle.zf_base.specs.Positions.{used_axes, with_unused, IsPosition}
-use Rattle.zf_base.specs.Places.{IsAt}
-use Rattle.zf_base.specs.Formats.{Format, existing_of}
+use Rattle.zf_base.{specs.declared.position.Pos.{Pos}, specs.Positions.{used_axes, with_unused, IsPosition}}
+use Rattle.zf_base.{specs.Places.{IsAt}, specs.Formats.{Format, existing_of}, proofs.Places.{IsAt-position}}
 use Rattle.zf_base.proofs.Formats.{length-existing_of, existing_of-existing_of}
 use Rattle.zf_base.proofs.Extents.{length-used_axes, used_axes-with_unused}
-use Rattle.zf_base.proofs.Places.{IsAt-position}
-use Rattle.zf_cached.specs.State.{State}
+use Rattle.zf_cached.{specs.State.{State}, specs.Windows.{Window, LiesIn, mapped}}
 use Rattle.zf_cached.specs.Touch.{touch, touch_for_writing, soiled, with_values, touch_for_writing_at}
-use Rattle.zf_cached.specs.Windows.{Window, LiesIn, mapped}
-use Rattle.zf_cached.specs.Arrays.{Coding, array_format}
-use Rattle.zf_cached.proofs.Windows.{length-mapped}
+use Rattle.zf_cached.{specs.Arrays.{Coding, array_format}, proofs.Windows.{length-mapped}}
 use Rattle.zf_array.specs.Standing.{Held, format, state, array_of, shape, block_at, place_at}
 use Rattle.zf_array.specs.Loans.{spliced, with_part}
 use Rattle.zf_array.proofs.Lent.{found_there, ends_there, state_there, part_is, spliced_exists, part_spliced}
 use Rattle.zf_window.specs.Positions.{position_at, x_step, run_length}
-use Rattle.zf_view.specs.Sums.{block_of, place_in}
-use Rattle.zf_view.specs.Runs.{along_x, AreBeside, run_in, ShowsRunOf, block_found, run_found, run_changed, with_run}
 use Rattle.zf_window.proofs.Beside.{block_further, place_further}
 use Rattle.zf_window.proofs.Positions.{four_axes, position_at-inside}
+use Rattle.zf_view.specs.Sums.{block_of, place_in}
+use Rattle.zf_view.specs.Runs.{along_x, AreBeside, run_in, ShowsRunOf, block_found, run_found, run_changed, with_run}
 
 -- the coordinates of a position that is made of them
 flat : (ns ms : List ℕ) → length ms ≡ length ns → length ns ≤ 4 → used_axes (length ns) (with_unused 0 ms) ≡ ms

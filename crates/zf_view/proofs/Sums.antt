@@ -1,18 +1,11 @@
 -- Sums of the values of a window, touch by touch.
 use Rattle.std.proofs.Common.{◌≡◌, refl, sym, ap, subst, ◌∙◌, ℕ, zero, suc, ◌+◌, ◌*◌, ◌^◌, ◌<◌, ◌≤◌, ℤ, ◌+ℤ◌, FitsSigned, to_z, of_z, false, List, arith, rules}
-use Rattle.std.specs.Int.{w128}
-use Rattle.std.proofs.lemmas.Int.{ints, to_z-of_z}
-use Rattle.zf_base.specs.declared.position.Pos.{Pos}
-use Rattle.zf_base.specs.Formats.{Format}
-use Rattle.zf_cached.specs.State.{State}
-use Rattle.zf_cached.specs.Touch.{touch}
-use Rattle.zf_cached.specs.Windows.{Window}
-use Rattle.zf_cached.specs.Unwritten.{IsUnwritten}
-use Rattle.zf_cached.specs.Placing.{direct}
+use Rattle.std.{specs.Int.{w128}, proofs.lemmas.Int.{ints, to_z-of_z}}
+use Rattle.zf_base.{specs.declared.position.Pos.{Pos}, specs.Formats.{Format}}
+use Rattle.zf_cached.{specs.State.{State}, specs.Touch.{touch}, specs.Windows.{Window}}
+use Rattle.zf_cached.{specs.Unwritten.{IsUnwritten}, specs.Placing.{direct}}
 use Rattle.zf_cached.proofs.Caching.{touch-left_clean}
-use Rattle.zf_window.specs.Positions.{raster_at}
-use Rattle.zf_window.specs.Bounds.{IsUpTo}
-use Rattle.zf_window.proofs.Bounds.{up_to_fits}
+use Rattle.zf_window.{specs.Positions.{raster_at}, specs.Bounds.{IsUpTo}, proofs.Bounds.{up_to_fits}}
 use Rattle.zf_view.specs.Sums.{block_of, value_in, sum_in, touched_to, sum_found}
 
 -- ---- where nothing is dirty

@@ -3,9 +3,8 @@ use Rattle.std.proofs.Common.{◌≡◌, ℕ, zero, suc, ◌+◌, ◌-◌, ◌*�
 use Rattle.std.proofs.lemmas.Bool.{and_parts, and_from}
 use Rattle.std.proofs.lemmas.List.{map-append, length-map, take-append-drop, length-drop}
 use Rattle.zf_spec.specs.Grid.{is_inside}
-use Rattle.zf_base.specs.declared.position.Pos.{Pos}
+use Rattle.zf_base.{specs.declared.position.Pos.{Pos}, proofs.Sizes.{axes-with_unused}}
 use Rattle.zf_base.specs.Positions.{axes, used_axes, with_unused, IsPosition}
-use Rattle.zf_base.proofs.Sizes.{axes-with_unused}
 use Rattle.zf_base.proofs.Extents.{length-used_axes, same_from_axes}
 use Rattle.zf_cached.specs.Windows.{stepped, mapped, none_zero, lies_in}
 use Rattle.zf_window.specs.WindowFields.{window_of, AreUnused}

@@ -1,21 +1,15 @@
 -- Positions of a window that stand side by side in one block of the array.
 use Rattle.std.proofs.Common.{◌≡◌, ℕ, suc, ◌+◌, ◌*◌, ◌/◌, ◌%◌, ◌^◌, ◌<◌, ◌≤◌, true, ltb, ltb-true, lt-ltb, eqb-true, List, [], ◌∷◌, length, refl, ap, sym, subst, ◌∙◌, div-add-mod', arith, rules}
-use Rattle.std.proofs.Math.Nat.{add-mul}
-use Rattle.std.proofs.lemmas.Bool.{and_parts, and_from}
-use Rattle.zf_spec.specs.Grid.{IsShape, product, coordinates, is_inside}
-use Rattle.zf_spec.proofs.Raster.{length-coordinates}
-use Rattle.zf_base.specs.declared.position.Pos.{Pos}
-use Rattle.zf_base.specs.Positions.{used_axes, with_unused, IsPosition}
-use Rattle.zf_base.specs.Places.{block_number, place_of, IsAt}
-use Rattle.zf_base.proofs.Boxes.{is_inside-coordinates}
+use Rattle.std.{proofs.Math.Nat.{add-mul}, proofs.lemmas.Bool.{and_parts, and_from}}
+use Rattle.zf_spec.{specs.Grid.{IsShape, product, coordinates, is_inside}, proofs.Raster.{length-coordinates}}
+use Rattle.zf_base.{specs.declared.position.Pos.{Pos}, specs.Positions.{used_axes, with_unused, IsPosition}}
+use Rattle.zf_base.{specs.Places.{block_number, place_of, IsAt}, proofs.Boxes.{is_inside-coordinates}}
 use Rattle.zf_base.proofs.Extents.{IsPosition-with_unused, used_axes-with_unused}
 use Rattle.zf_base.proofs.Places.{IsAt-position, IsAt-block, IsAt-place}
 use Rattle.zf_cached.specs.Windows.{Window, LiesIn, stepped, mapped}
 use Rattle.zf_cached.proofs.Windows.{mapped_inside, length-mapped}
-use Rattle.zf_window.specs.Positions.{numbered, raster_at}
-use Rattle.zf_window.specs.Places.{IsThere, side_count}
-use Rattle.zf_window.proofs.Raster.{product_window}
-use Rattle.zf_window.proofs.Walks.{stays, position_at-numbered}
+use Rattle.zf_window.{specs.Positions.{numbered, raster_at}, specs.Places.{IsThere, side_count}}
+use Rattle.zf_window.{proofs.Raster.{product_window}, proofs.Walks.{stays, position_at-numbered}}
 
 -- ---- k further along x, within a block
 

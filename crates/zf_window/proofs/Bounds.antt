@@ -1,7 +1,6 @@
 -- Numbers between two bounds, and the widths that they fit.
 use Rattle.std.proofs.Common.{◌≡◌, ◌⊎◌, inl, inr, ◌↔◌, subst, ◌^◌, ℤ, pos, negsuc, FitsSigned, arith}
-use Rattle.std.specs.Int.{Width, w32, w64, w128}
-use Rattle.std.proofs.lemmas.Int.{ints}
+use Rattle.std.{specs.Int.{Width, w32, w64, w128}, proofs.lemmas.Int.{ints}}
 use Rattle.zf_window.specs.Bounds.{IsUpTo}
 
 -- a value is one of at most 64 bits

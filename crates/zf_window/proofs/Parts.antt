@@ -1,11 +1,9 @@
 -- Windows made of their parts.
 use Rattle.std.proofs.Common.{◌≡◌, ℕ, zero, suc, ◌-◌, ◌/◌, ◌^◌, ◌≤◌, true, false, ◌&&◌, ltb, ltb-true, lt-ltb, List, [], ◌∷◌, map, length, Some, None, refl, ◌∙◌, arith, lit≤, rules}
-use Rattle.std.specs.List.{AllByRecursion}
-use Rattle.std.proofs.lemmas.Bool.{and_parts, and_from}
+use Rattle.std.{specs.List.{AllByRecursion}, proofs.lemmas.Bool.{and_parts, and_from}}
 use Rattle.std.proofs.lemmas.List.{length-map}
 use Rattle.zf_spec.specs.Grid.{IsShape, is_inside}
-use Rattle.zf_base.specs.declared.position.Pos.{Pos}
-use Rattle.zf_base.specs.Positions.{used_axes, with_unused}
+use Rattle.zf_base.{specs.declared.position.Pos.{Pos}, specs.Positions.{used_axes, with_unused}}
 use Rattle.zf_base.proofs.Extents.{length-used_axes}
 use Rattle.zf_cached.proofs.Windows.{length-stepped}
 use Rattle.zf_cached.specs.Windows.{Window, LiesIn, mapped, whole, none_zero, lies_in}

@@ -1,18 +1,14 @@
 -- The positions that a window maps to, and its slices.
 use Rattle.std.proofs.Common.{◌≡◌, ℕ, zero, suc, ◌+◌, ◌-◌, ◌*◌, ◌^◌, ◌<◌, true, ◌&&◌, ltb, ltb-true, lt-ltb, List, [], ◌∷◌, ◌++◌, map, length, take, replicate, set, get_or, refl, ap, sym, subst, ◌∙◌, arith, get_or-set_same, rules}
-use Rattle.std.specs.List.{AllByRecursion}
-use Rattle.std.proofs.lemmas.Bool.{and_parts, and_from}
-use Rattle.std.proofs.lemmas.List.{length-map, length-set}
-use Rattle.std.proofs.Math.Seq.{take-set-lt}
+use Rattle.std.{specs.List.{AllByRecursion}, proofs.lemmas.Bool.{and_parts, and_from}}
+use Rattle.std.{proofs.lemmas.List.{length-map, length-set}, proofs.Math.Seq.{take-set-lt}}
 use Rattle.zf_spec.specs.Grid.{is_inside}
-use Rattle.zf_base.specs.declared.position.Pos.{Pos}
+use Rattle.zf_base.{specs.declared.position.Pos.{Pos}, proofs.Sizes.{axes-with_unused}}
 use Rattle.zf_base.specs.Positions.{axes, used_axes, with_unused, IsPosition}
-use Rattle.zf_base.proofs.Sizes.{axes-with_unused}
 use Rattle.zf_base.proofs.Extents.{length-used_axes, same_from_axes}
 use Rattle.zf_cached.specs.Windows.{LiesIn, stepped, mapped, sliced, has_place, none_zero, lies_in}
 use Rattle.zf_cached.proofs.Windows.{mapped_inside, length-mapped, LiesIn-sliced}
-use Rattle.zf_window.specs.WindowFields.{window_of, largest, IsWindowOf}
-use Rattle.zf_window.proofs.Axes.{stepped-axes}
+use Rattle.zf_window.{specs.WindowFields.{window_of, largest, IsWindowOf}, proofs.Axes.{stepped-axes}}
 
 -- coordinates in the largest array are small
 all_below : (ms ps : List ℕ) → length ps ≡ length ms → is_inside (largest ms) ps ≡ true → AllByRecursion (λ c. c < 2 ^ 48) ps

@@ -2,11 +2,9 @@
 use Rattle.std.proofs.Common.{◌≡◌, ℕ, suc, ◌≤◌, true, ltb, List, [], ◌∷◌, length, take, arith}
 use Rattle.std.proofs.lemmas.Bool.{and_parts, false≢true}
 use Rattle.zf_spec.specs.Grid.{is_inside}
-use Rattle.zf_base.specs.declared.position.Pos.{Pos}
-use Rattle.zf_base.specs.Positions.{axes, used_axes, IsPosition}
+use Rattle.zf_base.{specs.declared.position.Pos.{Pos}, specs.Positions.{axes, used_axes, IsPosition}}
 use Rattle.zf_base.proofs.Extents.{length-used_axes, IsPosition-with_unused}
-use Rattle.zf_cached.specs.Windows.{Window, LiesIn, mapped}
-use Rattle.zf_cached.proofs.Windows.{mapped_inside, length-mapped}
+use Rattle.zf_cached.{specs.Windows.{Window, LiesIn, mapped}, proofs.Windows.{mapped_inside, length-mapped}}
 use Rattle.zf_window.specs.Positions.{position_at}
 
 -- a position that is inside has a coordinate for each axis

@@ -2,16 +2,13 @@
 use Rattle.std.proofs.Common.{◌≡◌, ℕ, zero, suc, ◌+◌, ◌-◌, ◌*◌, ◌≤◌, ◌<◌, true, leb, ltb, ltb-true, List, [], ◌∷◌, ◌++◌, map, length, take, replicate, refl, ap, sym, subst, ◌∙◌, arith, rules}
 use Rattle.std.proofs.lemmas.Bool.{and_parts, leb-true}
 use Rattle.std.proofs.Math.Nat.{mul-le-mul_left, mul-le-mul_right, le-mul_of_pos_right}
-use Rattle.zf_spec.specs.Grid.{product, coordinates, is_inside}
-use Rattle.zf_spec.proofs.Raster.{length-coordinates}
-use Rattle.zf_base.specs.declared.position.Pos.{Pos}
+use Rattle.zf_spec.{specs.Grid.{product, coordinates, is_inside}, proofs.Raster.{length-coordinates}}
+use Rattle.zf_base.{specs.declared.position.Pos.{Pos}, proofs.Extents.{IsPosition-with_unused}}
 use Rattle.zf_base.specs.Positions.{axes, used_axes, with_unused, IsPosition}
 use Rattle.zf_base.proofs.Boxes.{is_inside-coordinates, product-append_ones, coordinates-append_ones}
-use Rattle.zf_base.proofs.Extents.{IsPosition-with_unused}
 use Rattle.zf_cached.specs.Windows.{Window, LiesIn, mapped, stepped, none_zero}
 use Rattle.zf_cached.proofs.Windows.{mapped_inside, length-mapped}
-use Rattle.zf_window.specs.Positions.{raster_at}
-use Rattle.zf_window.proofs.Axes.{sizes_four, IsPosition-inside}
+use Rattle.zf_window.{specs.Positions.{raster_at}, proofs.Axes.{sizes_four, IsPosition-inside}}
 
 take_prefix : (xs ys : List ℕ) (n : ℕ) → length xs ≡ n → take n (xs ++ ys) ≡ xs
 take_prefix [] ys zero long = refl

@@ -1,13 +1,10 @@
 -- Raster order by steps: from the first position of a box to the one behind it.
 use Rattle.std.proofs.Common.{◌≡◌, ℕ, zero, suc, ◌+◌, ◌-◌, ◌*◌, ◌/◌, ◌%◌, ◌<◌, ◌≤◌, Bool, true, false, ltb, ltb-true, ltb-false, List, [], ◌∷◌, ◌++◌, length, get_or, replicate, refl, ap, sym, subst, ◌∙◌, div-add-mod', arith, rules}
-use Rattle.std.proofs.lemmas.Bool.{and_parts}
-use Rattle.std.proofs.lemmas.Nat.{div-mul-add, mod-mul-add}
-use Rattle.zf_spec.specs.Grid.{product, coordinates, is_inside}
-use Rattle.zf_spec.proofs.Raster.{length-coordinates}
-use Rattle.zf_base.specs.declared.position.Pos.{Pos}
+use Rattle.std.{proofs.lemmas.Bool.{and_parts}, proofs.lemmas.Nat.{div-mul-add, mod-mul-add}}
+use Rattle.zf_spec.{specs.Grid.{product, coordinates, is_inside}, proofs.Raster.{length-coordinates}}
+use Rattle.zf_base.{specs.declared.position.Pos.{Pos}, proofs.Sizes.{axes-with_unused}}
 use Rattle.zf_base.specs.Positions.{axes, used_axes, with_unused, IsPosition}
 use Rattle.zf_base.proofs.Boxes.{is_inside-coordinates, coordinates-append_ones}
-use Rattle.zf_base.proofs.Sizes.{axes-with_unused}
 use Rattle.zf_base.proofs.Extents.{length-used_axes, same_from_axes, used_axes-with_unused, IsPosition-with_unused}
 use Rattle.zf_cached.specs.Windows.{Window}
 use Rattle.zf_window.specs.Positions.{position_at, numbered, raster_at, following, IsWalk}

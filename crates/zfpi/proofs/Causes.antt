@@ -1,28 +1,17 @@
 -- Faults of a command and their causes.
-use Rattle.std.proofs.Common.{rules}
-use Rattle.std.proofs.Common.{◌≡◌, ◌≢◌, ℕ, ◌≤◌, Bool, true, false, refl}
-use Rattle.zfpi.specs.declared.status.Status.{Status}
-use Rattle.zfpi.specs.declared.status.Status.TheVariants.{ReadFault, WriteFault}
-use Rattle.zfpi.specs.declared.command.Command.{Command}
-use Rattle.zf_dev.specs.declared.faults.LoadError.{LoadError}
-use Rattle.zf_dev.specs.declared.faults.LoadError.TheVariants as loading
-use Rattle.zf_dev.specs.Faults.{Rose, HasCause}
+use Rattle.std.proofs.Common.{rules, ◌≡◌, ◌≢◌, ℕ, ◌≤◌, Bool, true, false, refl}
+use Rattle.zfpi.{specs.declared.status.Status.{Status}, specs.declared.command.Command.{Command}}
+use Rattle.zfpi.{specs.declared.status.Status.TheVariants.{ReadFault, WriteFault}, specs.Answer.{meaning}}
+use Rattle.zfpi.{specs.Faults.{load_status, take_status}, specs.Scripts.{reads_script}}
+use Rattle.zfpi.{specs.World.{Counts, counts}, specs.Headline.{HasCauses, IsIdle}}
+use Rattle.zf_dev.{specs.declared.faults.LoadError.{LoadError}, specs.Faults.{Rose, HasCause}}
 use Rattle.zf_dev.specs.declared.faults.TakeError.{TakeError}
+use Rattle.zf_dev.specs.declared.faults.LoadError.TheVariants as loading
 use Rattle.zf_dev.specs.declared.faults.TakeError.TheVariants as taking
-use Rattle.zfpi.specs.Faults.{load_status, take_status}
-use Rattle.zfpi.specs.Scripts.{reads_script}
-use Rattle.zfpi.specs.World.{Counts, counts}
-use Rattle.zfpi.specs.Answer.{meaning}
-use Rattle.zfpi.specs.Headline.{HasCauses, IsIdle}
 
 -- a command that uses no source has its causes whatever the source is sure of
 pub HasCauses-sure : (c : Command) (status : Status) (before now : Counts) {Sure : Type 0} → HasCauses c status before now (Unit {0}) (Unit {0}) → HasCauses c status before now Sure Sure
 HasCauses-sure c status before now causes = search rules
-
--- a command that came to the sink after the source was read without a fault has its causes over both
-pub HasCauses-taken : (c : Command) (status : Status) (src src_now out out_now : ℕ) {Sure Still : Type 0} → src ≤ src_now → IsIdle ((meaning c).reads status) src src_now → (Sure → Still)
-    → HasCauses c status (counts src out) (counts src out_now) (Unit {0}) (Unit {0}) → HasCauses c status (counts src out) (counts src_now out_now) Sure Still
-HasCauses-taken c status src src_now out out_now kept idle still causes = search rules
 
 -- no count rose of a device, used or not
 pub IsIdle-same : (used : Bool) (n : ℕ) → IsIdle used n n

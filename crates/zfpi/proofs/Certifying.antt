@@ -1,38 +1,25 @@
 -- What `bound` does, from what its calls answer.
-use Rattle.std.proofs.Common.{rules}
-use Rattle.std.proofs.Common.{◌≡◌, ℕ, ◌↔◌, IsTrue, List, length, Option, Result, Ok, Err, IsOk, IfOk, inl, inr, refl, ap, sym, subst, ◌∙◌}
-use Rattle.std.proofs.lemmas.Bool.{true≢false}
-use Rattle.std.specs.Int.{Width}
+use Rattle.std.proofs.Common.{rules, ◌≡◌, ℕ, ◌↔◌, IsTrue, List, length, Option, Result, Ok, Err, IsOk, IfOk, inl, inr, refl, ap, sym, subst, ◌∙◌}
+use Rattle.std.{proofs.lemmas.Bool.{true≢false}, specs.Int.{Width}}
 use mir.Val.{bits}
 use Rattle.zf_base.specs.Widths.{width_of}
-use Rattle.zf_dev.specs.Shelf.{Files, KeepsFiles}
-use Rattle.zf_dev.specs.Sink.{Appends, AppendsPrefix}
+use Rattle.zf_dev.{specs.Shelf.{Files, KeepsFiles}, specs.Sink.{Appends, AppendsPrefix}}
 use Rattle.zf_dev.specs.declared.sink.Sink.{Ghosts as Sink}
-use Rattle.zf_header.specs.declared.header.Header.{Header}
-use Rattle.zf_header.specs.HeaderBits.{IsRate}
-use Rattle.zf_parse.specs.declared.fault.StreamFault.{StreamFault}
-use Rattle.zf_parse.specs.Parsing.{Said, parse}
+use Rattle.zf_header.{specs.declared.header.Header.{Header}, specs.HeaderBits.{IsRate}}
+use Rattle.zf_parse.{specs.declared.fault.StreamFault.{StreamFault}, specs.Parsing.{Said, parse}}
 use Rattle.zf_parse.specs.ReadStreams.{IsFault}
-use Rattle.zf_index.specs.declared.fault.IndexFault.{IndexFault}
-use Rattle.zf_index.specs.Files.{HasHeader, stream_fault}
-use Rattle.zf_bound.specs.declared.certified.Certified.{Certified}
-use Rattle.zf_bound.specs.Errors.{IsSmallEnough}
+use Rattle.zf_index.{specs.declared.fault.IndexFault.{IndexFault}, specs.Files.{HasHeader, stream_fault}}
+use Rattle.zf_bound.{specs.declared.certified.Certified.{Certified}, specs.Errors.{IsSmallEnough}}
 use Rattle.zf_bound.specs.Bounds.{plane_of, error_of, certified_of, bound_text}
 use Rattle.zf_bound.proofs.Certificates.{certified_is}
-use Rattle.zfpi.specs.declared.status.Status.{Status}
-use Rattle.zfpi.specs.declared.status.Status.TheVariants as statuses
-use Rattle.zfpi.specs.declared.command.Command.TheVariants.{Bound}
-use Rattle.zfpi.specs.Faults.{index_status}
-use Rattle.zfpi.specs.Opened.{array_in, opened}
-use Rattle.zfpi.specs.Certified.{certified_text, certified_status}
-use Rattle.zfpi.specs.Loaded.{HoldsFile, RefusesFile}
-use Rattle.zfpi.specs.Calls.{Certifies}
-use Rattle.zfpi.specs.World.{ExposesInput, IsExposed, seen}
-use Rattle.zfpi.specs.Headline.{Behaves}
-use Rattle.zfpi.proofs.Rungs.{refuses}
-use Rattle.zfpi.proofs.Exposed.{some_input, Takes-none}
+use Rattle.zfpi.{specs.declared.status.Status.{Status}, specs.declared.command.Command.TheVariants.{Bound}}
+use Rattle.zfpi.{specs.Faults.{index_status}, specs.Opened.{array_in, opened}, specs.Calls.{Certifies}}
+use Rattle.zfpi.{specs.Certified.{certified_text, certified_status}, specs.Loaded.{HoldsFile, RefusesFile}}
+use Rattle.zfpi.{specs.World.{ExposesInput, IsExposed, seen}, specs.Headline.{Behaves}}
+use Rattle.zfpi.{proofs.Rungs.{refuses}, proofs.Exposed.{some_input, Takes-none}}
 use Rattle.zfpi.proofs.Opening.{array_in-rate, header_said}
 use Rattle.zfpi.proofs.Loading.{ComesFirst-index, Behaves-unopened, world_with, files_with, ExposesFiles-with, opened-held, IsLoading}
+use Rattle.zfpi.specs.declared.status.Status.TheVariants as statuses
 
 -- what is certified of whatever the stream says, where there was memory
 pub certified_all : (w : Width) (h : Header) (m : ℕ) (r : Result Certified IndexFault) (answer : Result Said StreamFault) → w ≡ width_of h.ty → IfOk r (λ c. IfOk answer (λ said. c.plane ≡ plane_of w (length h.shape) said.codes))

@@ -1,33 +1,24 @@
 -- Words that are a command are one command's.
-use Rattle.std.proofs.Common.{rules}
-use Rattle.std.proofs.Common.{◌≡◌, cond, ℕ, ◌+◌, ◌*◌, ◌<◌, ◌≤◌, ◌^◌, List, [], ◌∷◌, ◌++◌, map, length, get_or, take, drop, Option, Some, None, codes, eqb, decimal, refl, ap, sym, subst, ◌∙◌, arith, append_assoc}
-use Rattle.std.specs.Str.{bytes_eq}
-use Rattle.std.proofs.lemmas.Bool.{true≢false}
-use Rattle.std.proofs.lemmas.Fmt.{decimal_injective}
+use Rattle.std.proofs.Common.{rules, ◌≡◌, cond, ℕ, ◌+◌, ◌*◌, ◌<◌, ◌≤◌, ◌^◌, List, [], ◌∷◌, ◌++◌, map, length, get_or, take, drop, Option, Some, None, codes, eqb, decimal, refl, ap, sym, subst, ◌∙◌, arith, append_assoc}
+use Rattle.std.{specs.Str.{bytes_eq}, proofs.lemmas.Bool.{true≢false}, proofs.lemmas.Fmt.{decimal_injective}}
 use Rattle.std.proofs.lemmas.List.{take-append-drop, take-take, take_all, take-map, map_more}
-use Rattle.zf_base.specs.declared.lane.Ty.{Ty}
-use Rattle.zf_base.specs.declared.lane.Ty.TheVariants.{I32, I64}
+use Rattle.zf_base.{specs.declared.lane.Ty.{Ty}, specs.declared.lane.Ty.TheVariants.{I32, I64}}
 use Rattle.zf_spec.specs.Grid.{IsShape}
-use Rattle.zf_narrow.specs.declared.narrow.Narrow.{Narrow}
-use Rattle.zf_narrow.specs.declared.narrow.Narrow.TheVariants.{I8}
-use Rattle.zf_header.specs.declared.header.Header.{Header}
-use Rattle.zf_header.specs.declared.header.Mode.{Mode}
+use Rattle.zf_narrow.{specs.declared.narrow.Narrow.{Narrow}, specs.declared.narrow.Narrow.TheVariants.{I8}}
+use Rattle.zf_header.{specs.declared.header.Header.{Header}, specs.declared.header.Mode.{Mode}}
 use Rattle.zf_header.specs.declared.header.Mode.TheVariants.{Reversible, Rate, Precision}
 use Rattle.zf_header.specs.HeaderBits.{IsMode}
-use Rattle.zfpi.specs.declared.command.Caching.{Caching}
+use Rattle.zfpi.{specs.declared.command.Caching.{Caching}, specs.declared.command.Command.{Command}}
 use Rattle.zfpi.specs.declared.command.Caching.TheVariants.{Direct, TwoWay}
-use Rattle.zfpi.specs.declared.command.Command.{Command}
 use Rattle.zfpi.specs.declared.command.Command.TheVariants.{Compress, CompressNarrow, Restore, RestoreNarrow, Info, New, Run, Look, Bound, Sample}
-use Rattle.zfpi.specs.declared.words.Task.{Task}
-use Rattle.zfpi.specs.declared.words.Task.TheVariants as tasks
-use Rattle.zfpi.specs.declared.words.Script.{Script}
-use Rattle.zfpi.specs.declared.words.Script.TheVariants as scripts
-use Rattle.zfpi.specs.declared.words.Stage.{Stage}
-use Rattle.zfpi.specs.declared.words.Stage.TheVariants as stages
+use Rattle.zfpi.{specs.declared.words.Task.{Task}, specs.declared.words.Script.{Script}}
+use Rattle.zfpi.{specs.declared.words.Stage.{Stage}, proofs.Completed.{header_with, BeginsCommand-reached}}
 use Rattle.zfpi.specs.Words.{type_word, narrow_word, shape_word, mode_words, IsLines, lines_words, IsCaching, caching_words, IsOnScript, IsAskable, IsSpelled, BeginsCommand, IsUsage}
 use Rattle.zfpi.specs.Stages.{LeadsTo, IsBegun, script_word, IsRateWord, IsLinesWord, IsPrecisionWord}
 use Rattle.zfpi.proofs.ShapeWords.{parts_of-shape, decimals_injective, sizes_small}
-use Rattle.zfpi.proofs.Completed.{header_with, BeginsCommand-reached}
+use Rattle.zfpi.specs.declared.words.Task.TheVariants as tasks
+use Rattle.zfpi.specs.declared.words.Script.TheVariants as scripts
+use Rattle.zfpi.specs.declared.words.Stage.TheVariants as stages
 
 -- ---- different types, shapes and modes have different words
 pub type_word_injective : (s t : Ty) → type_word s ≡ type_word t → s ≡ t
@@ -262,13 +253,6 @@ HasCaching-begun scripts.Look name behind words (Look n l) is spelled =
 HasCaching-begun scripts.Run name behind words c is spelled = absurd (omega (arith, mark_of c words (codes "run") (name ∷ behind) is spelled))
 HasCaching-begun scripts.Look name behind words c is spelled = absurd (omega (arith, mark_of c words (codes "look") (name ∷ behind) is spelled))
 
--- a word behind `lines` or `twoway`, where a command goes on, is a number of lines
-pub IsLinesWord-begun : (script : Script) (name : List ℕ) (words : List (List ℕ)) (word : List ℕ) → words ≡ script_word script ∷ name ∷ codes "lines" ∷ [] → BeginsCommand (words ++ word ∷ []) → (l : ℕ) × IsLinesWord l word
-IsLinesWord-begun script name words word is (c, rest, spelled) = search (rules, HasCaching-begun, heads_same)
-
-pub IsLinesWord-begun_twoway : (name : List ℕ) (words : List (List ℕ)) (word : List ℕ) → words ≡ codes "run" ∷ name ∷ codes "twoway" ∷ [] → BeginsCommand (words ++ word ∷ []) → (l : ℕ) × IsLinesWord l word
-IsLinesWord-begun_twoway name words word is (c, rest, spelled) = search (rules, HasCaching-begun, heads_same)
-
 -- the number of such a word
 pub IsLinesWord-number : (l n : ℕ) (word : List ℕ) → IsLinesWord l word → n < 2 ^ 64 → word ≡ decimal n → l ≡ n
 IsLinesWord-number l n word is small text = decimal_injective l n (omega (arith, is.lines.1)) small (sym is.text ∙ text)
@@ -324,15 +308,6 @@ IsRateWord-number ty ns b n word is small text =
     decimal_injective b n (omega (arith, is.rate.1)) small (sym is.text ∙ text)
 
 -- ---- precisions
-precision_behind : (m : Mode) (word : List ℕ) (rest : List (List ℕ)) → IsMode m → codes "precision" ∷ word ∷ rest ≡ mode_words m → (p : ℕ) × IsPrecisionWord p word
-precision_behind Reversible word rest mode same = absurd (omega (arith, ap length same))
-precision_behind (Rate b) word rest mode same = absurd (true≢false (ap (bytes_eq (codes "rate")) (heads_same (sym same))))
-precision_behind (Precision p) word rest mode same = search rules
-
--- a word at the place of a precision, where a command goes on, is one
-pub IsPrecisionWord-begun : (task : Task) (words : List (List ℕ)) (ty : Ty) (ns : List ℕ) (word : List ℕ) → LeadsTo words (stages.AtPrecision task ty ns) → BeginsCommand (words ++ word ∷ []) → (p : ℕ) × IsPrecisionWord p word
-IsPrecisionWord-begun task words ty ns word leads (c, rest, spelled) = search (rules, IsAsked-begun, IsBegun-more, precision_behind)
-
 -- the number of such a word
 pub IsPrecisionWord-number : (p n : ℕ) (word : List ℕ) → IsPrecisionWord p word → n < 2 ^ 64 → word ≡ decimal n → p ≡ n
 IsPrecisionWord-number p n word is small text =

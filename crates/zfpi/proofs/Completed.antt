@@ -1,27 +1,21 @@
 -- Each stage that is reached can be completed to a command.
-use Rattle.std.proofs.Common.{rules}
-use Rattle.std.proofs.Common.{◌∙◌, ◌≡◌, ℕ, ◌≤◌, List, [], ◌∷◌, ◌++◌, Option, Some, None, codes, decimal, refl, ap, sym, subst, arith, lit≤, lit<}
+use Rattle.std.proofs.Common.{rules, ◌∙◌, ◌≡◌, ℕ, ◌≤◌, List, [], ◌∷◌, ◌++◌, Option, Some, None, codes, decimal, refl, ap, sym, subst, arith, lit≤, lit<}
 use Rattle.std.proofs.lemmas.List.{append-nil}
-use Rattle.zf_base.specs.declared.lane.Ty.{Ty}
-use Rattle.zf_base.specs.declared.lane.Ty.TheVariants.{I32}
+use Rattle.zf_base.{specs.declared.lane.Ty.{Ty}, specs.declared.lane.Ty.TheVariants.{I32}}
 use Rattle.zf_base.proofs.Sizes.{blocks_le}
 use Rattle.zf_spec.specs.Grid.{IsShape}
-use Rattle.zf_header.specs.declared.header.Header.{Header}
-use Rattle.zf_header.specs.declared.header.Mode.{Mode}
+use Rattle.zf_header.{specs.declared.header.Header.{Header}, specs.declared.header.Mode.{Mode}}
 use Rattle.zf_header.specs.declared.header.Mode.TheVariants.{Reversible, Rate, Precision}
-use Rattle.zf_header.specs.HeaderBits.{rate_bytes_of}
-use Rattle.zf_header.proofs.Parts.{length-header_bits}
-use Rattle.zfpi.specs.Names.{IsName}
-use Rattle.zfpi.specs.declared.command.Caching.TheVariants.{TwoWay}
+use Rattle.zf_header.{specs.HeaderBits.{rate_bytes_of}, proofs.Parts.{length-header_bits}}
+use Rattle.zfpi.{specs.Names.{IsName}, specs.declared.command.Caching.TheVariants.{TwoWay}}
 use Rattle.zfpi.specs.declared.command.Command.TheVariants.{Compress, CompressNarrow, New, Run, Bound, Sample}
-use Rattle.zfpi.specs.declared.words.Task.{Task}
-use Rattle.zfpi.specs.declared.words.Task.TheVariants as tasks
-use Rattle.zfpi.specs.declared.words.Script.{Script}
-use Rattle.zfpi.specs.declared.words.Script.TheVariants as scripts
+use Rattle.zfpi.{specs.declared.words.Task.{Task}, specs.declared.words.Script.{Script}}
 use Rattle.zfpi.specs.declared.words.Stage.{Stage}
-use Rattle.zfpi.specs.declared.words.Stage.TheVariants as stages
 use Rattle.zfpi.specs.Words.{type_word, shape_word, mode_words, compress_words, IsLines, lines_words, IsAskable, IsSpelled, BeginsCommand}
 use Rattle.zfpi.specs.Stages.{IsTask, IsBegun, task_words, command_of, script_word, script_command, LeadsTo}
+use Rattle.zfpi.specs.declared.words.Task.TheVariants as tasks
+use Rattle.zfpi.specs.declared.words.Script.TheVariants as scripts
+use Rattle.zfpi.specs.declared.words.Stage.TheVariants as stages
 
 -- a header by its parts
 abbrev pub header_with : Ty → List ℕ → Mode → Header

@@ -1,7 +1,6 @@
 -- Numbers as words: `parse` against `decimal`.
 use Rattle.std.proofs.Common.{◌≡◌, ◌≢◌, ℕ, ◌<◌, ◌≤◌, ◌^◌, List, [], ◌∷◌, length, get_or, Result, Ok, Err, IfSome, IfNone, Option, Bool, true, false, ◌⊎◌, inl, inr, Decides, ap, sym, ◌∙◌, subst, arith, decimal}
-use Rattle.std.specs.Int.{IsInRange}
-use Rattle.std.specs.Result.{result_ok}
+use Rattle.std.{specs.Int.{IsInRange}, specs.Result.{result_ok}}
 use Rattle.std.specs.Str.Parse.{ParsesUnsigned, AllDigits, digits_value}
 use Rattle.std.proofs.lemmas.Str.Parse.{IsNumeralModel, numerals_by_value, tells_digits, not_in_digits, parse_plain}
 use Rattle.std.proofs.lemmas.Fmt.{digits_decimal, decimal_nonempty, parse-decimal, decimal-digits_value}

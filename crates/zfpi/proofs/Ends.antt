@@ -2,10 +2,9 @@
 use Rattle.std.specs.Prelude.{ℕ, ◌<◌, ◌≤◌}
 use Rattle.zf_parse.specs.Raw.{raw_len}
 use Rattle.zf_narrow.specs.Texts.{narrow_len}
-use Rattle.zfpi.specs.declared.status.Status.{Status}
-use Rattle.zfpi.specs.declared.status.Status.TheVariants as statuses
-use Rattle.zfpi.specs.declared.command.Command.{Command}
+use Rattle.zfpi.{specs.declared.status.Status.{Status}, specs.declared.command.Command.{Command}}
 use Rattle.zfpi.specs.declared.command.Command.TheVariants.{Compress, CompressNarrow, Restore, RestoreNarrow, Info, New, Run, Look, Bound, Sample}
+use Rattle.zfpi.specs.declared.status.Status.TheVariants as statuses
 
 -- the statuses of `compress` of arrays of so many bytes
 abbrev pub CompressEnds : ℕ → Status → Type 0

@@ -1,7 +1,6 @@
 -- A world that explains what devices expose.
 use Rattle.std.proofs.Common.{◌≡◌, ℕ, List, [], Option, Some, None, refl}
-use Rattle.zf_dev.specs.Shelf.{Files, LacksFile, KeepsFiles}
-use Rattle.zf_dev.specs.Source.{Takes, IsAtEnd}
+use Rattle.zf_dev.{specs.Shelf.{Files, LacksFile, KeepsFiles}, specs.Source.{Takes, IsAtEnd}}
 use Rattle.zf_dev.proofs.Taking.{Takes-to_end}
 use Rattle.zfpi.specs.World.{World, ExposesInput, ExposesFiles}
 

@@ -1,35 +1,22 @@
 -- What a command wrote is handed on once it has ended: what stays of what is known of it, and what a fault makes of it.
-use Rattle.std.proofs.Common.{rules}
-use Rattle.std.proofs.Common.{◌≡◌, ◌≢◌, ℕ, ◌≤◌, true, false, List, [], take, inl, inr, Option, None, Result, Ok, Err, IsOk, IsErr, refl, subst, append-nil, arith}
-use Rattle.std.specs.Prelude.{OnOk}
-use Rattle.std.proofs.lemmas.Bool.{false≢true, true≢false}
-use Rattle.zf_dev.specs.Faults.{IsQuiet, HasCause}
-use Rattle.zf_dev.specs.declared.faults.Failed.{Failed}
-use Rattle.zf_dev.specs.declared.faults.LoadError.{LoadError}
-use Rattle.zf_dev.specs.declared.faults.LoadError.TheVariants as loading
-use Rattle.zf_dev.specs.Shelf.{Files}
-use Rattle.zf_dev.specs.Sink.{Appends, AppendsPrefix}
-use Rattle.zf_dev.specs.declared.source.Source.{Ghosts as Source}
-use Rattle.zf_dev.specs.declared.sink.Sink.{Ghosts as Sink}
-use Rattle.zf_dev.specs.declared.shelf.Shelf.{Ghosts as Shelf}
+use Rattle.std.proofs.Common.{rules, ◌≡◌, ◌≢◌, ℕ, ◌≤◌, true, false, List, [], take, inl, inr, Option, None, Result, Ok, Err, IsOk, IsErr, refl, subst, append-nil, arith}
+use Rattle.std.{specs.Prelude.{OnOk}, proofs.lemmas.Bool.{false≢true, true≢false}}
+use Rattle.zf_dev.{specs.Faults.{IsQuiet, HasCause}, specs.declared.faults.Failed.{Failed}}
+use Rattle.zf_dev.{specs.declared.faults.LoadError.{LoadError}, specs.Shelf.{Files}}
+use Rattle.zf_dev.{specs.Sink.{Appends, AppendsPrefix}, specs.declared.source.Source.{Ghosts as Source}}
+use Rattle.zf_dev.{specs.declared.sink.Sink.{Ghosts as Sink}, specs.declared.shelf.Shelf.{Ghosts as Shelf}}
 use Rattle.zf_dev.proofs.Appending.{Appends-append, AppendsPrefix-all}
+use Rattle.zf_dev.specs.declared.faults.LoadError.TheVariants as loading
 use Rattle.zf_parse.specs.Parsing.{Said}
-use Rattle.zfpi.specs.declared.status.Status.{Status}
+use Rattle.zfpi.{specs.declared.status.Status.{Status}, specs.declared.command.Command.{Command}}
 use Rattle.zfpi.specs.declared.status.Status.TheVariants.{Done, WriteFault, LoadFault, SaveFault}
-use Rattle.zfpi.specs.declared.command.Command.{Command}
 use Rattle.zfpi.specs.declared.command.Command.TheVariants.{Restore, New, Run, Look, Bound}
-use Rattle.zfpi.specs.Faults.{load_status}
-use Rattle.zfpi.specs.Opened.{array_in, opened}
-use Rattle.zfpi.specs.Certified.{certified_status}
-use Rattle.zfpi.specs.World.{Seen, seen, counts}
-use Rattle.zfpi.specs.Answer.{meaning, OfUsed}
-use Rattle.zfpi.proofs.Ends.{IsPossible}
-use Rattle.zfpi.specs.Sending.{IsDone, EndsSent, HandsOn}
-use Rattle.zfpi.specs.Steps.{is_work_done, IsShelfless}
+use Rattle.zfpi.{specs.Faults.{load_status}, specs.Opened.{array_in, opened}, specs.Answer.{meaning, OfUsed}}
+use Rattle.zfpi.{specs.Certified.{certified_status}, specs.World.{Seen, seen, counts}}
+use Rattle.zfpi.{proofs.Ends.{IsPossible}, specs.Sending.{IsDone, EndsSent, HandsOn}}
+use Rattle.zfpi.{specs.Steps.{is_work_done, IsShelfless}, specs.Calls.{Streams, Fulfils}}
 use Rattle.zfpi.specs.Headline.{IsSent, Writes, Saves, Behaves, HasCauses, IsIdle, StopsAtEnd, Sends}
-use Rattle.zfpi.specs.Calls.{Streams, Fulfils}
-use Rattle.zfpi.proofs.Stepping.{Steps-none}
-use Rattle.zfpi.proofs.Loading.{ComesFirst, by_first}
+use Rattle.zfpi.{proofs.Stepping.{Steps-none}, proofs.Loading.{ComesFirst, by_first}}
 use Rattle.zfpi.proofs.Promises.{IsRefusal, opened_first_array, IsPossible-behaves}
 
 -- ---- what was written stays what it was

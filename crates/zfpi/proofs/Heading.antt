@@ -1,27 +1,20 @@
 -- What `info` promises, from what reading a header does.
-use Rattle.std.proofs.Common.{rules}
-use Rattle.std.proofs.Common.{◌≡◌, ℕ, ◌≤◌, cond, List, [], length, take, Option, Some, None, is_none, ◌⊎◌, inl, inr, refl, ap, sym, subst, ◌∙◌}
+use Rattle.std.proofs.Common.{rules, ◌≡◌, ℕ, ◌≤◌, cond, List, [], length, take, Option, Some, None, is_none, ◌⊎◌, inl, inr, refl, ap, sym, subst, ◌∙◌}
 use Rattle.std.proofs.lemmas.List.{take_all}
-use Rattle.zf_dev.specs.Shelf.{Files}
-use Rattle.zf_dev.specs.Sink.{Appends, AppendsPrefix}
+use Rattle.zf_dev.{specs.Shelf.{Files}, specs.Sink.{Appends, AppendsPrefix}}
 use Rattle.zf_dev.proofs.Appending.{AppendsPrefix-none}
 use Rattle.zf_spec.specs.Stream.{to_bits}
-use Rattle.zf_header.specs.declared.header.Header.{Header}
-use Rattle.zf_header.specs.HeaderFields.{header_in}
+use Rattle.zf_header.{specs.declared.header.Header.{Header}, specs.HeaderFields.{header_in}}
 use Rattle.zf_header.specs.HeaderFaults.{header_fault}
 use Rattle.zf_parse.specs.declared.fault.StreamFault.{StreamFault}
 use Rattle.zf_parse.specs.declared.fault.StreamFault.TheVariants as faults
-use Rattle.zf_stream.specs.Outcomes.{IsPrefix, TakesFirst}
-use Rattle.zf_stream.specs.Headed.{ReadsHeader, LacksHeader}
-use Rattle.zfpi.specs.declared.status.Status.{Status}
-use Rattle.zfpi.specs.declared.status.Status.TheVariants as statuses
-use Rattle.zfpi.specs.declared.command.Command.TheVariants.{Info}
-use Rattle.zfpi.specs.Faults.{fault_status, header_status}
-use Rattle.zfpi.specs.Info.{info_line, info_text, TakesHeader}
-use Rattle.zfpi.specs.World.{World, ExposesInput, seen}
-use Rattle.zfpi.specs.Answer.{meaning, MayFail, cut_draft}
+use Rattle.zf_stream.{specs.Outcomes.{IsPrefix, TakesFirst}, specs.Headed.{ReadsHeader, LacksHeader}}
+use Rattle.zfpi.{specs.declared.status.Status.{Status}, specs.declared.command.Command.TheVariants.{Info}}
+use Rattle.zfpi.{specs.Faults.{fault_status, header_status}, specs.Info.{info_line, info_text, TakesHeader}}
+use Rattle.zfpi.{specs.World.{World, ExposesInput, seen}, specs.Answer.{meaning, MayFail, cut_draft}}
 use Rattle.zfpi.specs.Headline.{IsOfCommand, Writes, Behaves}
 use Rattle.zfpi.proofs.Exposed.{some_input, world_of, ExposesFiles-same, KeepsFiles-none}
+use Rattle.zfpi.specs.declared.status.Status.TheVariants as statuses
 
 -- the line of a header that was read is the text of the bytes that were read
 pub info_text-read : (bytes : List ℕ) (h : Header) → header_fault bytes ≡ None → h ≡ header_in (to_bits bytes) → info_text bytes ≡ info_line h

@@ -1,29 +1,21 @@
 -- What a command does that loads a file, as far as the load and what the file is opened as.
-use Rattle.std.proofs.Common.{rules}
-use Rattle.std.proofs.Common.{◌≡◌, ℕ, suc, ◌≤◌, ◌<◌, cond, List, [], length, Option, Some, None, Result, Err, ◌⊎◌, inl, inr, refl, ap, ◌∙◌, arith}
-use Rattle.std.specs.Prelude.{replicate}
-use Rattle.std.proofs.lemmas.Bool.{lt-ltb, le-ltb}
+use Rattle.std.proofs.Common.{rules, ◌≡◌, ℕ, suc, ◌≤◌, ◌<◌, cond, List, [], length, Option, Some, None, Result, Err, ◌⊎◌, inl, inr, refl, ap, ◌∙◌, arith}
+use Rattle.std.{specs.Prelude.{replicate}, proofs.lemmas.Bool.{lt-ltb, le-ltb}}
 use Rattle.std.proofs.lemmas.List.{length-replicate}
 use Rattle.zf_dev.specs.Shelf.{Files, HasFile, HasLongFile, ExplainsLoad, KeepsFiles, KeepsOthers, SavesFile}
 use Rattle.zf_dev.specs.declared.faults.LoadError.{LoadError}
 use Rattle.zf_dev.specs.declared.faults.LoadError.TheVariants as loading
-use Rattle.zf_parse.specs.declared.fault.StreamFault.{StreamFault}
+use Rattle.zf_parse.{specs.declared.fault.StreamFault.{StreamFault}, specs.Parsing.{Said}}
 use Rattle.zf_parse.specs.declared.fault.StreamFault.TheVariants as faults
-use Rattle.zf_parse.specs.Parsing.{Said}
 use Rattle.zf_index.specs.declared.fault.IndexFault.{IndexFault}
 use Rattle.zf_index.specs.declared.fault.IndexFault.TheVariants as index
-use Rattle.zfpi.specs.declared.status.Status.{Status}
-use Rattle.zfpi.specs.declared.status.Status.TheVariants as statuses
-use Rattle.zfpi.specs.declared.command.Command.{Command}
-use Rattle.zfpi.specs.Faults.{fault_status, load_status, index_status}
-use Rattle.zfpi.specs.Opened.{opened}
-use Rattle.zfpi.specs.Loaded.{HoldsFile}
-use Rattle.zfpi.specs.World.{World, ExposesInput, ExposesFiles, seen}
-use Rattle.zfpi.specs.Scripts.{OnWholeScript, TakesScript}
-use Rattle.zfpi.specs.Answer.{meaning, cut_draft, MayFail, OfUsed}
-use Rattle.zfpi.proofs.Ends.{FileEnds}
+use Rattle.zfpi.{specs.declared.status.Status.{Status}, specs.declared.command.Command.{Command}}
+use Rattle.zfpi.{specs.Faults.{fault_status, load_status, index_status}, specs.Opened.{opened}}
+use Rattle.zfpi.{specs.Loaded.{HoldsFile}, specs.World.{World, ExposesInput, ExposesFiles, seen}}
+use Rattle.zfpi.{specs.Answer.{meaning, cut_draft, MayFail, OfUsed}, proofs.Ends.{FileEnds}}
 use Rattle.zfpi.specs.Headline.{IsOfCommand, Writes, Saves, Behaves}
 use Rattle.zfpi.proofs.Exposed.{files_of, files_of-none, ExposesFiles-same, some_input}
+use Rattle.zfpi.specs.declared.status.Status.TheVariants as statuses
 
 -- ---- statuses that come before anything is read or written
 
@@ -44,14 +36,6 @@ ComesFirst-index e = tt
 
 IsOfCommand-first : (status : Status) → ComesFirst status → IsOfCommand status
 IsOfCommand-first = by_first IsOfCommand tt tt tt (λ f. tt) (λ b. tt) tt tt tt (λ m. tt)
-
--- no line of a script was run
-pub OnWholeScript-first : (P : Type 0) (status : Status) → ComesFirst status → OnWholeScript status P
-OnWholeScript-first P = by_first (λ s. OnWholeScript s P) tt tt tt (λ f. tt) (λ b. tt) tt tt tt (λ m. tt)
-
--- nothing of it was taken
-pub TakesScript-first : (input : List ℕ) (status : Status) → ComesFirst status → TakesScript status input []
-TakesScript-first input = by_first (λ s. TakesScript s input []) refl refl refl (λ f. refl) (λ b. refl) refl refl tt (λ m. refl)
 
 -- nothing was written
 Writes-first : (text : List ℕ) (out : Option (List ℕ)) (status : Status) → ComesFirst status → Writes status text (cut_draft status text) out out

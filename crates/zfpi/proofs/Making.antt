@@ -4,13 +4,11 @@ use Rattle.zf_dev.specs.Shelf.{Files, KeepsOthers, SavesFile}
 use Rattle.zf_dev.proofs.Appending.{Appends-none, AppendsPrefix-none}
 use Rattle.zf_base.specs.declared.lane.Ty.{Ty}
 use Rattle.zf_store.specs.Stored.{file_of, zeros}
-use Rattle.zfpi.specs.declared.status.Status.{Status}
-use Rattle.zfpi.specs.declared.status.Status.TheVariants as statuses
-use Rattle.zfpi.specs.declared.command.Command.TheVariants.{New}
-use Rattle.zfpi.specs.World.{World, seen}
-use Rattle.zfpi.specs.Answer.{cut_draft, meaning, MayFail}
+use Rattle.zfpi.{specs.declared.status.Status.{Status}, specs.declared.command.Command.TheVariants.{New}}
+use Rattle.zfpi.{specs.World.{World, seen}, specs.Answer.{cut_draft, meaning, MayFail}}
 use Rattle.zfpi.specs.Headline.{IsOfCommand, Writes, Saves, Behaves}
 use Rattle.zfpi.proofs.Exposed.{world_of, ExposesFiles-same, KeepsFiles-none, some_input, Takes-none}
+use Rattle.zfpi.specs.declared.status.Status.TheVariants as statuses
 
 module _ (name : List ℕ) (ty : Ty) (ns : List ℕ) (b : ℕ) where
   -- so it ended, with these files

@@ -1,16 +1,12 @@
 -- What a file is opened as, by what is known of its header and of the stream.
 use Rattle.std.proofs.Common.{◌≡◌, ℕ, List, length, Some, None, Result, Ok, Err, refl, ap, sym, ◌∙◌}
 use Rattle.zf_spec.specs.Stream.{to_bits, mode_number}
-use Rattle.zf_header.specs.declared.header.Header.{Header}
-use Rattle.zf_header.specs.declared.header.Mode.{Mode}
+use Rattle.zf_header.{specs.declared.header.Header.{Header}, specs.declared.header.Mode.{Mode}}
 use Rattle.zf_header.specs.declared.header.Mode.TheVariants.{Reversible, Rate, Precision}
-use Rattle.zf_header.specs.declared.header.HeaderFault.{HeaderFault}
-use Rattle.zf_header.specs.HeaderBits.{IsRate, coding}
+use Rattle.zf_header.{specs.declared.header.HeaderFault.{HeaderFault}, specs.HeaderBits.{IsRate, coding}}
 use Rattle.zf_header.specs.HeaderFaults.{header_fault}
-use Rattle.zf_parse.specs.declared.fault.StreamFault.{StreamFault}
-use Rattle.zf_parse.specs.Parsing.{Said, header_of, code_bits, said_behind, parse}
-use Rattle.zf_parse.proofs.Steps.{header_or}
-use Rattle.zf_parse.proofs.Parts.{parts_of}
+use Rattle.zf_parse.{specs.declared.fault.StreamFault.{StreamFault}, proofs.Steps.{header_or}}
+use Rattle.zf_parse.{specs.Parsing.{Said, header_of, code_bits, said_behind, parse}, proofs.Parts.{parts_of}}
 use Rattle.zfpi.specs.declared.status.Status.TheVariants as statuses
 use Rattle.zfpi.specs.Opened.{said_or_status, said_at_rate, array_behind, array_in, stream_in}
 

@@ -1,41 +1,30 @@
 -- From the promises of a command to those of the program.
-use Rattle.std.proofs.Common.{rules}
-use Rattle.std.proofs.Common.{◌≡◌, ◌≢◌, ℕ, zero, suc, ◌<◌, Bool, true, false, cond, ◌⊎◌, inl, inr, List, Option, Some, None, Result, Ok, Err, refl, ap, sym, subst, ◌∙◌, arith}
+use Rattle.std.proofs.Common.{rules, ◌≡◌, ◌≢◌, ℕ, zero, suc, ◌<◌, Bool, true, false, cond, ◌⊎◌, inl, inr, List, Option, Some, None, Result, Ok, Err, refl, ap, sym, subst, ◌∙◌, arith}
 use Rattle.std.proofs.lemmas.Bool.{ltb-true, true≢false}
-use Rattle.zf_base.specs.declared.lane.Ty.{Ty}
-use Rattle.zf_base.specs.declared.lane.Ty.TheVariants.{I32}
-use Rattle.zf_dev.specs.Faults.{IsQuiet}
-use Rattle.zf_dev.specs.Sink.{Appends}
-use Rattle.zf_header.specs.declared.header.HeaderFault.{HeaderFault}
-use Rattle.zf_header.specs.declared.header.Mode.{Mode}
-use Rattle.zf_header.specs.declared.header.Mode.TheVariants.{Rate}
-use Rattle.zf_header.specs.HeaderFaults.{header_fault}
-use Rattle.zf_parse.specs.declared.fault.StreamFault.{StreamFault}
-use Rattle.zf_parse.specs.declared.fault.StreamFault.TheVariants as faults
-use Rattle.zf_parse.specs.Raw.{stream_text}
+use Rattle.zf_base.{specs.declared.lane.Ty.{Ty}, specs.declared.lane.Ty.TheVariants.{I32}}
+use Rattle.zf_dev.{specs.Faults.{IsQuiet}, specs.Sink.{Appends}}
+use Rattle.zf_header.{specs.declared.header.HeaderFault.{HeaderFault}, specs.declared.header.Mode.{Mode}}
+use Rattle.zf_header.{specs.declared.header.Mode.TheVariants.{Rate}, specs.HeaderFaults.{header_fault}}
+use Rattle.zf_parse.{specs.declared.fault.StreamFault.{StreamFault}, specs.Raw.{stream_text}}
 use Rattle.zf_parse.specs.Parsing.{Said, header_of, parse, restore_answer, restored_text}
 use Rattle.zf_parse.proofs.Steps.{without_said}
-use Rattle.zf_stream.proofs.OwnFaults.{is_foreign, blames_foreign, own_answer}
 use Rattle.zf_parse.proofs.StreamsBack.{answer-stream_text, text-reversible_text}
+use Rattle.zf_parse.specs.declared.fault.StreamFault.TheVariants as faults
+use Rattle.zf_stream.proofs.OwnFaults.{is_foreign, blames_foreign, own_answer}
 use Rattle.zf_narrow.proofs.StreamsBack.{answer-narrow_text, text-narrow_text}
 use Rattle.zf_narrow.specs.Texts.{narrow_text, answer_behind, restore_narrow_answer, narrow_restored}
-use Rattle.zfpi.specs.Faults.{status_of, narrow_status_of, header_status}
-use Rattle.zfpi.specs.declared.status.Status.{Status}
-use Rattle.zfpi.specs.declared.status.Status.TheVariants as statuses
-use Rattle.zfpi.specs.declared.status.Status.TheVariants.{Done, Lines, Usage, NotRate, Missing, ScriptLong, FileLong, ReadFault, WriteFault, LoadFault, SaveFault, Memory}
-use Rattle.zfpi.specs.declared.command.Command.{Command}
+use Rattle.zfpi.{specs.Faults.{status_of, narrow_status_of, header_status}, specs.Words.{IsSpelled}}
+use Rattle.zfpi.{specs.declared.status.Status.{Status}, specs.declared.command.Command.{Command}}
+use Rattle.zfpi.specs.declared.status.Status.TheVariants.{Done, Usage, NotRate, Missing, ScriptLong, FileLong, ReadFault, WriteFault, LoadFault, SaveFault, Memory}
 use Rattle.zfpi.specs.declared.command.Command.TheVariants.{Compress, Restore, RestoreNarrow, Info, Run, Look, Bound}
-use Rattle.zfpi.specs.Words.{IsSpelled}
-use Rattle.zfpi.specs.World.{World, Seen, Counts, ExposesInput}
-use Rattle.zfpi.specs.Certified.{certified_status}
+use Rattle.zfpi.{specs.World.{World, Seen, Counts, ExposesInput}, specs.Certified.{certified_status}}
 use Rattle.zfpi.specs.Opened.{array_in, stream_in, opened, said_or_status, said_at_rate, array_behind}
 use Rattle.zfpi.specs.Scripts.{Answering, run_answers, look_answers, lines_status, script_status}
-use Rattle.zfpi.specs.Answer.{meaning, MayFail, OfUsed}
+use Rattle.zfpi.{specs.Answer.{meaning, MayFail, OfUsed}, specs.Steps.{IsShelfless}}
 use Rattle.zfpi.proofs.Ends.{IsPossible, CompressEnds, RestoreEnds, RestoreNarrowEnds, InfoEnds, FileEnds, LookEnds, RunEnds, BoundEnds}
-use Rattle.zfpi.specs.Steps.{IsShelfless}
 use Rattle.zfpi.specs.Headline.{OfCommand, OnUsage, RefusesWords, IsOfCommand, Behaves, HasCauses, IsComplete, IsFromOutside, IsBack, GivesBack}
-use Rattle.zfpi.proofs.CommandWords.{one_command}
-use Rattle.zfpi.proofs.Loading.{ComesFirst}
+use Rattle.zfpi.{proofs.CommandWords.{one_command}, proofs.Loading.{ComesFirst}}
+use Rattle.zfpi.specs.declared.status.Status.TheVariants as statuses
 
 -- what holds of one command that the words are holds of each
 pub OfCommand-one : (words : List (List ℕ)) (c : Command) → IsSpelled c words → (P : Command → Type 0) → P c → OfCommand words P

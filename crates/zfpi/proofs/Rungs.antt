@@ -1,46 +1,29 @@
 -- What a command on a script promises on each rung of its way, from what the calls there answer.
-use Rattle.std.proofs.Common.{rules}
-use Rattle.std.proofs.Common.{◌≡◌, ◌≢◌, ℕ, ◌+◌, ◌≤◌, Bool, true, false, List, length, Option, Some, None, inl, inr, refl, ap, sym, subst, ◌∙◌, arith}
-use Rattle.std.proofs.lemmas.Bool.{true≢false}
-use Rattle.std.specs.Prelude.{count_by}
-use Rattle.zf_dev.specs.Faults.{Rose, IsQuiet, HasCause}
+use Rattle.std.proofs.Common.{rules, ◌≡◌, ◌≢◌, ℕ, ◌+◌, ◌≤◌, Bool, true, false, List, length, Option, Some, None, inl, inr, refl, ap, sym, subst, ◌∙◌, arith}
+use Rattle.std.{proofs.lemmas.Bool.{true≢false}, specs.Prelude.{count_by}}
+use Rattle.zf_dev.{specs.Faults.{Rose, IsQuiet, HasCause}, specs.Sink.{Appends}}
 use Rattle.zf_dev.specs.Source.{Takes, IsAtEnd, TakesMoreThan, TakesSome}
-use Rattle.zf_dev.specs.Sink.{Appends}
-use Rattle.zf_dev.specs.declared.faults.TakeError.{TakeError}
-use Rattle.zf_dev.specs.declared.faults.TakeError.TheVariants as taking
+use Rattle.zf_dev.{specs.declared.faults.TakeError.{TakeError}, specs.declared.sink.Sink.{Ghosts as Sink}}
 use Rattle.zf_dev.specs.declared.source.Source.{Ghosts as Source}
-use Rattle.zf_dev.specs.declared.sink.Sink.{Ghosts as Sink}
 use Rattle.zf_dev.specs.declared.shelf.Shelf.{Ghosts as Shelf}
+use Rattle.zf_dev.specs.declared.faults.TakeError.TheVariants as taking
 use Rattle.zf_spec.specs.Stream.{mode_number}
-use Rattle.zf_header.specs.declared.header.Header.{Header}
-use Rattle.zf_header.specs.declared.header.Mode.{Mode}
-use Rattle.zf_header.specs.declared.header.HeaderFault.{HeaderFault}
-use Rattle.zf_header.specs.HeaderBits.{IsMode, coding}
-use Rattle.zf_header.specs.HeaderFaults.{header_fault}
+use Rattle.zf_header.{specs.declared.header.Header.{Header}, specs.declared.header.HeaderFault.{HeaderFault}}
+use Rattle.zf_header.{specs.HeaderBits.{coding}, specs.HeaderFaults.{header_fault}}
 use Rattle.zf_parse.specs.Parsing.{header_of}
-use Rattle.zf_cached.specs.Runs.{ended, replies_text}
-use Rattle.zf_cached.specs.Steps.{Session}
-use Rattle.zf_commands.specs.Steps.{is_refusal}
-use Rattle.zf_commands.specs.Runs.{RunsAll}
+use Rattle.zf_cached.{specs.Runs.{ended, replies_text}, specs.Steps.{Session}}
+use Rattle.zf_commands.{specs.Steps.{is_refusal}, specs.Runs.{RunsAll}}
 use Rattle.zf_run.specs.declared.end.RunEnd.TheVariants as ends
-use Rattle.zfpi.specs.declared.status.Status.{Status}
+use Rattle.zfpi.{specs.declared.status.Status.{Status}, specs.declared.command.Access.{Access}}
 use Rattle.zfpi.specs.declared.status.Status.TheVariants.{Header as NoHeader, NotRate, Pad, ReadFault, WriteFault, LoadFault}
-use Rattle.zfpi.specs.declared.command.Access.{Access}
-use Rattle.zfpi.specs.declared.command.Access.TheVariants.{Run, Look}
-use Rattle.zfpi.specs.Faults.{take_status}
-use Rattle.zfpi.specs.World.{seen}
-use Rattle.zfpi.specs.Answer.{meaning}
-use Rattle.zfpi.specs.Scripts.{reads_script, lines_status}
-use Rattle.zfpi.specs.Accesses.{command_on, Admits, admits, reading_of, answers_of, file_of, named}
-use Rattle.zfpi.specs.Subjects.{Subject, Ran}
-use Rattle.zfpi.specs.Loaded.{StandsFor, RefusesFile, IsRefused}
-use Rattle.zfpi.specs.Sending.{HandsOn}
-use Rattle.zfpi.specs.Steps.{is_work_done}
-use Rattle.zfpi.specs.Headline.{Behaves, IsSent}
-use Rattle.zfpi.specs.Rungs.{WorksOn, Answers, Closes}
+use Rattle.zfpi.{specs.declared.command.Access.TheVariants.{Run, Look}, specs.Faults.{take_status}}
+use Rattle.zfpi.{specs.World.{seen}, specs.Answer.{meaning}, specs.Scripts.{reads_script, lines_status}}
+use Rattle.zfpi.specs.Accesses.{command_on, admits, reading_of, answers_of, file_of, named}
+use Rattle.zfpi.{specs.Subjects.{Subject, Ran}, specs.Loaded.{StandsFor, RefusesFile, IsRefused}}
+use Rattle.zfpi.{specs.Sending.{HandsOn}, specs.Steps.{is_work_done}, specs.Headline.{Behaves, IsSent}}
+use Rattle.zfpi.{specs.Rungs.{WorksOn, Answers, Closes}, proofs.Stepping.{SavesOnce-none, SavesOnce-take}}
 use Rattle.zfpi.proofs.Opening.{array_in-header, stream_in-header, array_in-no_rate}
 use Rattle.zfpi.proofs.Causes.{HasCauses-refused, HasCauses-untaken, HasCauses-wrote, reads_take}
-use Rattle.zfpi.proofs.Stepping.{SavesOnce-none, SavesOnce-take}
 use Rattle.zfpi.proofs.Stopping.{StopsAtEnd-same, StopsAtEnd-used}
 use Rattle.zfpi.proofs.Loading.{ComesFirst, Behaves-starved, Behaves-refused}
 use Rattle.zfpi.proofs.Scripting.{by_lines, by_end, IsScripted-on, Behaves-untaken, Behaves-closed, Behaves-cut_script}
@@ -58,11 +41,6 @@ pub IsRefused-mode : (access : Access) (bytes : List ℕ) (h : Header) (number :
 IsRefused-mode (Run caching) bytes h number good is not number_is =
     record { refusal = tt; why = inl (array_in-no_rate bytes h number good is (λ b rate. true≢false (sym (ap (admits (Run caching)) rate) ∙ not)) number_is) }
 IsRefused-mode (Look lines) bytes h number good is not number_is = absurd (true≢false not)
-
--- or it is
-pub Admits-mode : (access : Access) (mode : Mode) → IsMode mode → admits access mode ≡ true → Admits access mode
-Admits-mode (Look lines) mode is admitted = tt
-Admits-mode (Run caching) mode is admitted = search (rules, true≢false)
 
 -- such a status comes before anything was done
 pub record Refuses (status : Status) : Type 0 where

@@ -1,19 +1,14 @@
 -- What `sample` does: nothing is read, a line is written, and no file is saved.
 use Rattle.std.proofs.Common.{rules, ◌≡◌, ℕ, List, [], Option, ◌⊎◌, inl, inr, refl, subst, ◌∙◌, ap}
-use Rattle.zf_dev.specs.Shelf.{Files}
-use Rattle.zf_dev.specs.Sink.{Appends, AppendsPrefix}
+use Rattle.zf_dev.{specs.Shelf.{Files}, specs.Sink.{Appends, AppendsPrefix}}
 use Rattle.zf_dev.proofs.Appending.{AppendsPrefix-none}
 use Rattle.zf_header.specs.declared.header.Header.{Header}
-use Rattle.zf_sample.specs.declared.summary.Summary.{Summary}
-use Rattle.zf_sample.specs.Summaries.{summary_of}
-use Rattle.zfpi.specs.declared.status.Status.{Status}
-use Rattle.zfpi.specs.declared.status.Status.TheVariants as statuses
-use Rattle.zfpi.specs.declared.command.Command.TheVariants.{Sample}
-use Rattle.zfpi.specs.Sample.{summary_line, sample_text}
-use Rattle.zfpi.specs.World.{World, seen}
-use Rattle.zfpi.specs.Answer.{meaning, MayFail, cut_draft}
-use Rattle.zfpi.specs.Headline.{IsOfCommand, Writes, Behaves}
+use Rattle.zf_sample.{specs.declared.summary.Summary.{Summary}, specs.Summaries.{summary_of}}
+use Rattle.zfpi.{specs.declared.status.Status.{Status}, specs.declared.command.Command.TheVariants.{Sample}}
+use Rattle.zfpi.{specs.Sample.{summary_line, sample_text}, specs.World.{World, seen}}
+use Rattle.zfpi.{specs.Answer.{meaning, MayFail, cut_draft}, specs.Headline.{IsOfCommand, Writes, Behaves}}
 use Rattle.zfpi.proofs.Exposed.{world_of, ExposesFiles-same, KeepsFiles-none, some_input, Takes-none}
+use Rattle.zfpi.specs.declared.status.Status.TheVariants as statuses
 
 module _ (h : Header) (seed : ℕ) where
   -- so it ended, with this output

@@ -1,40 +1,27 @@
 -- What a command does that works on a script, once its file is opened.
-use Rattle.std.proofs.Common.{rules}
-use Rattle.std.proofs.Common.{◌≡◌, ℕ, zero, suc, ◌+◌, ◌≤◌, ◌<◌, List, [], ◌∷◌, ◌++◌, length, take, drop, true, Option, Some, None, Result, Ok, IsOk, is_some, ◌⊎◌, inl, inr, refl, ap, sym, subst, ◌∙◌, arith, append-nil, length-append}
-use Rattle.std.specs.Prelude.{count_by}
-use Rattle.std.proofs.lemmas.Bool.{lt-ltb, le-ltb, false≢true}
-use Rattle.std.proofs.lemmas.Grind.{flat_map-append}
-use Rattle.std.proofs.lemmas.List.{take-append-drop}
+use Rattle.std.proofs.Common.{rules, ◌≡◌, ℕ, zero, suc, ◌+◌, ◌≤◌, ◌<◌, List, [], ◌∷◌, ◌++◌, length, take, drop, true, Option, Some, None, Result, Ok, IsOk, is_some, ◌⊎◌, inl, inr, refl, ap, sym, subst, ◌∙◌, arith, append-nil, length-append}
+use Rattle.std.{specs.Prelude.{count_by}, proofs.lemmas.Bool.{lt-ltb, le-ltb, false≢true}}
+use Rattle.std.{proofs.lemmas.Grind.{flat_map-append}, proofs.lemmas.List.{take-append-drop}}
 use Rattle.std.proofs.Math.Seq.{take-append-add}
-use Rattle.zf_dev.specs.Shelf.{Files, KeepsFiles}
-use Rattle.zf_dev.specs.Source.{Takes, IsAtEnd, TakesMoreThan, TakesSome}
-use Rattle.zf_dev.specs.Sink.{Appends, AppendsPrefix}
-use Rattle.zf_dev.specs.declared.faults.TakeError.{TakeError}
-use Rattle.zf_dev.specs.declared.faults.TakeError.TheVariants as taking
+use Rattle.zf_dev.{specs.Shelf.{Files, KeepsFiles}, specs.Source.{Takes, IsAtEnd, TakesMoreThan, TakesSome}}
+use Rattle.zf_dev.{specs.Sink.{Appends, AppendsPrefix}, specs.declared.faults.TakeError.{TakeError}}
 use Rattle.zf_dev.proofs.Appending.{AppendsPrefix-none, AppendsPrefix-all, AppendsPrefix-more}
+use Rattle.zf_dev.specs.declared.faults.TakeError.TheVariants as taking
 use Rattle.zf_parse.specs.Parsing.{Said}
-use Rattle.zf_cached.specs.Replies.{reply_text}
-use Rattle.zf_cached.specs.Steps.{Setting, Session}
-use Rattle.zf_cached.specs.Runs.{lines_of, run_lines, replies_text}
-use Rattle.zf_cached.proofs.Runs.{run_lines-append}
-use Rattle.zf_commands.specs.Steps.{is_refusal}
-use Rattle.zf_commands.specs.Runs.{StopsAt}
-use Rattle.zfpi.specs.declared.status.Status.{Status}
-use Rattle.zfpi.specs.declared.status.Status.TheVariants as statuses
-use Rattle.zfpi.specs.declared.command.Access.{Access}
-use Rattle.zfpi.specs.declared.command.Access.TheVariants.{Run, Look}
-use Rattle.zfpi.specs.declared.command.Command.{Command}
-use Rattle.zfpi.specs.Faults.{take_status}
-use Rattle.zfpi.specs.Opened.{opened}
+use Rattle.zf_cached.{specs.Replies.{reply_text}, specs.Steps.{Setting, Session}}
+use Rattle.zf_cached.{specs.Runs.{lines_of, run_lines, replies_text}, proofs.Runs.{run_lines-append}}
+use Rattle.zf_commands.{specs.Steps.{is_refusal}, specs.Runs.{StopsAt}}
+use Rattle.zfpi.{specs.declared.status.Status.{Status}, specs.declared.command.Access.{Access}}
+use Rattle.zfpi.{specs.declared.command.Access.TheVariants.{Run, Look}, specs.Faults.{take_status}}
+use Rattle.zfpi.{specs.declared.command.Command.{Command}, specs.Opened.{opened}, specs.Loaded.{HoldsFile}}
 use Rattle.zfpi.specs.Scripts.{Answering, lines_status, script_status, script_text, reads_script, AreStarved, OnWholeScript, TakesScript, IsRunnable}
 use Rattle.zfpi.specs.Accesses.{command_on, reading_of, answers_of, file_of, named}
-use Rattle.zfpi.specs.Loaded.{HoldsFile}
-use Rattle.zfpi.specs.World.{World, ExposesInput, IsExposed, seen}
+use Rattle.zfpi.{specs.World.{World, ExposesInput, IsExposed, seen}, proofs.HandedOn.{Appends-stays}}
 use Rattle.zfpi.specs.Answer.{meaning, cut_draft, MayFail, OfUsed}
 use Rattle.zfpi.specs.Headline.{IsOfCommand, Writes, Saves, Behaves}
 use Rattle.zfpi.proofs.Exposed.{some_input, ExposesInput-taken}
 use Rattle.zfpi.proofs.Loading.{Unsaved, Saves-unsaved, Saves-kept, files_with, world_with, ExposesFiles-with, opened-held, IsLoading}
-use Rattle.zfpi.proofs.HandedOn.{Appends-stays}
+use Rattle.zfpi.specs.declared.status.Status.TheVariants as statuses
 
 -- some lines are refused
 pub lines_status-some : (n : ℕ) → 1 ≤ n → lines_status n ≡ statuses.Lines n

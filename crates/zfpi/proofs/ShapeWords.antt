@@ -1,24 +1,17 @@
 -- Shapes as words: `split` against sizes joined by the letter x.
-use Rattle.std.proofs.Common.{rules}
-use Rattle.std.proofs.Common.{◌≡◌, ◌≢◌, ℕ, zero, suc, ◌+◌, ◌/◌, ◌^◌, ◌<◌, ◌≤◌, Bool, true, false, eqb, List, [], ◌∷◌, map, length, get_or, set, take, ◌++◌, ◌↔◌, Option, Result, Ok, Err, IsOk, IfOk, IfSome, IfNone, refl, ap, sym, ◌∙◌, subst, arith, lit<, append_assoc, add-one, decimal}
-use Rattle.std.specs.List.{All, AllByRecursion, slice_split, join_with_byte}
-use Rattle.std.proofs.Math.Nat.{div-le_self}
-use Rattle.std.proofs.Math.Pow.{pow_mono}
-use Rattle.std.proofs.lemmas.Bool.{ne_eqb}
-use Rattle.std.proofs.lemmas.Fmt.{decimal_injective}
+use Rattle.std.proofs.Common.{rules, ◌≡◌, ◌≢◌, ℕ, zero, suc, ◌+◌, ◌/◌, ◌^◌, ◌<◌, ◌≤◌, Bool, true, false, eqb, List, [], ◌∷◌, map, length, get_or, set, take, ◌++◌, ◌↔◌, Option, Result, Ok, Err, IsOk, IfOk, IfSome, IfNone, refl, ap, sym, ◌∙◌, subst, arith, lit<, append_assoc, add-one, decimal}
+use Rattle.std.{specs.List.{All, AllByRecursion, slice_split, join_with_byte}, proofs.Math.Nat.{div-le_self}}
+use Rattle.std.{proofs.Math.Pow.{pow_mono}, proofs.lemmas.Bool.{ne_eqb}, specs.Result.{result_ok}}
+use Rattle.std.{proofs.lemmas.Fmt.{decimal_injective}, proofs.lemmas.List.Elements.{All-from_get_or}}
 use Rattle.std.proofs.lemmas.List.{length-map, get_or-map, map-append, take_more_set}
-use Rattle.std.proofs.lemmas.List.Elements.{All-from_get_or}
 use Rattle.std.proofs.lemmas.List.Splits.{slice_split_none, slice_split_at, length-slice_split, join_with_byte-slice_split}
-use Rattle.std.specs.Result.{result_ok}
-use Rattle.std.specs.declared.str.Split.{Split}
-use Rattle.std.specs.Str.Pattern.{FindsChar}
+use Rattle.std.{specs.declared.str.Split.{Split}, specs.Str.Pattern.{FindsChar}}
 use Rattle.std.specs.Str.Iter.{split_steps, split_text, split_has_more, split_pattern}
 use Rattle.std.proofs.lemmas.Iterator.{YieldsList}
 use Rattle.std.proofs.lemmas.Iterator.Splits.{YieldsList-from_str_split}
 use Rattle.zf_base.specs.declared.shape.ShapeFault.{ShapeFault}
 use Rattle.zf_spec.specs.Grid.{IsShape}
-use Rattle.zfpi.specs.Words.{shape_word}
-use Rattle.zfpi.proofs.Decimals.{decimal_has_no}
+use Rattle.zfpi.{specs.Words.{shape_word}, proofs.Decimals.{decimal_has_no}}
 
 -- the letter at which a shape is cut
 abbrev pub is_x : ℕ → Bool

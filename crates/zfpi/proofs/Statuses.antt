@@ -1,6 +1,5 @@
 -- Statuses that differ. Where a proof knows much, to refute such an equation by what it knows takes long.
-use Rattle.std.proofs.Common.{◌≡◌, ℕ, false, eqb, sym, ap, ◌∙◌, eq-eqb}
-use Rattle.std.proofs.lemmas.Bool.{true≢false}
+use Rattle.std.{proofs.Common.{◌≡◌, ℕ, false, eqb, sym, ap, ◌∙◌, eq-eqb}, proofs.lemmas.Bool.{true≢false}}
 use Rattle.zfpi.specs.declared.status.Status.{Status}
 use Rattle.zfpi.specs.declared.status.Status.TheVariants.{Done, ReadFault, WriteFault, LoadFault, SaveFault}
 

@@ -1,18 +1,13 @@
 -- The steps of a call on the shelf.
-use Rattle.std.proofs.Common.{rules}
-use Rattle.std.proofs.Common.{◌≡◌, ◌≢◌, ℕ, ◌≤◌, ◌&&◌, Bool, true, false, refl, ap, sym, subst, arith}
+use Rattle.std.proofs.Common.{rules, ◌≡◌, ◌≢◌, ℕ, ◌≤◌, ◌&&◌, Bool, true, false, refl, ap, sym, subst, arith}
 use Rattle.std.proofs.lemmas.Bool.{true≢false}
-use Rattle.zf_dev.specs.Faults.{IsQuiet, HasCause}
-use Rattle.zf_dev.specs.declared.faults.LoadError.{LoadError}
-use Rattle.zf_dev.specs.declared.faults.LoadError.TheVariants as loading
+use Rattle.zf_dev.{specs.Faults.{IsQuiet, HasCause}, specs.declared.faults.LoadError.{LoadError}}
 use Rattle.zf_dev.specs.declared.faults.TakeError.{TakeError}
+use Rattle.zf_dev.specs.declared.faults.LoadError.TheVariants as loading
 use Rattle.zf_dev.specs.declared.faults.TakeError.TheVariants as taking
-use Rattle.zfpi.specs.declared.status.Status.{Status}
-use Rattle.zfpi.specs.declared.status.Status.TheVariants.{LoadFault, SaveFault}
-use Rattle.zfpi.specs.declared.command.Command.{Command}
-use Rattle.zfpi.specs.Faults.{load_status, take_status}
-use Rattle.zfpi.specs.Answer.{meaning}
-use Rattle.zfpi.specs.Sending.{EndsSent}
+use Rattle.zfpi.{specs.declared.status.Status.{Status}, specs.declared.command.Command.{Command}}
+use Rattle.zfpi.{specs.declared.status.Status.TheVariants.{LoadFault, SaveFault}, specs.Answer.{meaning}}
+use Rattle.zfpi.{specs.Faults.{load_status, take_status}, specs.Sending.{EndsSent}}
 use Rattle.zfpi.specs.Steps.{is_work_done, Makes, SavesOnce, Steps, IsShelfless}
 
 and_false : (b : Bool) → b && false ≡ false
@@ -87,10 +82,6 @@ module _ {F : Type 0} (loads saves : F → F → Type 0) (faults : F → ℕ) (c
   Steps-loaded status before loaded loading no_save step kept none =
       let load = loaded_well status before loaded loading step kept none.no_load in
       record { loaded = loaded; load = load; save = saves_none status loaded no_save none }
-
-  -- or at most one save behind it
-  pub Steps-saved : (status : Status) (before loaded now : F) → (meaning c).loads ≡ true → loads before loaded → faults before ≤ faults loaded → SavesOnce saves faults c status loaded now → Steps loads saves faults c status before now
-  Steps-saved status before loaded now loading step kept once = search (rules, loaded_well)
 
   -- a load that was not
   pub Steps-unloaded : (e : LoadError) (before now : F) → (meaning c).loads ≡ true → loads before now → HasCause (e ≡ loading.Failed) (faults before) (faults now) → Steps loads saves faults c (load_status e) before now

@@ -1,7 +1,6 @@
 -- How often a command sees the end of its source.
 use Rattle.std.proofs.Common.{◌≡◌, ℕ, ◌+◌, ◌≤◌, Bool, true, arith}
-use Rattle.zfpi.specs.Headline.{StopsAtEnd}
-use Rattle.zfpi.proofs.Causes.{IsIdle-same, IsIdle-used}
+use Rattle.zfpi.{specs.Headline.{StopsAtEnd}, proofs.Causes.{IsIdle-same, IsIdle-used}}
 
 -- it was not used
 pub StopsAtEnd-same : (used : Bool) (n : ℕ) → StopsAtEnd used n n

@@ -1,42 +1,29 @@
 -- From what a call on a stream promises to what a command promises that hands it on.
-use Rattle.std.proofs.Common.{rules}
-use Rattle.std.proofs.Common.{◌≡◌, ◌≢◌, ℕ, ◌+◌, ◌≤◌, true, List, [], ◌∷◌, Option, Some, None, Result, Err, ◌⊎◌, inl, inr, refl, ap, sym, subst, ◌∙◌}
+use Rattle.std.proofs.Common.{rules, ◌≡◌, ◌≢◌, ℕ, ◌+◌, ◌≤◌, true, List, [], ◌∷◌, Option, Some, None, Result, Err, ◌⊎◌, inl, inr, refl, ap, sym, subst, ◌∙◌}
 use Rattle.std.proofs.lemmas.List.{take_all}
-use Rattle.zf_dev.specs.Faults.{HasCause}
-use Rattle.zf_dev.specs.Shelf.{Files}
-use Rattle.zf_dev.specs.declared.source.Source.{Ghosts as Source}
-use Rattle.zf_dev.specs.declared.sink.Sink.{Ghosts as Sink}
-use Rattle.zf_dev.specs.Source.{Takes, IsAtEnd}
-use Rattle.zf_dev.specs.Sink.{Appends, AppendsPrefix}
-use Rattle.zf_dev.proofs.Appending.{AppendsPrefix-none}
-use Rattle.zf_header.specs.declared.header.Header.{Header}
+use Rattle.zf_dev.{specs.Faults.{HasCause}, specs.Shelf.{Files}, specs.declared.sink.Sink.{Ghosts as Sink}}
+use Rattle.zf_dev.{specs.declared.source.Source.{Ghosts as Source}, specs.Source.{Takes, IsAtEnd}}
+use Rattle.zf_dev.{specs.Sink.{Appends, AppendsPrefix}, proofs.Appending.{AppendsPrefix-none}}
+use Rattle.zf_header.{specs.declared.header.Header.{Header}, specs.HeaderFaults.{header_fault}}
 use Rattle.zf_header.specs.declared.header.Mode.TheVariants.{Reversible}
-use Rattle.zf_header.specs.HeaderFaults.{header_fault}
-use Rattle.zf_base.specs.declared.lane.Ty.{Ty}
-use Rattle.zf_base.specs.declared.lane.Ty.TheVariants.{I32, I64}
-use Rattle.zf_parse.specs.declared.fault.StreamFault.{StreamFault}
-use Rattle.zf_parse.specs.declared.fault.StreamFault.TheVariants as faults
-use Rattle.zf_parse.specs.Raw.{stream_text}
-use Rattle.zf_parse.specs.Parsing.{header_of}
-use Rattle.zf_parse.proofs.Parsed.{good_header}
+use Rattle.zf_base.{specs.declared.lane.Ty.{Ty}, specs.declared.lane.Ty.TheVariants.{I32, I64}}
+use Rattle.zf_parse.{specs.declared.fault.StreamFault.{StreamFault}, specs.Raw.{stream_text}}
+use Rattle.zf_parse.{specs.Parsing.{header_of}, proofs.Parsed.{good_header}}
 use Rattle.zf_parse.proofs.StreamsBack.{answer-stream_text}
+use Rattle.zf_parse.specs.declared.fault.StreamFault.TheVariants as faults
 use Rattle.zf_stream.specs.Outcomes as streams
 use Rattle.zf_stream.specs.Headed.{prefix_room}
-use Rattle.zf_narrow.specs.declared.narrow.Narrow.{Narrow}
-use Rattle.zf_narrow.specs.declared.fault.NarrowFault.{NarrowFault}
+use Rattle.zf_narrow.{specs.declared.narrow.Narrow.{Narrow}, specs.declared.fault.NarrowFault.{NarrowFault}}
 use Rattle.zf_narrow.specs.declared.fault.NarrowFault.TheVariants.{NotNarrow, Stream}
 use Rattle.zf_narrow.specs.Texts.{restore_narrow_answer, answer_of_type, HasWideType, narrow_restored, IsFromOutside, IsBeforeWriting, AnswersNarrow, CanRefuseNarrow}
-use Rattle.zfpi.specs.declared.status.Status.{Status}
-use Rattle.zfpi.specs.declared.status.Status.TheVariants as statuses
-use Rattle.zfpi.specs.declared.command.Command.{Command}
+use Rattle.zfpi.{specs.declared.status.Status.{Status}, specs.declared.command.Command.{Command}}
 use Rattle.zfpi.specs.declared.command.Command.TheVariants.{Compress, CompressNarrow, Restore, RestoreNarrow}
 use Rattle.zfpi.specs.Faults.{fault_status, narrow_status, status_of, narrow_status_of}
-use Rattle.zfpi.specs.World.{World, ExposesInput, seen}
+use Rattle.zfpi.{specs.World.{World, ExposesInput, seen}, specs.Calls.{Streams}, proofs.Completed.{one_value}}
 use Rattle.zfpi.specs.Answer.{meaning, TakesStream, MayFail, compress_draft, restore_draft, OfUsed}
 use Rattle.zfpi.specs.Headline.{IsOfCommand, Writes, Saves, Behaves}
-use Rattle.zfpi.specs.Calls.{Streams}
-use Rattle.zfpi.proofs.Completed.{one_value}
 use Rattle.zfpi.proofs.Exposed.{world_of, ExposesFiles-same, KeepsFiles-none, ExposesInput-taken}
+use Rattle.zfpi.specs.declared.status.Status.TheVariants as statuses
 
 -- ---- commands on streams
 

@@ -1,15 +1,10 @@
 -- What a script works on, as it is opened and run: for each target.
-use Rattle.std.proofs.Common.{rules}
-use Rattle.std.proofs.Common.{◌≡◌, ℕ, ℤ, Bool, List, Option, Some, None, Ok, refl, ap, sym, subst, ◌∙◌}
+use Rattle.std.proofs.Common.{rules, ◌≡◌, ℕ, ℤ, Bool, List, Option, Some, None, Ok, refl, ap, sym, subst, ◌∙◌}
 use Rattle.std.specs.Int.{Width}
 use Rattle.zf_base.specs.Widths.{width_of}
-use Rattle.zf_header.specs.declared.header.Header.{Header}
-use Rattle.zf_header.specs.HeaderBits.{block_bits}
-use Rattle.zf_parse.specs.Parsing.{parse}
-use Rattle.zf_parse.specs.ReadStreams.{IsFault}
-use Rattle.zf_cached.specs.Arrays.{open_array, saved_file}
-use Rattle.zf_cached.specs.State.{State}
-use Rattle.zf_cached.specs.Windows.{whole}
+use Rattle.zf_header.{specs.declared.header.Header.{Header}, specs.HeaderBits.{block_bits}}
+use Rattle.zf_parse.{specs.Parsing.{parse}, specs.ReadStreams.{IsFault}}
+use Rattle.zf_cached.{specs.Arrays.{open_array, saved_file}, specs.State.{State}, specs.Windows.{whole}}
 use Rattle.zf_cached.specs.Steps.{Setting, Session}
 use Rattle.zf_cached.specs.Runs.{lines_of, run_lines, run_script, run, look, ended}
 use Rattle.zf_store.specs.Files as store
@@ -21,20 +16,15 @@ use Rattle.zf_array.specs.Standing as arrays
 use Rattle.zf_const.specs.Standing as streams
 use Rattle.zf_const.specs.Files as contents
 use Rattle.zf_cache.specs.Kept.{Kept}
-use Rattle.zf_commands.specs.Sittings.{session}
-use Rattle.zf_commands.specs.Runs.{starved_lines, RunsAll}
-use Rattle.zf_run.specs.declared.end.RunEnd.{RunEnd}
+use Rattle.zf_commands.{specs.Sittings.{session}, specs.Runs.{starved_lines, RunsAll}}
+use Rattle.zf_run.{specs.declared.end.RunEnd.{RunEnd}, specs.Pairs.{pair_state, two_setting_of}}
 use Rattle.zf_run.specs.declared.end.RunEnd.TheVariants.{Done, Lines, Write}
 use Rattle.zf_run.specs.Sessions.{setting_of, look_setting_of, look_start_of}
-use Rattle.zf_run.specs.Pairs.{pair_state, two_setting_of}
 use Rattle.zf_run.specs.Ends.{Completes, Halts, IsEnd, Runs, Looks, RunsTwo}
-use Rattle.zfpi.specs.declared.command.Caching.{Caching}
-use Rattle.zfpi.specs.declared.command.Access.{Access}
-use Rattle.zfpi.specs.declared.command.Access.TheVariants.{Run, Look}
-use Rattle.zfpi.specs.declared.commands.target.Loaded.{Loaded}
-use Rattle.zfpi.specs.Faults.{index_status}
+use Rattle.zfpi.{specs.declared.command.Caching.{Caching}, specs.declared.command.Access.{Access}}
+use Rattle.zfpi.{specs.declared.command.Access.TheVariants.{Run, Look}, specs.Faults.{index_status}}
+use Rattle.zfpi.{specs.declared.commands.target.Loaded.{Loaded}, specs.Subjects.{Subject, Ran}}
 use Rattle.zfpi.specs.Scripts.{lines_for, first_lines, setting_over, ran_over, starved_over, run_file, look_answers}
-use Rattle.zfpi.specs.Subjects.{Subject, Ran}
 use Rattle.zfpi.specs.Loaded.{IsAccessed, StandsFor, RefusesFile, IsRefused}
 use Rattle.zfpi.proofs.Opening.{array_in-rate, stream_in-said}
 

@@ -1,17 +1,12 @@
 -- Codes and a two-way cache over them, as they are opened and saved.
-use Rattle.std.proofs.Common.{◌≡◌, ℕ, ℤ, [], ap, ◌∙◌}
-use Rattle.std.specs.Int.{Width}
+use Rattle.std.{proofs.Common.{◌≡◌, ℕ, ℤ, [], ap, ◌∙◌}, specs.Int.{Width}}
 use Rattle.zf_base.specs.Widths.{width_of}
-use Rattle.zf_header.specs.declared.header.Header.{Header}
-use Rattle.zf_header.specs.HeaderBits.{block_bits}
-use Rattle.zf_cached.specs.State.{no_counts}
-use Rattle.zf_cached.specs.Changes.{opened, raised}
+use Rattle.zf_header.{specs.declared.header.Header.{Header}, specs.HeaderBits.{block_bits}}
+use Rattle.zf_cached.{specs.State.{no_counts}, specs.Changes.{opened, raised}}
 use Rattle.zf_cached.specs.Arrays.{open_array, codes_of, saved_file}
-use Rattle.zf_cache.specs.Kept.{Kept, IsEmpty}
-use Rattle.zf_cache.specs.Standing.{state_at}
+use Rattle.zf_cache.{specs.Kept.{Kept, IsEmpty}, specs.Standing.{state_at}}
 use Rattle.zf_store.specs.Stored.{Stored, IsStore, format_of, code_at, file_of}
-use Rattle.zf_array.specs.Standing.{Held, state}
-use Rattle.zf_array.proofs.Steps.{open_is, saved_is}
+use Rattle.zf_array.{specs.Standing.{Held, state}, proofs.Steps.{open_is, saved_is}}
 use Rattle.zf_twoway.proofs.Standing.{opens}
 use Rattle.zf_run.specs.Pairs.{pair_state}
 

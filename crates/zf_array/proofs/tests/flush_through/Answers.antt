@@ -1,6 +1,5 @@
 use Rattle.std.proofs.Common.{ap, ◌∙◌, rules}
-use Rattle.zf_array.specs.Coded.{Frame}
-use Rattle.zf_array.proofs.Coded.{lent_codes}
+use Rattle.zf_array.{specs.Coded.{Frame}, proofs.Coded.{lent_codes}}
 use Rattle.zf_array.proofs.tests.flush_through.Goals as goal
 
 pub returns-clause-state : goal.returns-clause-state

@@ -1,8 +1,6 @@
 use Rattle.std.proofs.Common.{ap, ◌∙◌, ◌*ℤ◌, pos}
-use Rattle.zf_spec.specs.Numbers.{wrap}
-use Rattle.zf_spec.proofs.Wrapping.{wrap_value}
-use Rattle.zf_array_tests.specs.EvenValues.{even_below}
-use Rattle.zf_array_tests.proofs.RoundedDown.{even_below_fits}
+use Rattle.zf_spec.{specs.Numbers.{wrap}, proofs.Wrapping.{wrap_value}}
+use Rattle.zf_array_tests.{specs.EvenValues.{even_below}, proofs.RoundedDown.{even_below_fits}}
 use Rattle.zf_array_tests.proofs.evens.even.Goals as goal
 
 pub returns : goal.returns

@@ -1,5 +1,4 @@
-use Rattle.std.proofs.Common.{◌≡◌, length, map, arith}
-use Rattle.std.proofs.lemmas.List.{length-map}
+use Rattle.std.{proofs.Common.{◌≡◌, length, map, arith}, proofs.lemmas.List.{length-map}}
 use Rattle.zf_array_tests.specs.EvenValues.{even_below}
 use Rattle.zf_base.proofs.Values.{numbers_more}
 use Rattle.zf_array_tests.proofs.evens.round_down.Goals as goal

@@ -1,7 +1,7 @@
 use Rattle.std.proofs.Common.{◌≡◌}
 use Rattle.zf_array_tests.specs.EvenValues.{evens_format}
-use Rattle.zf_base.specs.contracts.lane.I32Lane.TheImpl.{ghosts as lane}
 use Rattle.zf_array_tests.specs.contracts.counted.CountedReadingI32.TheImpl.{ghosts as counted}
+use Rattle.zf_base.specs.contracts.lane.I32Lane.TheImpl.{ghosts as lane}
 use Rattle.zf_twoway.specs.Standing.{Fits}
 use Rattle.zf_array_tests.proofs.twoway.all_go.Given as goal
 

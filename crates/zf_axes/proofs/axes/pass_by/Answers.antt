@@ -1,5 +1,4 @@
-use Rattle.std.proofs.Common.{◌≡◌, ◌*◌, ◌/◌, length, ap, sym, ◌∙◌, arith}
-use Rattle.std.proofs.lemmas.List.{length-map}
+use Rattle.std.{proofs.Common.{◌≡◌, ◌*◌, ◌/◌, length, ap, sym, ◌∙◌, arith}, proofs.lemmas.List.{length-map}}
 use Rattle.zf_axes.proofs.Strides.{line_start-member, line_start-in_group, groups_are_whole, group_inside}
 use Rattle.zf_axes.proofs.LineByLine.{IsMappedBelow-line, IsMappedBelow-skip, IsMappedBelow-end}
 use Rattle.zf_axes.proofs.axes.pass_by.Goals as goal

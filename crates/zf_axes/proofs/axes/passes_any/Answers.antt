@@ -1,6 +1,5 @@
 use Rattle.std.proofs.Common.{◌≡◌, ◌^◌, length, arith}
-use Rattle.zf_axes.proofs.Strides.{step_some, step_below, step_whole}
-use Rattle.zf_axes.proofs.AxisByAxis.{along_axes-next}
+use Rattle.zf_axes.{proofs.Strides.{step_some, step_below, step_whole}, proofs.AxisByAxis.{along_axes-next}}
 use Rattle.zf_axes.proofs.axes.passes_any.Goals as goal
 
 pub step_along-requires : goal.step_along-requires

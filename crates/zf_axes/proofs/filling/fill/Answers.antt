@@ -1,4 +1,4 @@
-use Rattle.std.proofs.Common.{◌≡◌, ◌<◌, pos, map, length, get_or, replicate, ext_get_or, sym, ap, ◌∙◌, arith}
+use Rattle.std.proofs.Common.{◌≡◌, ◌<◌, pos, map, length, replicate, ext_get_or, sym, ap, ◌∙◌, arith}
 use Rattle.std.proofs.lemmas.List.{length-map, get_or-map, length-replicate, get_or-replicate}
 use Rattle.std.proofs.lemmas.List.Edits.{fill_by_more}
 use Rattle.zf_axes.proofs.filling.fill.Goals as goal

@@ -1,8 +1,5 @@
-use Rattle.std.proofs.lemmas.Grind.{common_steps}
-use Rattle.std.proofs.Common.{◌<◌, ◌^◌, ap, ◌∙◌, arith}
-use Rattle.std.specs.List.{flat_map}
-use Rattle.std.specs.Int.{w64, to_le_bytes}
-use Rattle.std.proofs.lemmas.List.{take_more, take_all}
+use Rattle.std.{proofs.lemmas.Grind.{common_steps}, proofs.Common.{◌<◌, ◌^◌, ap, ◌∙◌, arith}}
+use Rattle.std.{specs.List.{flat_map}, specs.Int.{w64, to_le_bytes}, proofs.lemmas.List.{take_more, take_all}}
 use Rattle.std.proofs.lemmas.List.Elements.{All-from_get_or}
 use Rattle.zf_bits.proofs.Packed.{flat_map-push, bytes-words}
 use Rattle.zf_bits.proofs.packing.bytes_of_words.Goals as goal

@@ -1,7 +1,5 @@
 -- The bytes of the words so far.
-use Rattle.std.proofs.Common.{◌≡◌, take}
-use Rattle.std.specs.List.{flat_map}
-use Rattle.std.specs.Int.{w64, to_le_bytes}
+use Rattle.std.{proofs.Common.{◌≡◌, take}, specs.List.{flat_map}, specs.Int.{w64, to_le_bytes}}
 use Rattle.zf_bits.proofs.packing.bytes_of_words.Given as goal
 
 abbrev pub invariant-loop-word : goal.invariant-loop-word

@@ -1,7 +1,6 @@
 use Rattle.std.proofs.Common.{◌≡◌, ℕ, ◌+◌, ◌*◌, ◌/◌, ◌≤◌, List, ◌∷◌, ◌++◌, [], length, take, drop, set, ap, sym, subst, ◌∙◌, arith, rules}
 use Rattle.std.proofs.lemmas.List.{take_more_set, take_all, take_rest, length-set, length-drop}
-use Rattle.zf_bits.specs.Packing.{word_of, words_from}
-use Rattle.zf_bits.proofs.Packed.{words_from-more, word_of-eight}
+use Rattle.zf_bits.{specs.Packing.{word_of, words_from}, proofs.Packed.{words_from-more, word_of-eight}}
 use Rattle.zf_bits.proofs.packing.put_words.Goals as goal
 
 -- one word more of the first ones

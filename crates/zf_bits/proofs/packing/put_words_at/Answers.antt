@@ -1,5 +1,4 @@
-use Rattle.std.proofs.Common.{rules}
-use Rattle.std.proofs.lemmas.List.{drop-drop, length-take, length-drop}
+use Rattle.std.{proofs.Common.{rules}, proofs.lemmas.List.{drop-drop, length-take, length-drop}}
 use Rattle.zf_bits.proofs.Packed.{bits_put}
 use Rattle.zf_bits.proofs.packing.put_words_at.Goals as goal
 

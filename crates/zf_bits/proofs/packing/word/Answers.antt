@@ -1,8 +1,6 @@
 use Rattle.std.proofs.Common.{◌≡◌, ◌++◌, ◌∙◌, length, drop, replicate, ap, sym}
-use Rattle.std.specs.Int.{w64, from_le_bytes}
-use Rattle.std.proofs.lemmas.List.{drop-replicate}
-use Rattle.zf_bits.specs.Packing.{word_of}
-use Rattle.zf_bits.proofs.Packed.{first_bytes-short}
+use Rattle.std.{specs.Int.{w64, from_le_bytes}, proofs.lemmas.List.{drop-replicate}}
+use Rattle.zf_bits.{specs.Packing.{word_of}, proofs.Packed.{first_bytes-short}}
 use Rattle.zf_bits.proofs.packing.word.Goals as goal
 
 pub returns : goal.returns

@@ -1,6 +1,5 @@
 -- The words so far, and those of the bytes that are left.
-use Rattle.std.proofs.Common.{◌≡◌, ◌++◌}
-use Rattle.std.specs.Slice.Iter.{chunks_rest, chunks_size}
+use Rattle.std.{proofs.Common.{◌≡◌, ◌++◌}, specs.Slice.Iter.{chunks_rest, chunks_size}}
 use Rattle.zf_bits.specs.Packing.{words_of}
 use Rattle.zf_bits.proofs.packing.words_of_bytes.Given as goal
 

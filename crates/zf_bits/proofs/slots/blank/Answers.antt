@@ -1,5 +1,4 @@
-use Rattle.std.proofs.Common.{arith}
-use Rattle.std.proofs.lemmas.List.{length-take-le}
+use Rattle.std.{proofs.Common.{arith}, proofs.lemmas.List.{length-take-le}}
 use Rattle.zf_bits.proofs.slots.blank.Goals as goal
 
 pub returns : goal.returns

@@ -1,6 +1,5 @@
 use Rattle.std.proofs.Common.{◌∙◌, arith, drop, replicate, false, length-drop}
-use Rattle.zf_spec.specs.Numbers.{word_bits}
-use Rattle.zf_spec.proofs.WordBits.{length-word_bits}
+use Rattle.zf_spec.{specs.Numbers.{word_bits}, proofs.WordBits.{length-word_bits}}
 use Rattle.zf_bits.proofs.Words.{low_of_window}
 use Rattle.zf_bits.proofs.slots.get_bits.Goals as goal
 

@@ -1,6 +1,4 @@
-use Rattle.std.proofs.Common.{◌-◌, arith}
-use Rattle.std.proofs.lemmas.Nat.{and_mask}
-use Rattle.std.proofs.lemmas.Nat.Bits.{ones_shr}
+use Rattle.std.{proofs.Common.{◌-◌, arith}, proofs.lemmas.Nat.{and_mask}, proofs.lemmas.Nat.Bits.{ones_shr}}
 use Rattle.zf_bits.proofs.slots.low_bits.Goals as goal
 
 pub returns-else-n-eq0 : goal.returns-else-n-eq0

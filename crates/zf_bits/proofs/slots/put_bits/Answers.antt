@@ -1,6 +1,5 @@
 use Rattle.std.proofs.Common.{◌+◌, ◌-◌, ◌*◌, ◌/◌, ◌%◌, arith}
-use Rattle.zf_spec.specs.Numbers.{word_bits}
-use Rattle.zf_spec.proofs.WordBits.{length-word_bits}
+use Rattle.zf_spec.{specs.Numbers.{word_bits}, proofs.WordBits.{length-word_bits}}
 use Rattle.zf_bits.proofs.Words.{put_parts}
 use Rattle.zf_bits.proofs.slots.put_bits.Goals as goal
 

@@ -2,10 +2,8 @@ use Rattle.std.proofs.Common.{ℤ, pos, ◌-◌, ◌^◌, ◌∷◌, map, length
 use Rattle.zf_spec.specs.Planes.{planes_of}
 use Rattle.zf_coef.specs.HeldDigits.{digits_in}
 use Rattle.zf_bits.specs.Reader.{Reader, rest}
-use Rattle.zf_block.specs.Decoding.{PassesCode, StandsFor}
-use Rattle.zf_block.proofs.Sizes.{block_sizes}
-use Rattle.zf_block.proofs.Decoded.{passes_block, passes_zeros}
-use Rattle.zf_block.proofs.FirstAlone.{coefficients_first}
+use Rattle.zf_block.{specs.Decoding.{PassesCode, StandsFor}, proofs.Sizes.{block_sizes}}
+use Rattle.zf_block.{proofs.Decoded.{passes_block, passes_zeros}, proofs.FirstAlone.{coefficients_first}}
 use Rattle.zf_block.proofs.codec.decode.Goals as goal
 
 pub pass_zeros-requires : goal.pass_zeros-requires

@@ -1,5 +1,4 @@
-use Rattle.std.proofs.Common.{rules}
-use Rattle.std.proofs.Common.{map, refl, ap, ◌∙◌}
+use Rattle.std.proofs.Common.{rules, map, refl, ap, ◌∙◌}
 use Rattle.zf_spec.specs.HeldPlanes.{planes_held}
 use Rattle.zf_block.proofs.Decoded.{passes_block, lacks_block}
 use Rattle.zf_block.proofs.codec.read_block.Goals as goal

@@ -1,6 +1,4 @@
-use Rattle.std.proofs.Common.{rules}
-use Rattle.std.proofs.Common.{map, sym, ap, ◌∙◌}
-use Rattle.std.proofs.lemmas.Bool.{false≢true}
+use Rattle.std.{proofs.Common.{rules, map, sym, ap, ◌∙◌}, proofs.lemmas.Bool.{false≢true}}
 use Rattle.zf_spec.specs.Planes.{planes_of}
 use Rattle.zf_coef.specs.HeldDigits.{digits_in}
 use Rattle.zf_block.proofs.Decoded.{passes_zeros, passes_block, lacks_block}

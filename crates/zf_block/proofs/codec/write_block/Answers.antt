@@ -1,10 +1,8 @@
-use Rattle.std.proofs.Common.{rules}
-use Rattle.std.proofs.Common.{◌≡◌, ℕ, ℤ, ◌^◌, List, map, subst, ap, ◌∙◌}
+use Rattle.std.proofs.Common.{rules, ◌≡◌, ℕ, ℤ, ◌^◌, List, map, subst, ap, ◌∙◌}
 use Rattle.std.proofs.lemmas.Bool.{false≢true}
 use Rattle.zf_spec.specs.Codes as codes
 use Rattle.zf_spec.specs.HeldPlanes.{planes_held}
-use Rattle.zf_bits.specs.Writer.{Writer, Appends}
-use Rattle.zf_bits.proofs.Appending.{Appends-same}
+use Rattle.zf_bits.{specs.Writer.{Writer, Appends}, proofs.Appending.{Appends-same}}
 use Rattle.zf_block.specs.Block.{planes_by}
 use Rattle.zf_block.proofs.codec.write_block.Goals as goal
 

@@ -1,5 +1,4 @@
-use Rattle.std.proofs.Common.{arith}
-use Rattle.std.proofs.Math.Nat.{one-le-pow}
+use Rattle.std.{proofs.Common.{arith}, proofs.Math.Nat.{one-le-pow}}
 use Rattle.zf_block.proofs.Sizes.{rows_whole}
 use Rattle.zf_block.proofs.codec.write_or_make.Goals as goal
 

@@ -1,5 +1,4 @@
-use Rattle.std.proofs.Common.{◌≡◌, ◌^◌, map, length, ◌∙◌, arith}
-use Rattle.std.proofs.lemmas.List.{length-map}
+use Rattle.std.{proofs.Common.{◌≡◌, ◌^◌, map, length, ◌∙◌, arith}, proofs.lemmas.List.{length-map}}
 use mir.Val.{bits}
 use Rattle.zf_coef.proofs.Composed.{by_place-planes}
 use Rattle.zf_block.proofs.coefficients.from_planes.Goals as goal

@@ -1,9 +1,7 @@
 use Rattle.std.proofs.Common.{◌≡◌, ℕ, ◌-◌, ◌<◌, ◌^◌, pos, ◌∷◌, List, map, length, replicate, sym, ap, subst, ◌∙◌, arith}
-use Rattle.std.proofs.lemmas.List.{length-replicate}
-use Rattle.std.proofs.Math.Nat.{one-le-pow}
+use Rattle.std.{proofs.lemmas.List.{length-replicate}, proofs.Math.Nat.{one-le-pow}}
 use mir.Val.{bits}
-use Rattle.zf_spec.specs.Planes.{planes_of}
-use Rattle.zf_spec.specs.HeldPlanes.{planes_held}
+use Rattle.zf_spec.{specs.Planes.{planes_of}, specs.HeldPlanes.{planes_held}}
 use Rattle.zf_coef.specs.HeldDigits.{digits_in, ranked_digits, unranked_values}
 use Rattle.zf_coef.proofs.FirstAlone.{unranked_first}
 use Rattle.zf_block.proofs.Digits.{planes_of-ranked, ranked-unranked}

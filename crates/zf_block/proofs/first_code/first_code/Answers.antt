@@ -1,7 +1,6 @@
 use Rattle.std.proofs.Common.{ℕ, ◌*◌, ◌%◌, ◌^◌, ◌+◌, ◌-◌, take, refl, sym, ap, subst, ◌∙◌, arith}
 use Rattle.zf_bits.specs.Reader.{Reader, rest, Reads}
-use Rattle.zf_block.specs.FirstAlone.{IsFirstCode}
-use Rattle.zf_block.proofs.FirstAlone.{whole_read, first_fits}
+use Rattle.zf_block.{specs.FirstAlone.{IsFirstCode}, proofs.FirstAlone.{whole_read, first_fits}}
 use Rattle.zf_block.proofs.first_code.first_code.Goals as goal
 
 pub overflow_add-result : goal.overflow_add-result

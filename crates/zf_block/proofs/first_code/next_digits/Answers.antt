@@ -1,5 +1,4 @@
-use Rattle.std.proofs.Common.{rules}
-use Rattle.std.proofs.Common.{◌%◌, arith}
+use Rattle.std.proofs.Common.{rules, ◌%◌, arith}
 use Rattle.zf_planes.proofs.Peeking.{peeked}
 use Rattle.zf_block.proofs.FirstAlone.{none_come, one_more, fits_more, have_come}
 use Rattle.zf_block.proofs.first_code.next_digits.Goals as goal

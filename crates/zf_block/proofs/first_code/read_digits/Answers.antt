@@ -1,7 +1,5 @@
-use Rattle.std.proofs.Common.{rules}
-use Rattle.std.proofs.Common.{◌≡◌, ℕ, ◌+◌, ◌-◌, ◌*◌, ◌^◌, subst, sym, arith}
-use Rattle.zf_block.specs.FirstAlone.{ReadsDigits}
-use Rattle.zf_block.proofs.FirstAlone.{joined, ReadsDigits-append}
+use Rattle.std.proofs.Common.{rules, ◌≡◌, ℕ, ◌+◌, ◌-◌, ◌*◌, ◌^◌, subst, sym, arith}
+use Rattle.zf_block.{specs.FirstAlone.{ReadsDigits}, proofs.FirstAlone.{joined, ReadsDigits-append}}
 use Rattle.zf_block.proofs.first_code.read_digits.Goals as goal
 
 pub overflow_add-result : goal.overflow_add-result

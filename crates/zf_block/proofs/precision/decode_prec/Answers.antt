@@ -1,6 +1,5 @@
 use Rattle.std.proofs.Common.{ℤ, List, sym, subst}
-use Rattle.zf_block.specs.ReadBlocks.{ReadsPrec}
-use Rattle.zf_block.proofs.Answered.{answer_none, answer_some}
+use Rattle.zf_block.{specs.ReadBlocks.{ReadsPrec}, proofs.Answered.{answer_none, answer_some}}
 use Rattle.zf_block.proofs.ReadCodes.{ReadsPrec-planes, LacksPrec-short}
 use Rattle.zf_block.proofs.precision.decode_prec.Goals as goal
 

@@ -1,11 +1,8 @@
 use Rattle.std.proofs.Common.{refl, min, take, ap, ◌∙◌}
-use Rattle.zf_spec.specs.Codes.{prec}
-use Rattle.zf_spec.specs.Lift.{lift}
-use Rattle.zf_spec.specs.Planes.{code}
+use Rattle.zf_spec.{specs.Codes.{prec}, specs.Lift.{lift}, specs.Planes.{code}}
 use Rattle.zf_bits.proofs.Appending.{Appends-same}
 use Rattle.zf_base.proofs.Extents.{length-used_axes}
-use Rattle.zf_block.specs.Block.{PartialBlock, planes_by}
-use Rattle.zf_block.proofs.AfterReserve.{after_reserve}
+use Rattle.zf_block.{specs.Block.{PartialBlock, planes_by}, proofs.AfterReserve.{after_reserve}}
 use Rattle.zf_block.proofs.precision.encode_prec.Goals as goal
 
 pub returns-clause-ok : goal.returns-clause-ok

@@ -1,11 +1,8 @@
 use Rattle.std.proofs.Common.{◌^◌, ℤ, List, sym, ap, subst, ◌∙◌, take}
-use Rattle.zf_spec.specs.Lift.{unlift}
-use Rattle.zf_spec.specs.Kept.{kept_planes}
-use Rattle.zf_spec.specs.ReadPlanes.{planes_in}
+use Rattle.zf_spec.{specs.Lift.{unlift}, specs.Kept.{kept_planes}, specs.ReadPlanes.{planes_in}}
 use Rattle.zf_spec.specs.Codes.{coefficients_of}
 use Rattle.zf_bits.specs.Reader.{rest}
-use Rattle.zf_block.specs.ReadBlocks.{ReadsRate}
-use Rattle.zf_block.proofs.Answered.{when_some}
+use Rattle.zf_block.{specs.ReadBlocks.{ReadsRate}, proofs.Answered.{when_some}}
 use Rattle.zf_block.proofs.ReadCodes.{ReadsRate-planes}
 use Rattle.zf_block.proofs.rate.decode_rate.Goals as goal
 

@@ -1,8 +1,5 @@
 use Rattle.std.proofs.Common.{refl, ap, ◌∙◌}
-use Rattle.zf_spec.specs.Codes.{rate}
-use Rattle.zf_spec.specs.Lift.{lift}
-use Rattle.zf_spec.specs.Planes.{code}
-use Rattle.zf_spec.specs.ReadPlanes.{first_bits}
+use Rattle.zf_spec.{specs.Codes.{rate}, specs.Lift.{lift}, specs.Planes.{code}, specs.ReadPlanes.{first_bits}}
 use Rattle.zf_bits.proofs.Appending.{Appends-same}
 use Rattle.zf_base.proofs.Extents.{length-used_axes}
 use Rattle.zf_block.specs.Block.{PartialBlock, planes_by}

@@ -1,6 +1,5 @@
 use Rattle.std.proofs.Common.{ℤ, List, sym, subst}
-use Rattle.zf_block.specs.ReadBlocks.{ReadsRev}
-use Rattle.zf_block.proofs.Answered.{answer_none, answer_some}
+use Rattle.zf_block.{specs.ReadBlocks.{ReadsRev}, proofs.Answered.{answer_none, answer_some}}
 use Rattle.zf_block.proofs.ReadCodes.{ReadsRev-planes, LacksRev-short}
 use Rattle.zf_block.proofs.reversible.decode_rev.Goals as goal
 

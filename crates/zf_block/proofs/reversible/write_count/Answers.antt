@@ -1,6 +1,5 @@
 use Rattle.std.proofs.Common.{rules}
-use Rattle.zf_spec.proofs.Reach.{needed_planes-le}
-use Rattle.zf_spec.proofs.PlaneDigits.{length-planes_of}
+use Rattle.zf_spec.{proofs.Reach.{needed_planes-le}, proofs.PlaneDigits.{length-planes_of}}
 use Rattle.zf_block.proofs.Widths.{width_bounds}
 use Rattle.zf_block.proofs.reversible.write_count.Goals as goal
 

@@ -1,11 +1,8 @@
-use Rattle.std.proofs.Common.{◌≤◌, map, length, take, arith}
-use Rattle.std.proofs.lemmas.List.{take_all, length-map}
+use Rattle.std.{proofs.Common.{◌≤◌, map, length, take, arith}, proofs.lemmas.List.{take_all, length-map}}
 use Rattle.std.proofs.Math.Nat.{mul-le-mul_right}
-use Rattle.zf_spec.specs.Planes.{code}
-use Rattle.zf_spec.specs.HeldPlanes.{planes_held}
+use Rattle.zf_spec.{specs.Planes.{code}, specs.HeldPlanes.{planes_held}}
 use Rattle.zf_bits.proofs.Appending.{Appends-same}
-use Rattle.zf_planes.proofs.Lengths.{length-code_words-le}
-use Rattle.zf_planes.proofs.Unpacking.{each_long}
+use Rattle.zf_planes.{proofs.Lengths.{length-code_words-le}, proofs.Unpacking.{each_long}}
 use Rattle.zf_block.proofs.uncut.write_uncut.Goals as goal
 
 pub returns : goal.returns

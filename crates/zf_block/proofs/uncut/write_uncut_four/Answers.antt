@@ -1,5 +1,4 @@
-use Rattle.std.proofs.Common.{◌≤◌, length, take, arith}
-use Rattle.std.proofs.lemmas.List.{take_all}
+use Rattle.std.{proofs.Common.{◌≤◌, length, take, arith}, proofs.lemmas.List.{take_all}}
 use Rattle.zf_spec.specs.Planes.{planes_of, code}
 use Rattle.zf_coef.specs.HeldDigits.{digits_in}
 use Rattle.zf_bits.proofs.Appending.{Appends-same}

@@ -1,6 +1,5 @@
 use Rattle.std.proofs.Common.{◌≡◌, ◌≤◌, ◌-◌, ◌*◌, length, get_or, refl, ap, arith}
-use Rattle.std.proofs.lemmas.Bool.{leb-true}
-use Rattle.std.specs.Int.{leading_zeros, w64}
+use Rattle.std.{proofs.lemmas.Bool.{leb-true}, specs.Int.{leading_zeros, w64}}
 use Rattle.zf_block.proofs.UpperPlanes.{top_has}
 use Rattle.zf_block.proofs.upper.reaches_upper.Goals as goal
 

@@ -1,9 +1,7 @@
 use Rattle.std.proofs.Common.{◌≡◌, ◌≤◌, ◌+◌, List, Bool, map, length, take, sym, ap, ◌∙◌, arith, length-take}
-use Rattle.zf_spec.specs.Planes.{code}
-use Rattle.zf_spec.specs.HeldPlanes.{planes_held}
+use Rattle.zf_spec.{specs.Planes.{code}, specs.HeldPlanes.{planes_held}}
 use Rattle.zf_bits.proofs.Appending.{Appends-same}
-use Rattle.zf_block.specs.Held.{top_code}
-use Rattle.zf_block.proofs.UpperPlanes.{writes_top}
+use Rattle.zf_block.{specs.Held.{top_code}, proofs.UpperPlanes.{writes_top}}
 use Rattle.zf_block.proofs.upper.write_upper.Goals as goal
 
 pub overflow_cast-count : goal.overflow_cast-count

@@ -1,11 +1,8 @@
-use Rattle.std.proofs.Common.{rules}
-use Rattle.std.proofs.Common.{◌≡◌, ℕ, ◌^◌, ◌≤◌, Bool, List, length, take, arith}
+use Rattle.std.{proofs.Common.{rules, ◌≡◌, ℕ, ◌^◌, ◌≤◌, Bool, List, length, take, arith}, specs.Int.{Width}}
 use Rattle.std.proofs.lemmas.List.{length-take-le}
-use Rattle.std.specs.Int.{Width}
 use mir.Val.{bits}
 use Rattle.zf_spec.specs.ReadPlanes.{planes_in}
-use Rattle.zf_block.specs.WholePlanes.{whole_from, rate_whole_from}
-use Rattle.zf_block.proofs.Sizes.{block_sizes}
+use Rattle.zf_block.{specs.WholePlanes.{whole_from, rate_whole_from}, proofs.Sizes.{block_sizes}}
 use Rattle.zf_block.proofs.whole.whole_planes.Goals as goal
 
 pub whole_planes_in-requires-clause-size : goal.whole_planes_in-requires-clause-size

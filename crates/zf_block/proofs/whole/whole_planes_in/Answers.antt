@@ -1,12 +1,8 @@
-use Rattle.std.proofs.Common.{◌≡◌, length, map, take, arith}
-use Rattle.std.proofs.lemmas.List.{length-map}
-use Rattle.zf_spec.specs.HeldPlanes.{planes_held}
-use Rattle.zf_spec.specs.ReadPlanes.{planes_in}
-use Rattle.zf_spec.proofs.Full.{length-planes_in, planes_in-length}
-use Rattle.zf_spec.proofs.HeldPlanes.{length-planes_held}
+use Rattle.std.{proofs.Common.{◌≡◌, length, map, take, arith}, proofs.lemmas.List.{length-map}}
+use Rattle.zf_spec.{specs.HeldPlanes.{planes_held}, specs.ReadPlanes.{planes_in}}
+use Rattle.zf_spec.{proofs.Full.{length-planes_in, planes_in-length}, proofs.HeldPlanes.{length-planes_held}}
 use Rattle.zf_bits.specs.Reader.{rest}
-use Rattle.zf_block.proofs.Answered.{when_some}
-use Rattle.zf_block.proofs.WholePlanes.{whole_from-held}
+use Rattle.zf_block.{proofs.Answered.{when_some}, proofs.WholePlanes.{whole_from-held}}
 use Rattle.zf_block.proofs.whole.whole_planes_in.Goals as goal
 
 pub returns-clause-plane : goal.returns-clause-plane

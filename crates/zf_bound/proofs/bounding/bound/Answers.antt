@@ -2,10 +2,8 @@ use Rattle.std.proofs.Common.{◌≡◌, ap, subst, ◌∙◌, length, arith, ru
 use mir.Val.{bits}
 use Rattle.zf_spec.specs.Stream.{to_bits}
 use Rattle.zf_base.specs.Widths.{width_of}
-use Rattle.zf_index.proofs.Read.{is_header}
-use Rattle.zf_index.specs.Spans.{codes_in}
-use Rattle.zf_bound.specs.Errors.{IsSmallEnough}
-use Rattle.zf_bound.specs.Bounds.{plane_of, error_of}
+use Rattle.zf_index.{proofs.Read.{is_header}, specs.Spans.{codes_in}}
+use Rattle.zf_bound.{specs.Errors.{IsSmallEnough}, specs.Bounds.{plane_of, error_of}}
 use Rattle.zf_bound.proofs.Indexed.{are_inside, is_said, bound_holds}
 use Rattle.zf_bound.proofs.bounding.bound.Goals as goal
 

@@ -1,9 +1,7 @@
 use Rattle.std.proofs.Common.{◌≡◌, ap, ◌∙◌, ◌-◌, ◌*◌, ◌%◌, take, drop, arith, rules}
-use Rattle.zf_spec.specs.Stream.{to_bits}
-use Rattle.zf_spec.proofs.Bytes.{length-to_bits}
+use Rattle.zf_spec.{specs.Stream.{to_bits}, proofs.Bytes.{length-to_bits}}
 use Rattle.zf_bits.specs.Reader.{rest}
-use Rattle.zf_bound.proofs.Cuts.{code_enough, code_is}
-use Rattle.zf_bound.proofs.Streams.{rate_whole_from-le}
+use Rattle.zf_bound.{proofs.Cuts.{code_enough, code_is}, proofs.Streams.{rate_whole_from-le}}
 use Rattle.zf_bound.proofs.planes.code_plane.Goals as goal
 
 pub whole_planes-requires-clause-enough : goal.whole_planes-requires-clause-enough

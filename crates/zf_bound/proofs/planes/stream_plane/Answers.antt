@@ -3,8 +3,8 @@ use Rattle.zf_spec.specs.Stream.{to_bits}
 use Rattle.zf_block.specs.WholePlanes.{rate_whole_from}
 use Rattle.zf_index.specs.Spans.{code_in}
 use Rattle.zf_bound.proofs.Cuts.{plane_of-more}
-use Rattle.zf_bound.proofs.planes.stream_plane.Goals as goal
 use Rattle.zf_bound.proofs.planes.stream_plane.Goals.{then-plane-own, else-plane-own}
+use Rattle.zf_bound.proofs.planes.stream_plane.Goals as goal
 
 pub loop-b-preserved : goal.loop-b-preserved
 loop-b-preserved g c =

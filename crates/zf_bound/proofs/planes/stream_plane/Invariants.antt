@@ -1,6 +1,5 @@
 use Rattle.std.proofs.Common.{◌≡◌, ◌≤◌, map, length}
-use Rattle.zf_spec.specs.Grid.{upto}
-use Rattle.zf_spec.specs.Stream.{to_bits}
+use Rattle.zf_spec.{specs.Grid.{upto}, specs.Stream.{to_bits}}
 use Rattle.zf_index.specs.Spans.{code_in}
 use Rattle.zf_bound.specs.Bounds.{plane_of}
 use Rattle.zf_bound.proofs.planes.stream_plane.Given as goal

@@ -1,5 +1,4 @@
-use Rattle.std.proofs.Common.{sym, nat_le}
-use Rattle.std.proofs.lemmas.Bool.{le-leb, lt-leb}
+use Rattle.std.{proofs.Common.{sym, nat_le}, proofs.lemmas.Bool.{le-leb, lt-leb}}
 use Rattle.zf_cached.specs.Changes.{raised}
 use Rattle.zf_cache.proofs.Doubled.{passes, ends, tried_more}
 use Rattle.zf_cache.proofs.counts.raised.Goals as goal

@@ -1,8 +1,5 @@
-use Rattle.std.specs.Prelude.{if◌then◌else◌}
-use Rattle.std.proofs.Common.{◌≡◌, Bool, sym, ap}
-use Rattle.zf_cached.specs.State.{own_line, is_here}
-use Rattle.zf_cached.specs.Placing.{direct}
-use Rattle.zf_cached.specs.Touch.{hit, miss, touch}
+use Rattle.std.{specs.Prelude.{if◌then◌else◌}, proofs.Common.{◌≡◌, Bool, sym, ap}}
+use Rattle.zf_cached.{specs.State.{own_line, is_here}, specs.Placing.{direct}, specs.Touch.{hit, miss, touch}}
 use Rattle.zf_cached.proofs.Caching.{touch_by, touch-hit, touch-is_here}
 use Rattle.zf_cached.proofs.laws_of_touches.direct_touches.Goals as goal
 

@@ -1,6 +1,5 @@
-use Rattle.zf_cached.specs.Touch.{touch_at}
+use Rattle.zf_cached.{specs.Touch.{touch_at}, proofs.Placed.{touched_here}}
 use Rattle.zf_cached.proofs.Caching.{touch-here, touch-left, touch-hit, touch_for_writing-dirty, is_block-some}
-use Rattle.zf_cached.proofs.Placed.{touched_here}
 use Rattle.zf_cached.proofs.laws_of_touches.touched_blocks.Goals as goal
 
 pub returns : goal.returns

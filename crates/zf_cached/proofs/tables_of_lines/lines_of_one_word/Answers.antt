@@ -1,5 +1,4 @@
-use Rattle.std.proofs.Common.{refl}
-use Rattle.std.specs.Fmt.{digits}
+use Rattle.std.{proofs.Common.{refl}, specs.Fmt.{digits}}
 use Rattle.zf_cached.specs.Grammar.{candidates, read_line}
 use Rattle.zf_cached.proofs.tables_of_lines.lines_of_one_word.Goals as goal
 

@@ -1,5 +1,4 @@
-use Rattle.std.proofs.Common.{refl}
-use Rattle.std.specs.Fmt.{digits}
+use Rattle.std.{proofs.Common.{refl}, specs.Fmt.{digits}}
 use Rattle.zf_cached.proofs.tables_of_lines.texts_of_replies.Goals as goal
 
 pub returns : goal.returns

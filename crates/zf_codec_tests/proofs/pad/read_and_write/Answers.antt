@@ -1,7 +1,6 @@
 use Rattle.std.proofs.Common.{◌≡◌, ℕ, ◌≤◌, ◌^◌, length, sym, subst, arith}
 use Rattle.zf_base.specs.Positions.{IsExtent}
-use Rattle.zf_pad.specs.Rasters.{IsRasterBlock}
-use Rattle.zf_pad.proofs.Blocks.{lies_within, one_to_one}
+use Rattle.zf_pad.{specs.Rasters.{IsRasterBlock}, proofs.Blocks.{lies_within, one_to_one}}
 use Rattle.zf_codec_tests.proofs.pad.read_and_write.Goals as goal
 
 pub scatter-requires : goal.scatter-requires

@@ -1,5 +1,4 @@
-use Rattle.std.proofs.Common.{rules}
-use Rattle.std.proofs.lemmas.List.{length-map}
+use Rattle.std.{proofs.Common.{rules}, proofs.lemmas.List.{length-map}}
 use Rattle.zf_coef.proofs.Prefixes.{each_long}
 use Rattle.zf_coef.proofs.Transposed.{group_written, digits_of_groups, below_planes}
 use Rattle.zf_coef.proofs.digits.digits_of_planes.Goals as goal

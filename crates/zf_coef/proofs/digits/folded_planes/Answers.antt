@@ -1,7 +1,5 @@
-use Rattle.std.proofs.Common.{replicate, map, arith}
-use Rattle.std.proofs.lemmas.List.{length-map}
-use Rattle.zf_coef.proofs.Halves.{no_word}
-use Rattle.zf_coef.proofs.Folded.{no_eights, more_eights, past_eights, all_eights}
+use Rattle.std.{proofs.Common.{replicate, map, arith}, proofs.lemmas.List.{length-map}}
+use Rattle.zf_coef.{proofs.Halves.{no_word}, proofs.Folded.{no_eights, more_eights, past_eights, all_eights}}
 use Rattle.zf_coef.proofs.digits.folded_planes.Goals.{then-first-planes, else-first-planes}
 use Rattle.zf_coef.proofs.digits.folded_planes.Goals as goal
 

@@ -1,5 +1,4 @@
-use Rattle.std.proofs.Common.{rules}
-use Rattle.std.proofs.Common.{◌≡◌, ℕ, ◌+◌, ◌<◌, ◌≤◌, get_or, length-set, get_or-set_same, get_or-set_other, ⊎_elim, arith}
+use Rattle.std.proofs.Common.{rules, ◌≡◌, ℕ, ◌+◌, ◌<◌, ◌≤◌, get_or, length-set, get_or-set_same, get_or-set_other, ⊎_elim, arith}
 use Rattle.std.proofs.lemmas.Bool.{cases_lt}
 use Rattle.zf_coef.proofs.ShiftedBits.{low_half_moved, high_half_moved}
 use Rattle.zf_coef.proofs.digits.join_from.Goals as goal

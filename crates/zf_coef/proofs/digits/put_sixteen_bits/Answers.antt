@@ -1,7 +1,5 @@
-use Rattle.std.proofs.Common.{get_or, length-set, arith}
-use Rattle.std.proofs.lemmas.Nat.{and_mask}
+use Rattle.std.{proofs.Common.{get_or, length-set, arith, rules}, proofs.lemmas.Nat.{and_mask}}
 use Rattle.zf_coef.proofs.Prefixes.{prefix_set, rest_set}
-use Rattle.std.proofs.Common.{rules}
 use Rattle.zf_coef.proofs.digits.put_sixteen_bits.Goals as goal
 
 pub loop-j-preserved : goal.loop-j-preserved

@@ -1,7 +1,5 @@
-use Rattle.std.proofs.Common.{replicate, map, arith}
-use Rattle.std.proofs.lemmas.List.{length-map}
-use Rattle.zf_coef.proofs.Halves.{no_word}
-use Rattle.zf_coef.proofs.Folded.{fold_past, digits_of_folds}
+use Rattle.std.{proofs.Common.{replicate, map, arith}, proofs.lemmas.List.{length-map}}
+use Rattle.zf_coef.{proofs.Halves.{no_word}, proofs.Folded.{fold_past, digits_of_folds}}
 use Rattle.zf_coef.proofs.digits.take_16.Goals as goal
 
 pub returns-in-32 : goal.returns-in-32

@@ -1,5 +1,4 @@
-use Rattle.std.proofs.Common.{replicate, map, arith}
-use Rattle.std.proofs.lemmas.List.{length-map}
+use Rattle.std.{proofs.Common.{replicate, map, arith}, proofs.lemmas.List.{length-map}}
 use Rattle.zf_coef.proofs.Halves.{no_word, half_past, digits_of_halves}
 use Rattle.zf_coef.proofs.digits.take_64_of.Goals as goal
 

@@ -1,7 +1,5 @@
-use Rattle.std.proofs.Common.{◌≡◌, ◌<◌, ◌≤◌, ⊎_elim, arith}
-use Rattle.std.proofs.lemmas.Bool.{cases_lt}
+use Rattle.std.{proofs.Common.{◌≡◌, ◌<◌, ◌≤◌, ⊎_elim, arith, rules}, proofs.lemmas.Bool.{cases_lt}}
 use Rattle.std.proofs.lemmas.List.{get_or-map}
-use Rattle.std.proofs.Common.{rules}
 use Rattle.zf_coef.proofs.digits.zeros_below.Goals as goal
 
 pub loop-k-preserved : goal.loop-k-preserved

@@ -1,13 +1,9 @@
-use Rattle.std.proofs.Common.{rules}
-use Rattle.std.proofs.Common.{◌≡◌, ℕ, ◌-◌, List, ◌∷◌, map, length, replicate, set, sym, subst, arith}
+use Rattle.std.proofs.Common.{rules, ◌≡◌, ℕ, ◌-◌, List, ◌∷◌, map, length, replicate, set, sym, subst, arith}
 use Rattle.std.proofs.lemmas.List.{length-map, map-set, length-replicate}
-use Rattle.zf_spec.specs.Planes.{planes_of}
-use Rattle.zf_spec.specs.HeldPlanes.{planes_held}
-use Rattle.zf_coef.specs.HeldDigits.{digits_in}
-use Rattle.zf_coef.proofs.Prefixes.{each_long}
-use Rattle.zf_coef.proofs.Transposed.{planes_of_groups}
+use Rattle.zf_spec.{specs.Planes.{planes_of}, specs.HeldPlanes.{planes_held}}
+use Rattle.zf_coef.{specs.HeldDigits.{digits_in}, proofs.Prefixes.{each_long}}
+use Rattle.zf_coef.{proofs.Transposed.{planes_of_groups}, proofs.first.planes_of_first.Given.{Over}}
 use Rattle.zf_coef.proofs.FirstAlone.{HoldsFirst, first_none, first_more, groups_of_first, set_first}
-use Rattle.zf_coef.proofs.first.planes_of_first.Given.{Over}
 use Rattle.zf_coef.proofs.first.planes_of_first.Goals as goal
 
 pub loop-k-init : goal.loop-k-init

@@ -1,5 +1,4 @@
-use Rattle.std.proofs.Common.{subst, arith}
-use Rattle.std.proofs.lemmas.List.{take_more, take_all}
+use Rattle.std.{proofs.Common.{subst, arith}, proofs.lemmas.List.{take_more, take_all}}
 use Rattle.zf_coef.proofs.AnyDigits.{IsAny, any_none, any_more}
 use Rattle.zf_coef.proofs.needed.any_digits.Goals as goal
 

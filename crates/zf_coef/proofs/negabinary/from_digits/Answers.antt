@@ -1,7 +1,5 @@
-use Rattle.std.proofs.Common.{rules}
-use Rattle.std.proofs.Common.{◌∙◌}
-use Rattle.zf_spec.proofs.Fields.{length-field}
-use Rattle.zf_spec.proofs.Negabinary.{digits-value_of}
+use Rattle.std.proofs.Common.{rules, ◌∙◌}
+use Rattle.zf_spec.{proofs.Fields.{length-field}, proofs.Negabinary.{digits-value_of}}
 use Rattle.zf_coef.proofs.Mask.{wrap-unmasked}
 use Rattle.zf_coef.proofs.negabinary.from_digits.Goals as goal
 

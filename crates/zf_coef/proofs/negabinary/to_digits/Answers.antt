@@ -1,9 +1,7 @@
-use Rattle.std.proofs.Common.{◌+◌, ◌%◌, ◌^◌, ℕ, ap, ◌∙◌}
-use Rattle.std.specs.Int.Bits.{bit_xor}
+use Rattle.std.{proofs.Common.{◌+◌, ◌%◌, ◌^◌, ℕ, ap, ◌∙◌}, specs.Int.Bits.{bit_xor}}
 use Rattle.std.specs.Int.{cast_unsigned}
 use mir.Val.{bits}
-use Rattle.zf_spec.specs.Numbers.{field}
-use Rattle.zf_spec.proofs.Negabinary.{value_of-digits}
+use Rattle.zf_spec.{specs.Numbers.{field}, proofs.Negabinary.{value_of-digits}}
 use Rattle.zf_coef.proofs.Mask.{field-masked, field-word}
 use Rattle.zf_coef.proofs.negabinary.to_digits.Goals as goal
 

@@ -1,5 +1,4 @@
-use Rattle.std.proofs.Common.{◌/◌, ◌^◌, arith}
-use Rattle.std.proofs.lemmas.Bool.{eqb-true}
+use Rattle.std.{proofs.Common.{◌/◌, ◌^◌, arith}, proofs.lemmas.Bool.{eqb-true}}
 use Rattle.zf_coef.proofs.AnyDigits.{none_from}
 use Rattle.zf_coef.proofs.planes.are_low.Goals as goal
 

@@ -1,10 +1,7 @@
-use Rattle.std.proofs.Common.{◌≡◌, ℕ, ◌+◌, ◌*◌, ◌/◌, ◌%◌, ◌^◌, ◌<◌, ◌≤◌, get_or, length-set, ◌∙◌, ⊎_elim, arith}
-use Rattle.std.proofs.lemmas.Bool.{cases_lt}
-use Rattle.std.specs.Int.{bit_at}
-use Rattle.zf_coef.specs.Turned.{bit_of}
-use Rattle.zf_coef.proofs.Prefixes.{prefix_tells}
+use Rattle.std.proofs.Common.{◌≡◌, ℕ, ◌+◌, ◌*◌, ◌/◌, ◌%◌, ◌^◌, ◌<◌, ◌≤◌, get_or, length-set, ◌∙◌, ⊎_elim, arith, rules}
+use Rattle.std.{proofs.lemmas.Bool.{cases_lt}, specs.Int.{bit_at}}
+use Rattle.zf_coef.{specs.Turned.{bit_of}, proofs.Prefixes.{prefix_tells}}
 use Rattle.zf_coef.proofs.ShiftedBits.{bit_at-shr, low_half, high_half}
-use Rattle.std.proofs.Common.{rules}
 use Rattle.zf_coef.proofs.planes.fold.Goals as goal
 
 pub loop-r-preserved : goal.loop-r-preserved

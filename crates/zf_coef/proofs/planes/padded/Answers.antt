@@ -1,7 +1,5 @@
-use Rattle.std.proofs.Common.{rules}
-use Rattle.std.proofs.Common.{refl, length-set, replicate, ⊎_elim, arith}
-use Rattle.std.proofs.lemmas.Bool.{cases_lt}
-use Rattle.std.proofs.lemmas.List.{get_or_past, get_or-replicate}
+use Rattle.std.proofs.Common.{rules, refl, length-set, replicate, ⊎_elim, arith}
+use Rattle.std.{proofs.lemmas.Bool.{cases_lt}, proofs.lemmas.List.{get_or_past, get_or-replicate}}
 use Rattle.zf_coef.proofs.Prefixes.{prefix_set, rest_set}
 use Rattle.zf_coef.proofs.planes.padded.Goals as goal
 

@@ -1,5 +1,4 @@
-use Rattle.std.proofs.Common.{rules}
-use Rattle.std.proofs.lemmas.List.{length-map}
+use Rattle.std.{proofs.Common.{rules}, proofs.lemmas.List.{length-map}}
 use Rattle.zf_coef.proofs.Prefixes.{each_long}
 use Rattle.zf_coef.proofs.Transposed.{behind_more, groups_more, planes_of_groups, clear_of_groups}
 use Rattle.zf_coef.proofs.planes.planes_of_digits.Goals as goal

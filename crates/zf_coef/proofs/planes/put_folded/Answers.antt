@@ -1,6 +1,4 @@
-use Rattle.std.proofs.Common.{rules}
-use Rattle.std.proofs.Common.{map, arith}
-use Rattle.std.proofs.lemmas.List.{length-map}
+use Rattle.std.{proofs.Common.{rules, map, arith}, proofs.lemmas.List.{length-map}}
 use Rattle.zf_coef.proofs.Putting.{none_changed, both_kept}
 use Rattle.zf_coef.proofs.Folded.{none_folded, more_folded, no_more_folded, all_folded}
 use Rattle.zf_coef.proofs.planes.put_folded.Goals.{then-first-planes, else-first-planes}

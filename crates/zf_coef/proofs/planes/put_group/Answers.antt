@@ -1,5 +1,4 @@
-use Rattle.std.proofs.Common.{rules}
-use Rattle.std.proofs.lemmas.List.{length-map}
+use Rattle.std.{proofs.Common.{rules}, proofs.lemmas.List.{length-map}}
 use Rattle.zf_coef.proofs.Halves.{group_of_same, group_of_none}
 use Rattle.zf_coef.proofs.planes.put_group.Goals as goal
 

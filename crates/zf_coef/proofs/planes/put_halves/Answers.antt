@@ -1,6 +1,4 @@
-use Rattle.std.proofs.Common.{rules}
-use Rattle.std.proofs.Common.{map, arith}
-use Rattle.std.proofs.lemmas.List.{length-map}
+use Rattle.std.{proofs.Common.{rules, map, arith}, proofs.lemmas.List.{length-map}}
 use Rattle.zf_coef.proofs.Halves.{group_of_halves, half_of_none, planes_of_first}
 use Rattle.zf_coef.proofs.planes.put_halves.Goals as goal
 

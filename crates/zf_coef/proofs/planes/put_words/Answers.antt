@@ -1,6 +1,4 @@
-use Rattle.std.proofs.Common.{rules}
-use Rattle.std.proofs.Common.{arith}
-use Rattle.std.proofs.lemmas.List.{length-map, get_or-map, map-set}
+use Rattle.std.{proofs.Common.{rules, arith}, proofs.lemmas.List.{length-map, get_or-map, map-set}}
 use Rattle.zf_coef.proofs.Putting.{with_word, none_put, none_changed, more_put, more_kept}
 use Rattle.zf_coef.proofs.planes.put_words.Goals as goal
 

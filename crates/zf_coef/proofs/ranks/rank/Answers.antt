@@ -1,10 +1,8 @@
 use Rattle.std.proofs.Common.{◌≡◌, ◌^◌, ◌<◌, [], map, length, get_or, pos, sym, ap, ◌∙◌, arith, rules}
-use Rattle.std.proofs.lemmas.List.{get_or-map}
-use Rattle.std.proofs.lemmas.List.Elements.{AllWithin-more_set}
+use Rattle.std.{proofs.lemmas.List.{get_or-map}, proofs.lemmas.List.Elements.{AllWithin-more_set}}
 use mir.Val.{bits}
 use Rattle.zf_spec.specs.Numbers.{digits}
-use Rattle.zf_coef.specs.HeldDigits.{ranked_digits}
-use Rattle.zf_coef.proofs.Filling.{fill_more}
+use Rattle.zf_coef.{specs.HeldDigits.{ranked_digits}, proofs.Filling.{fill_more}}
 use Rattle.zf_coef.proofs.ByRank.{length-ranked_digits, get_or-ranked_digits}
 use Rattle.zf_coef.proofs.ranks.rank.Goals as goal
 

@@ -1,5 +1,4 @@
-use Rattle.std.proofs.Common.{◌≡◌, ◌*◌, ◌^◌, ◌<◌, map, take}
-use Rattle.std.specs.List.{AllWithin}
+use Rattle.std.{proofs.Common.{◌≡◌, ◌*◌, ◌^◌, ◌<◌, map, take}, specs.List.{AllWithin}}
 use mir.Val.{bits}
 use Rattle.zf_coef.specs.HeldDigits.{digits_in, ranked_digits}
 use Rattle.zf_coef.proofs.ranks.rank_sixteens.Given as goal

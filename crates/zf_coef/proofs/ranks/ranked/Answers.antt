@@ -1,12 +1,8 @@
-use Rattle.std.proofs.Common.{◌≡◌, ◌^◌, length, sym, ◌∙◌}
+use Rattle.std.{proofs.Common.{◌≡◌, ◌^◌, length, sym, ◌∙◌, rules, refl, ℕ, ℤ, List, take}, specs.Int.{Width}}
 use mir.Val.{bits}
 use Rattle.zf_spec.specs.Numbers.{field}
-use Rattle.zf_coef.specs.HeldDigits.{ranked_digits}
-use Rattle.zf_coef.proofs.Filling.{fill_all}
+use Rattle.zf_coef.{specs.HeldDigits.{ranked_digits, digits_in}, proofs.Filling.{fill_all}}
 use Rattle.zf_coef.proofs.ByRank.{length-ranked_digits}
-use Rattle.zf_coef.specs.HeldDigits.{digits_in}
-use Rattle.std.specs.Int.{Width}
-use Rattle.std.proofs.Common.{rules, refl, ℕ, ℤ, List, take}
 use Rattle.zf_coef.proofs.ranks.ranked.Goals as goal
 
 whole : (w : Width) (d n : ℕ) (values : List ℤ) (new : List ℕ) → n ≡ 4 ^ d → length new ≡ n

@@ -2,8 +2,7 @@ use Rattle.std.proofs.Common.{◌≡◌, [], map, get_or, pos, arith}
 use Rattle.std.proofs.lemmas.List.{get_or-map, length-map, map-set}
 use mir.Val.{bits}
 use Rattle.zf_spec.specs.Numbers.{field, value_of}
-use Rattle.zf_coef.specs.HeldDigits.{digits_in}
-use Rattle.zf_coef.proofs.ByRank.{ranks_more}
+use Rattle.zf_coef.{specs.HeldDigits.{digits_in}, proofs.ByRank.{ranks_more}}
 use Rattle.zf_coef.proofs.ranks.unrank.Goals as goal
 
 pub loop-rank-preserved : goal.loop-rank-preserved

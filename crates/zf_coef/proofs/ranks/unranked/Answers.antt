@@ -1,6 +1,4 @@
-use Rattle.std.proofs.Common.{rules}
-use Rattle.std.proofs.Common.{◌≡◌, ◌^◌, map, sym, ap, arith}
-use Rattle.std.proofs.lemmas.List.{length-map}
+use Rattle.std.{proofs.Common.{rules, ◌≡◌, ◌^◌, map, sym, ap, arith}, proofs.lemmas.List.{length-map}}
 use Rattle.zf_coef.proofs.ByRank.{ranks_all}
 use Rattle.zf_coef.proofs.ranks.unranked.Goals as goal
 

@@ -1,7 +1,5 @@
-use Rattle.std.proofs.Common.{rules}
-use Rattle.std.proofs.Common.{length-set, arith}
-use Rattle.zf_coef.proofs.Prefixes.{prefix_tells, rest_set}
-use Rattle.zf_coef.proofs.Turns.{crossed_word}
+use Rattle.std.proofs.Common.{rules, length-set, arith}
+use Rattle.zf_coef.{proofs.Prefixes.{prefix_tells, rest_set}, proofs.Turns.{crossed_word}}
 use Rattle.zf_coef.proofs.turning.cross.Goals as goal
 
 pub loop-j-preserved : goal.loop-j-preserved

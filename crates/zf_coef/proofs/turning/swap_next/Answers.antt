@@ -1,7 +1,7 @@
 use Rattle.std.proofs.Common.{◌≡◌, ap, ◌∙◌, ◌+◌, ◌<◌, ◌++◌, ℕ, length, get_or, arith}
-use lib.Lanes.{chunk}
 use Rattle.std.proofs.lemmas.List.{get_or_append_left, get_or-append_right}
 use Rattle.std.proofs.lemmas.Simd.{length-chunk, get_or-chunk}
+use lib.Lanes.{chunk}
 use Rattle.zf_coef.proofs.Lanes.{pairs_swapped}
 use Rattle.zf_coef.proofs.turning.swap_next.Goals as goal
 

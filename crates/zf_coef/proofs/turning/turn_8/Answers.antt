@@ -1,6 +1,5 @@
-use Rattle.std.proofs.Common.{refl, inl, inr, arith}
+use Rattle.std.proofs.Common.{refl, inl, inr, arith, rules}
 use Rattle.zf_coef.proofs.Turns.{mask_from, none_turned, more_turned, all_turned}
-use Rattle.std.proofs.Common.{rules}
 use Rattle.zf_coef.proofs.turning.turn_8.Goals as goal
 
 pub step-requires : goal.step-requires

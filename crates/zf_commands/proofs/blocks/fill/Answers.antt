@@ -1,8 +1,6 @@
-use Rattle.std.proofs.Common.{◌≡◌, ◌∙◌, refl, sym, ap, subst, not, true, false}
-use Rattle.std.specs.Int.{Width, w128}
+use Rattle.std.{proofs.Common.{◌≡◌, ◌∙◌, refl, sym, ap, subst, not, true, false}, specs.Int.{Width, w128}}
 use Rattle.std.proofs.lemmas.Int.{to_z-of_z}
-use Rattle.zf_cached.specs.Commands.{Command}
-use Rattle.zf_cached.specs.Steps.{is_of_type}
+use Rattle.zf_cached.{specs.Commands.{Command}, specs.Steps.{is_of_type}}
 use Rattle.zf_commands.proofs.Commanding.{no_value, filled}
 use Rattle.zf_commands.proofs.blocks.fill.Goals as goal
 

@@ -1,8 +1,7 @@
 use Rattle.std.proofs.Common.{◌≡◌, ◌∙◌, refl, sym, ap, subst, ◌-◌, ◌<◌, arith}
 use Rattle.zf_spec.specs.Grid.{blocks, count_from}
 use Rattle.zf_cached.specs.Steps.{Session, filled_below}
-use Rattle.zf_commands.specs.Steps.{Fills}
-use Rattle.zf_commands.proofs.Passing.{fill_next, stays_filled, filled_all}
+use Rattle.zf_commands.{specs.Steps.{Fills}, proofs.Passing.{fill_next, stays_filled, filled_all}}
 use Rattle.zf_commands.proofs.blocks.fill_blocks.Goals as goal
 
 pub loop-b-init : goal.loop-b-init

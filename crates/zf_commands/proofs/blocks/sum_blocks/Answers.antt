@@ -1,10 +1,8 @@
 use Rattle.std.proofs.Common.{◌≡◌, ◌∙◌, refl, sym, ap, subst, ◌+◌, ◌-◌, ◌*◌, ◌^◌, ◌<◌, ◌≤◌, pos, to_z, arith}
-use Rattle.std.specs.Int.{w128}
-use Rattle.std.proofs.lemmas.Int.{ints}
-use Rattle.zf_spec.specs.Grid.{blocks, count_from}
+use Rattle.std.{specs.Int.{w128}, proofs.lemmas.Int.{ints}}
+use Rattle.zf_spec.{specs.Grid.{blocks, count_from}, proofs.Counting.{count_from-below}}
 use Rattle.zf_cached.specs.Steps.{Session, total}
 use Rattle.zf_window.specs.Bounds.{IsUpTo}
-use Rattle.zf_spec.proofs.Counting.{count_from-below}
 use Rattle.zf_commands.proofs.Passing.{stays_touched, touched_on, sum_from, sum_on, sum_starts, sum_ends, summed_fits, summed_is, up_to_more, up_to_less}
 use Rattle.zf_commands.proofs.blocks.sum_blocks.Goals as goal
 

@@ -2,8 +2,7 @@ use Rattle.std.proofs.Common.{◌≡◌, ◌-◌, ◌*◌, ◌^◌}
 use Rattle.zf_spec.specs.Grid.{upto, count_from, blocks}
 use Rattle.zf_cached.specs.Steps.{summed, total}
 use Rattle.zf_window.specs.Bounds.{IsUpTo}
-use Rattle.zf_commands.specs.Sittings.{OnState}
-use Rattle.zf_commands.proofs.Passing.{sum_from}
+use Rattle.zf_commands.{specs.Sittings.{OnState}, proofs.Passing.{sum_from}}
 use Rattle.zf_commands.proofs.blocks.sum_blocks.Given as goal
 
 abbrev pub invariant-loop-b : goal.invariant-loop-b

@@ -1,6 +1,5 @@
 use Rattle.std.proofs.Common.{◌≡◌, ◌∙◌, sym, ap, subst, ◌+◌, ◌*◌, ◌^◌, ◌+ℤ◌, map, length, to_z, arith}
-use Rattle.std.specs.Int.{w128}
-use Rattle.std.proofs.lemmas.List.{length-map}
+use Rattle.std.{specs.Int.{w128}, proofs.lemmas.List.{length-map}}
 use Rattle.zf_spec.specs.Grid.{upto}
 use Rattle.zf_cached.specs.Steps.{total}
 use Rattle.zf_window.specs.Bounds.{IsUpTo}

@@ -1,6 +1,5 @@
 use Rattle.std.proofs.Common.{refl, sym, ap, not, subst, Some}
-use Rattle.zf_cached.specs.Commands.{Command}
-use Rattle.zf_cached.specs.Replies.{Refusal, Reply}
+use Rattle.zf_cached.{specs.Commands.{Command}, specs.Replies.{Refusal, Reply}}
 use Rattle.zf_commands.specs.Calls.{Obeys}
 use Rattle.zf_commands.proofs.Commanding.{line_count, no_line_count, no_size, no_memory, lined}
 use Rattle.zf_commands.proofs.changes.lines.Goals as goal

@@ -1,5 +1,4 @@
-use Rattle.zf_commands.proofs.Commanding.{vsum_is}
-use Rattle.zf_commands.proofs.Passing.{small_is}
+use Rattle.zf_commands.{proofs.Commanding.{vsum_is}, proofs.Passing.{small_is}}
 use Rattle.zf_commands.proofs.commands.look_through.Goals as goal
 
 pub returns-in-Sum : goal.returns-in-Sum

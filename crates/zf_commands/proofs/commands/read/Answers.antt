@@ -1,5 +1,4 @@
-use Rattle.zf_commands.proofs.Commanding.{sum_is, counted}
-use Rattle.zf_commands.proofs.Passing.{small_is}
+use Rattle.zf_commands.{proofs.Commanding.{sum_is, counted}, proofs.Passing.{small_is}}
 use Rattle.zf_commands.proofs.commands.read.Goals as goal
 
 pub returns-in-Sum : goal.returns-in-Sum

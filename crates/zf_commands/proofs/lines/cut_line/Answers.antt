@@ -1,5 +1,4 @@
-use Rattle.std.proofs.Common.{◌+◌, arith}
-use Rattle.std.proofs.lemmas.List.{take_rest}
+use Rattle.std.{proofs.Common.{◌+◌, arith}, proofs.lemmas.List.{take_rest}}
 use Rattle.zf_commands.proofs.Cutting.{one_line, line_and_rest}
 use Rattle.zf_commands.proofs.lines.cut_line.Goals as goal
 

@@ -1,7 +1,6 @@
 use Rattle.std.proofs.Common.{◌≡◌, ◌+◌, ◌≤◌, length}
 use Rattle.zf_cached.specs.Runs.{lines_of}
-use Rattle.zf_commands.specs.Calls.{StaysReady}
-use Rattle.zf_commands.proofs.Folding.{HasRun}
+use Rattle.zf_commands.{specs.Calls.{StaysReady}, proofs.Folding.{HasRun}}
 use Rattle.zf_commands.proofs.lines.run_lines.Given as goal
 
 abbrev pub invariant-loop-line : goal.invariant-loop-line

@@ -1,12 +1,8 @@
-use Rattle.std.proofs.Common.{◌≡◌, ◌∙◌, refl, sym, ap, subst, not, true, false}
-use Rattle.std.specs.Int.{Width, w128}
-use Rattle.std.proofs.lemmas.Bool.{false≢true}
-use Rattle.std.proofs.lemmas.Int.{to_z-of_z}
+use Rattle.std.{proofs.Common.{◌≡◌, ◌∙◌, refl, sym, ap, subst, not, true, false}, specs.Int.{Width, w128}}
+use Rattle.std.{proofs.lemmas.Bool.{false≢true}, proofs.lemmas.Int.{to_z-of_z}}
 use Rattle.zf_base.specs.Positions.{IsPosition}
-use Rattle.zf_cached.specs.Commands.{Command}
-use Rattle.zf_cached.specs.Steps.{is_of_type}
-use Rattle.zf_commands.specs.Sittings.{place_in}
-use Rattle.zf_commands.proofs.Commanding.{outside, no_range, no_value, added}
+use Rattle.zf_cached.{specs.Commands.{Command}, specs.Steps.{is_of_type}}
+use Rattle.zf_commands.{specs.Sittings.{place_in}, proofs.Commanding.{outside, no_range, no_value, added}}
 use Rattle.zf_commands.proofs.values.add.Goals as goal
 
 pub returns-then-not-contains : goal.returns-then-not-contains

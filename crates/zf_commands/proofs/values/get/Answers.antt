@@ -1,9 +1,7 @@
-use Rattle.std.proofs.Common.{◌∙◌, refl, sym, subst, ◌^◌, arith}
-use Rattle.std.proofs.lemmas.Bool.{false≢true}
+use Rattle.std.{proofs.Common.{◌∙◌, refl, sym, subst, ◌^◌, arith}, proofs.lemmas.Bool.{false≢true}}
 use Rattle.zf_base.specs.Positions.{IsPosition}
 use Rattle.zf_cached.specs.Commands.{Command}
-use Rattle.zf_commands.specs.Sittings.{place_in}
-use Rattle.zf_commands.proofs.Passing.{up_to_less, small_is}
+use Rattle.zf_commands.{specs.Sittings.{place_in}, proofs.Passing.{up_to_less, small_is}}
 use Rattle.zf_commands.proofs.Commanding.{outside, no_range, got}
 use Rattle.zf_commands.proofs.values.get.Goals as goal
 

@@ -1,10 +1,8 @@
 use Rattle.std.proofs.Common.{sym, ap, subst, ◌∙◌, ℕ, ◌^◌, pos, List, length, get_or, arith}
-use Rattle.zf_base.specs.Positions.{used_axes, IsPosition}
-use Rattle.zf_base.specs.Places.{block_number, place_of, IsAt}
+use Rattle.zf_base.{specs.Positions.{used_axes, IsPosition}, specs.Places.{block_number, place_of, IsAt}}
 use Rattle.zf_cached.specs.Steps.{touched}
 use Rattle.zf_window.specs.Bounds.{IsUpTo}
-use Rattle.zf_commands.specs.Sittings.{place_in}
-use Rattle.zf_commands.proofs.Passing.{up_to_less, small_is}
+use Rattle.zf_commands.{specs.Sittings.{place_in}, proofs.Passing.{up_to_less, small_is}}
 use Rattle.zf_commands.proofs.values.number.Goals as goal
 
 pub place-b-requires : goal.place-b-requires

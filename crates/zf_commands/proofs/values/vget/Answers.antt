@@ -1,13 +1,9 @@
-use Rattle.std.proofs.Common.{◌∙◌, refl, sym, ap, subst, ◌^◌, arith}
-use Rattle.std.proofs.lemmas.Bool.{false≢true}
+use Rattle.std.{proofs.Common.{◌∙◌, refl, sym, ap, subst, ◌^◌, arith}, proofs.lemmas.Bool.{false≢true}}
 use Rattle.zf_spec.specs.Grid.{IsShape}
 use Rattle.zf_base.specs.Positions.{IsPosition}
-use Rattle.zf_cached.specs.Windows.{Window as Part}
-use Rattle.zf_cached.specs.Commands.{Command}
-use Rattle.zf_window.specs.Positions.{position_at}
-use Rattle.zf_window.proofs.Positions.{position_at-inside}
-use Rattle.zf_commands.specs.Sittings.{place_in}
-use Rattle.zf_commands.proofs.Passing.{up_to_less, small_is}
+use Rattle.zf_cached.{specs.Windows.{Window as Part}, specs.Commands.{Command}}
+use Rattle.zf_window.{specs.Positions.{position_at}, proofs.Positions.{position_at-inside}}
+use Rattle.zf_commands.{specs.Sittings.{place_in}, proofs.Passing.{up_to_less, small_is}}
 use Rattle.zf_commands.proofs.Commanding.{outside_window, no_range, got_there}
 use Rattle.zf_commands.proofs.values.vget.Goals as goal
 

@@ -1,8 +1,6 @@
-use Rattle.std.proofs.Common.{◌≡◌, ◌∙◌, refl, sym, ap, subst, true}
-use Rattle.std.proofs.lemmas.Bool.{false≢true}
-use Rattle.zf_cached.specs.Windows.{Window as Part, LiesIn, has_place, sliced}
+use Rattle.std.{proofs.Common.{◌≡◌, ◌∙◌, refl, sym, ap, subst, true}, proofs.lemmas.Bool.{false≢true}}
+use Rattle.zf_cached.{specs.Windows.{Window as Part, LiesIn, has_place, sliced}, specs.Commands.{Command}}
 use Rattle.zf_cached.proofs.Windows.{LiesIn-sliced}
-use Rattle.zf_cached.specs.Commands.{Command}
 use Rattle.zf_commands.proofs.Commanding.{is_not, no_range, cut}
 use Rattle.zf_commands.proofs.windows.slice.Goals as goal
 

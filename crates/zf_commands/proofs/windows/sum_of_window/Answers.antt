@@ -1,15 +1,11 @@
 use Rattle.std.proofs.Common.{◌≡◌, ◌∙◌, refl, sym, ap, subst, ℕ, ◌+◌, ◌-◌, ◌*◌, ◌^◌, ◌<◌, ◌≤◌, pos, map, to_z, get_or, arith}
-use Rattle.std.specs.Int.{w128}
-use Rattle.std.proofs.lemmas.Int.{ints}
-use Rattle.zf_spec.specs.Grid.{count_from, product, coordinates}
-use Rattle.zf_base.specs.Places.{block_number}
-use Rattle.zf_base.proofs.Places.{IsAt-block, IsAt-place}
+use Rattle.std.{specs.Int.{w128}, proofs.lemmas.Int.{ints}}
+use Rattle.zf_spec.{specs.Grid.{count_from, product, coordinates}, proofs.Counting.{count_from-below}}
+use Rattle.zf_base.{specs.Places.{block_number}, proofs.Places.{IsAt-block, IsAt-place}}
 use Rattle.zf_cached.specs.Windows.{Window as Part, LiesIn, mapped}
 use Rattle.zf_cached.specs.Steps.{Session, touched, value_there}
-use Rattle.zf_window.specs.Places.{WalkingIn, IsThere}
-use Rattle.zf_window.proofs.Raster.{product_window}
+use Rattle.zf_window.{specs.Places.{WalkingIn, IsThere}, proofs.Raster.{product_window}}
 use Rattle.zf_window.specs.Bounds.{IsUpTo}
-use Rattle.zf_spec.proofs.Counting.{count_from-below}
 use Rattle.zf_commands.proofs.Passing.{stays_touched, touched_on, sum_from, sum_on, sum_starts, sum_ends, summed_fits, summed_is, up_to_more, up_to_less}
 use Rattle.zf_commands.proofs.windows.sum_of_window.Goals as goal
 

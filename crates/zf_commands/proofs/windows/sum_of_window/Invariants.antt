@@ -1,11 +1,9 @@
 use Rattle.std.proofs.Common.{◌≡◌, ◌-◌, ◌*◌, ◌^◌, map}
 use Rattle.zf_spec.specs.Grid.{count_from, product, coordinates}
 use Rattle.zf_base.specs.Places.{block_number}
-use Rattle.zf_cached.specs.Windows.{positions, mapped}
-use Rattle.zf_cached.specs.Steps.{value_there, summed}
+use Rattle.zf_cached.{specs.Windows.{positions, mapped}, specs.Steps.{value_there, summed}}
 use Rattle.zf_window.specs.Bounds.{IsUpTo}
-use Rattle.zf_commands.specs.Sittings.{OnState}
-use Rattle.zf_commands.proofs.Passing.{sum_from}
+use Rattle.zf_commands.{specs.Sittings.{OnState}, proofs.Passing.{sum_from}}
 use Rattle.zf_commands.proofs.windows.sum_of_window.Given as goal
 
 abbrev pub invariant-loop-number : goal.invariant-loop-number

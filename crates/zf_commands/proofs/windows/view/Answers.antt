@@ -1,9 +1,7 @@
 use Rattle.std.proofs.Common.{refl, sym, ap, subst, ◌∙◌, length}
-use Rattle.zf_cached.specs.Windows.{LiesIn}
-use Rattle.zf_cached.specs.Commands.{Command}
+use Rattle.zf_cached.{specs.Windows.{LiesIn}, specs.Commands.{Command}}
 use Rattle.zf_window.specs.WindowFields.{window_of, view_fault}
-use Rattle.zf_commands.specs.Sittings.{place_in}
-use Rattle.zf_commands.proofs.Commanding.{no_window, no_size, viewed}
+use Rattle.zf_commands.{specs.Sittings.{place_in}, proofs.Commanding.{no_window, no_size, viewed}}
 use Rattle.zf_commands.proofs.windows.view.Goals as goal
 
 pub use_window-requires-clause-inside : goal.use_window-requires-clause-inside

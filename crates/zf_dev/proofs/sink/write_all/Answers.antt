@@ -1,8 +1,5 @@
-use Rattle.std.proofs.Common.{◌∙◌}
-use Rattle.std.proofs.Math.Seq.{take-add}
-use Rattle.std.proofs.lemmas.List.{take_rest}
-use Rattle.zf_dev.proofs.Appending.{Appends-append}
-use Rattle.zf_dev.proofs.Pieces.{end_in_range}
+use Rattle.std.{proofs.Common.{◌∙◌}, proofs.Math.Seq.{take-add}, proofs.lemmas.List.{take_rest}}
+use Rattle.zf_dev.{proofs.Appending.{Appends-append}, proofs.Pieces.{end_in_range}}
 use Rattle.zf_dev.proofs.sink.write_all.Goals as goal
 
 pub loop-written-preserved : goal.loop-written-preserved

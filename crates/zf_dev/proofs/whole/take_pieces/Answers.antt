@@ -1,5 +1,4 @@
-use Rattle.std.proofs.lemmas.Grind.{common_steps}
-use Rattle.std.proofs.Common.{◌≤◌, length, take, arith, length-append}
+use Rattle.std.{proofs.lemmas.Grind.{common_steps}, proofs.Common.{◌≤◌, length, take, arith, length-append}}
 use Rattle.std.proofs.lemmas.List.{length-take-le}
 use Rattle.zf_dev.proofs.Taking.{Takes-append}
 use Rattle.zf_dev.proofs.whole.take_pieces.Goals as goal

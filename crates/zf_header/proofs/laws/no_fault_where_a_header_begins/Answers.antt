@@ -1,6 +1,5 @@
 use Rattle.std.proofs.Common.{sym}
-use Rattle.zf_header.proofs.Good.{good}
-use Rattle.zf_header.proofs.Found.{read_is_spelled, read_is_header}
+use Rattle.zf_header.{proofs.Good.{good}, proofs.Found.{read_is_spelled, read_is_header}}
 use Rattle.zf_header.proofs.Spelled.{spelled_is_read, spelled_is_good}
 use Rattle.zf_header.proofs.laws.no_fault_where_a_header_begins.Goals as goal
 

@@ -1,10 +1,7 @@
 -- The first fault of the parts is that of the whole.
-use Rattle.std.proofs.Common.{rules}
-use Rattle.std.proofs.Common.{sym, subst, ◌∙◌}
-use Rattle.std.proofs.lemmas.Result.{err_from_is_err_and}
+use Rattle.std.{proofs.Common.{rules, sym, subst, ◌∙◌}, proofs.lemmas.Result.{err_from_is_err_and}}
 use Rattle.zf_spec.specs.Stream.{to_bits}
-use Rattle.zf_header.specs.HeaderBits.{IsMode}
-use Rattle.zf_header.proofs.Faults.{prefix_fault, size_fault, mode_fault}
+use Rattle.zf_header.{specs.HeaderBits.{IsMode}, proofs.Faults.{prefix_fault, size_fault, mode_fault}}
 use Rattle.zf_header.proofs.Modes.{header_in-mode}
 use Rattle.zf_header.proofs.reading.fields.Goals as goal
 

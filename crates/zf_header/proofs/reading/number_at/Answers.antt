@@ -1,7 +1,6 @@
 -- One bit more of the number.
 use Rattle.std.proofs.Common.{rules}
-use Rattle.zf_header.specs.HeaderFields.{number_at}
-use Rattle.zf_header.proofs.Bits.{number_more_at, number_at_below}
+use Rattle.zf_header.{specs.HeaderFields.{number_at}, proofs.Bits.{number_more_at, number_at_below}}
 use Rattle.zf_header.proofs.reading.number_at.Goals as goal
 
 pub overflow_add-number : goal.overflow_add-number

@@ -2,12 +2,9 @@
 use Rattle.std.proofs.Common.{◌≡◌, ℕ, List, length, Result, Ok, Err, None, sym, ap, subst, ◌∙◌, ◌*◌, ◌≤◌, arith}
 use Rattle.std.specs.Result.{IfOk, result_err}
 use Rattle.zf_spec.specs.Stream.{to_bits}
-use Rattle.zf_header.specs.declared.header.Header.{Header}
-use Rattle.zf_header.specs.declared.header.HeaderFault.{HeaderFault}
-use Rattle.zf_header.specs.HeaderBits.{IsHeader, BeginsWith, header_bits}
-use Rattle.zf_header.specs.HeaderFields.{header_in}
-use Rattle.zf_header.specs.HeaderFaults.{header_fault}
-use Rattle.zf_header.proofs.Good.{good}
+use Rattle.zf_header.{specs.declared.header.Header.{Header}, specs.declared.header.HeaderFault.{HeaderFault}}
+use Rattle.zf_header.{specs.HeaderBits.{IsHeader, BeginsWith, header_bits}, specs.HeaderFields.{header_in}}
+use Rattle.zf_header.{specs.HeaderFaults.{header_fault}, proofs.Good.{good}}
 use Rattle.zf_header.proofs.Found.{read_is_spelled, read_is_header, begins_within}
 use Rattle.zf_header.proofs.Spelled.{spelled_is_read, spelled_is_good}
 use Rattle.zf_header.proofs.reading.read.Goals as goal

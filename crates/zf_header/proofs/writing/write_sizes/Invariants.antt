@@ -1,6 +1,5 @@
 -- The sizes so far are written, each in its share of the room.
-use Rattle.std.proofs.Common.{◌≡◌, ◌+◌, ◌*◌, ◌/◌, ◌-◌, length, take}
-use Rattle.std.specs.List.{flat_map}
+use Rattle.std.{proofs.Common.{◌≡◌, ◌+◌, ◌*◌, ◌/◌, ◌-◌, length, take}, specs.List.{flat_map}}
 use Rattle.zf_spec.specs.Numbers.{field}
 use Rattle.zf_bits.specs.Writer.{Appends}
 use Rattle.zf_header.proofs.writing.write_sizes.Given as goal

@@ -1,7 +1,6 @@
 use Rattle.std.proofs.Common.{◌≡◌, ap, ◌∙◌, ◌-◌, ◌*◌, ◌/◌, ◌%◌, ◌<◌, length, arith}
 use Rattle.std.proofs.Math.Nat.{div-add-mod, lt_of_mul-lt-mul_left}
-use Rattle.zf_index.specs.Spans.{index_of, place}
-use Rattle.zf_index.proofs.Places.{place-next, ends_within}
+use Rattle.zf_index.{specs.Spans.{index_of, place}, proofs.Places.{place-next, ends_within}}
 use Rattle.zf_index.proofs.index.listed_span.Goals as goal
 
 pub loop-code-init : goal.loop-code-init

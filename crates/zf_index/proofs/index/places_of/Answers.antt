@@ -1,10 +1,7 @@
 use Rattle.std.proofs.Common.{◌≡◌, refl, sym, ap, ◌∙◌, ⊎_elim, ℕ, suc, ◌+◌, ◌*◌, ◌<◌, List, [], ◌∷◌, ◌++◌, length, get_or, length-append, arith}
-use Rattle.std.proofs.Math.Nat.{mul-suc}
-use Rattle.std.proofs.Math.Seq.{get_or-append_seam}
-use Rattle.std.proofs.lemmas.Bool.{cases_lt}
-use Rattle.std.proofs.lemmas.List.{get_or_append_left}
-use Rattle.zf_index.specs.Spans.{Index, place}
-use Rattle.zf_index.proofs.Places.{place-next, ends_within}
+use Rattle.std.{proofs.Math.Nat.{mul-suc}, proofs.Math.Seq.{get_or-append_seam}}
+use Rattle.std.{proofs.lemmas.Bool.{cases_lt}, proofs.lemmas.List.{get_or_append_left}}
+use Rattle.zf_index.{specs.Spans.{Index, place}, proofs.Places.{place-next, ends_within}}
 use Rattle.zf_index.proofs.index.places_of.Goals as goal
 
 -- what no chunk has yet

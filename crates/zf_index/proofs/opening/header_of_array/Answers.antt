@@ -1,10 +1,8 @@
 use Rattle.std.proofs.Common.{ℕ, List}
 use Rattle.zf_base.specs.declared.lane.Ty.{Ty}
-use Rattle.zf_header.specs.declared.header.Mode.{Mode}
-use Rattle.zf_index.specs.declared.fault.OpenFault.{OpenFault}
+use Rattle.zf_header.{specs.declared.header.Mode.{Mode}, specs.HeaderBits.{IsRate}}
+use Rattle.zf_index.{specs.declared.fault.OpenFault.{OpenFault}, specs.Opening.{AnyMode, LacksHeader}}
 use Rattle.zf_index.specs.declared.fault.OpenFault.TheVariants as open_fault
-use Rattle.zf_header.specs.HeaderBits.{IsRate}
-use Rattle.zf_index.specs.Opening.{AnyMode, LacksHeader}
 use Rattle.zf_index.proofs.opening.header_of_array.Goals as goal
 
 -- bytes with no header in any mode have none in some

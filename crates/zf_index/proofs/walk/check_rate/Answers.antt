@@ -1,19 +1,13 @@
 use Rattle.std.proofs.Common.{◌≡◌, refl, sym, ap, subst, ◌∙◌, inl, ℕ, ◌+◌, ◌-◌, ◌*◌, ◌/◌, ◌%◌, ◌^◌, ◌<◌, ◌≤◌, Err, List, length, take, drop, length-drop, arith}
 use Rattle.std.proofs.Math.Nat.{div-lt_iff_lt-mul, le-div_iff_mul-le}
 use Rattle.std.proofs.lemmas.Result.{IfOk-weaker, IfErr-weaker}
-use Rattle.zf_spec.specs.Grid.{blocks}
-use Rattle.zf_spec.specs.Stream.{to_bits}
-use Rattle.zf_spec.proofs.Bytes.{length-to_bits}
+use Rattle.zf_spec.{specs.Grid.{blocks}, specs.Stream.{to_bits}, proofs.Bytes.{length-to_bits}}
 use Rattle.zf_bits.specs.Reader.{Reader, rest}
-use Rattle.zf_header.specs.declared.header.Header.{Header}
-use Rattle.zf_header.specs.HeaderBits.{IsMode}
+use Rattle.zf_header.{specs.declared.header.Header.{Header}, specs.HeaderBits.{IsMode}}
 use Rattle.zf_parse.specs.declared.fault.StreamFault.TheVariants as faults
-use Rattle.zf_parse.proofs.Steps.{codes_answer, behind_err}
-use Rattle.zf_parse.proofs.RateStreams.{read_codes-cut}
-use Rattle.zf_index.specs.declared.fault.IndexFault.TheVariants.{Truncated}
-use Rattle.zf_index.specs.Files.{IsIndexOf, stream_fault}
-use Rattle.zf_index.specs.Spans.{even_index}
-use Rattle.zf_index.proofs.Even.{even_walked, even_fault}
+use Rattle.zf_parse.{proofs.Steps.{codes_answer, behind_err}, proofs.RateStreams.{read_codes-cut}}
+use Rattle.zf_index.{specs.declared.fault.IndexFault.TheVariants.{Truncated}, specs.Spans.{even_index}}
+use Rattle.zf_index.{specs.Files.{IsIndexOf, stream_fault}, proofs.Even.{even_walked, even_fault}}
 use Rattle.zf_index.proofs.Read.{has_header, is_header, fault_is, index_is}
 use Rattle.zf_index.proofs.walk.check_rate.Goals as goal
 

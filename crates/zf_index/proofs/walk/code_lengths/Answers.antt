@@ -1,7 +1,6 @@
 use Rattle.std.proofs.Common.{refl, ◌^◌, ◌<◌, length, arith}
 use Rattle.std.proofs.lemmas.Result.{IfOk-weaker, IfErr-weaker}
-use Rattle.zf_spec.specs.Stream.{to_bits}
-use Rattle.zf_spec.proofs.Bytes.{length-to_bits}
+use Rattle.zf_spec.{specs.Stream.{to_bits}, proofs.Bytes.{length-to_bits}}
 use Rattle.zf_index.proofs.Read.{has_header, is_header, index_is, fault_is}
 use Rattle.zf_index.proofs.walk.code_lengths.Goals as goal
 

@@ -2,8 +2,7 @@ use Rattle.std.proofs.Common.{◌≡◌, sym, ap, ◌∙◌, ℕ, ◌-◌, Some,
 use Rattle.std.proofs.lemmas.List.{length-replicate, length-take}
 use Rattle.zf_bits.specs.Reader.{rest}
 use Rattle.zf_parse.specs.Parsing.{read_code}
-use Rattle.zf_index.specs.Files.{len_read}
-use Rattle.zf_index.proofs.Longest.{code_few}
+use Rattle.zf_index.{specs.Files.{len_read}, proofs.Longest.{code_few}}
 use Rattle.zf_index.proofs.walk.pass_code.Goals as goal
 
 pub overflow_cast-result : goal.overflow_cast-result

@@ -1,21 +1,13 @@
 use Rattle.std.proofs.Common.{◌≡◌, sym, ap, subst, ◌∙◌, inl, ℕ, ◌+◌, ◌-◌, ◌*◌, ◌%◌, ◌<◌, ◌≤◌, Bool, List, [], ◌∷◌, ◌++◌, Some, None, Ok, Err, length, take, drop, length-append, arith}
-use Rattle.std.specs.Int.{Width}
-use Rattle.std.proofs.lemmas.List.{take_at}
-use Rattle.std.proofs.lemmas.Result.{err_from_is_err_and}
-use Rattle.zf_spec.specs.Grid.{blocks, extent_of}
-use Rattle.zf_spec.specs.Stream.{to_bits}
-use Rattle.zf_spec.proofs.Bytes.{length-to_bits}
-use Rattle.zf_base.specs.Widths.{width_of}
-use Rattle.zf_base.proofs.Extents.{length-extent_of}
+use Rattle.std.{specs.Int.{Width}, proofs.lemmas.List.{take_at}, proofs.lemmas.Result.{err_from_is_err_and}}
+use Rattle.zf_spec.{specs.Grid.{blocks, extent_of}, specs.Stream.{to_bits}, proofs.Bytes.{length-to_bits}}
+use Rattle.zf_base.{specs.Widths.{width_of}, proofs.Extents.{length-extent_of}}
 use Rattle.zf_bits.specs.Reader.{Reader, rest}
 use Rattle.zf_header.specs.declared.header.Header.{Header}
-use Rattle.zf_parse.specs.Parsing.{read_code, fill_answer}
-use Rattle.zf_parse.proofs.Excerpts.{cut_told}
-use Rattle.zf_index.specs.declared.fault.IndexFault.{IndexFault}
+use Rattle.zf_parse.{specs.Parsing.{read_code, fill_answer}, proofs.Excerpts.{cut_told}}
+use Rattle.zf_index.{specs.declared.fault.IndexFault.{IndexFault}, specs.Spans.{Index, place}}
 use Rattle.zf_index.specs.declared.fault.IndexFault.TheVariants.{Truncated}
-use Rattle.zf_index.specs.Spans.{Index, place}
-use Rattle.zf_index.specs.Files.{len_read, AreRead, stream_fault}
-use Rattle.zf_index.specs.Walks.{IsWalked, HasFault, HasCode}
+use Rattle.zf_index.{specs.Files.{len_read, AreRead, stream_fault}, specs.Walks.{IsWalked, HasFault, HasCode}}
 use Rattle.zf_index.proofs.Places.{place-next, place-push, len-last}
 use Rattle.zf_index.proofs.Read.{cut_behind, judged_behind, code_seen, one_more, fill_seen}
 use Rattle.zf_index.proofs.walk.walk.Given as given

@@ -2,8 +2,7 @@
 use Rattle.std.proofs.Common.{◌≡◌, ◌+◌, ◌*◌, ◌^◌, ◌≤◌, length}
 use Rattle.zf_spec.specs.Stream.{to_bits}
 use Rattle.zf_parse.specs.Parsing.{longest_code}
-use Rattle.zf_index.specs.Spans.{place}
-use Rattle.zf_index.specs.Files.{AreRead}
+use Rattle.zf_index.{specs.Spans.{place}, specs.Files.{AreRead}}
 use Rattle.zf_index.proofs.walk.walk.Given as goal
 
 pub record SoFar (g : goal.Over) (l : goal.Live-loop-b g) : Type 0 where

@@ -1,7 +1,5 @@
 use Rattle.std.proofs.Common.{◌^◌, replicate, sym, ap, ◌∙◌}
-use Rattle.std.specs.Int.{Width}
-use Rattle.zf_spec.specs.Lift.{unlift_line}
-use Rattle.zf_spec.proofs.Wrapping.{zero_fits}
+use Rattle.zf_spec.{specs.Lift.{unlift_line}, proofs.Wrapping.{zero_fits}}
 use Rattle.zf_axes.proofs.FirstAlone.{passes_back-first}
 use Rattle.zf_lift.proofs.FirstAlone.{unlift_line-first}
 use Rattle.zf_lift.proofs.transform.inverse_of_first.Goals as goal

@@ -1,6 +1,5 @@
-use Rattle.std.proofs.Common.{◌≡◌, ℤ, pos, ◌+ℤ◌, sym, ap, ◌∙◌}
-use Rattle.zf_spec.specs.Numbers.{half, floor_half}
-use Rattle.zf_spec.specs.Lift.{lift_line}
+use Rattle.std.proofs.Common.{◌≡◌, pos, ◌+ℤ◌, sym, ap, ◌∙◌}
+use Rattle.zf_spec.{specs.Numbers.{half, floor_half}, specs.Lift.{lift_line}}
 use Rattle.zf_spec.proofs.Wrapping.{wrap_value, zero_fits}
 use Rattle.zf_axes.proofs.FirstAlone.{passes-first}
 use Rattle.zf_lift.proofs.FirstAlone.{lift_line-same}

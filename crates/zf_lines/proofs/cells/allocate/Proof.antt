@@ -35,13 +35,14 @@ use denote.Triple.Entry.{on_entry}
 use denote.Triple.Spec.{Meets, triple_of}
 use denote.Triple.Table.{entered}
 use denote.Triple.Walked.{says, needs, Stays, stay_dropped, walk_of, ends_at, Goes-dropped, walk_Meets}
-use Rattle.std_alloc.proofs.VecSteps.Shapes.{after, head, arm_body}
-use Rattle.std_alloc.proofs.RcSteps.{Good, word, word-Good, first_Good}
+use Rattle.std_alloc.{proofs.VecSteps.Shapes.{after, head, arm_body}, proofs.RawLayout.{as_written}}
+use Rattle.std_alloc.{proofs.RcSteps.{Good, word, word-Good, first_Good}, proofs.ResultValues.{ok_of, err_of}}
 use lib.ListN.{length, replicate, length-replicate}
-use Rattle.std.specs.Prelude.{None, IfOk, Ok, Err}
+use Rattle.std.{specs.Prelude.{None, IfOk, Ok, Err}, specs.Vec.Ownership.{FitsInBlock}}
 use Rattle.core.proofs.mem.Param.{El, R, elτ}
-use Rattle.std_alloc.proofs.RawLayout.{as_written}
-use Rattle.zf_lines.specs.Ownership.{slots}
+use Rattle.core.proofs.alloc.Calls.{Al, second, Answer-typed, takes_key, Takes, at_takes, Answered, Takes-goes, Takes-gives, answers}
+use Rattle.core.proofs.slots.Leases.{uncapped, block_ty, block_size, block_align, args, P}
+use Rattle.zf_lines.{specs.Ownership.{slots}, specs.contracts.cells.allocate.Key.{name as #self}}
 use Rattle.zf_lines.proofs.Memory.{Cr, Bs, Mark, sz, mark, mark_made, word_made, three_val, three_of, of_room}
 use prog.Memory.{Memory, align, capped}
 use prog.Capped.{capped_fits}
@@ -53,15 +54,10 @@ use denote.Struct.Struct.{Struct, Struct-Makes}
 use denote.Struct.Declared as Declared
 use denote.Triple.Statement.{Triple}
 use denote.Triple.Call.{calls_at}
-use Rattle.std.specs.Vec.Ownership.{FitsInBlock}
 use Rattle.core.specs.contracts.result.Result as RS
 use Rattle.core.specs.contracts.alloc.AllocError as AE
-use Rattle.core.proofs.alloc.Calls.{Al, second, Answer-typed, takes_key, Takes, at_takes, Answered, Takes-goes, Takes-gives, answers}
-use Rattle.core.proofs.slots.Leases.{uncapped, block_ty, block_size, block_align, args, P}
-use Rattle.std_alloc.proofs.ResultValues.{ok_of, err_of}
 use Rattle.zf_lines.specs.contracts.cells.Deed as D-type
 use Rattle.zf_lines.specs.contracts.cells.allocate as F
-use Rattle.zf_lines.specs.contracts.cells.allocate.Key.{name as #self}
 use Rattle.zf_lines.proofs.cells.allocate.Statement as stated
 use Rattle.zf_lines.proofs.cells.allocate.Code as code
 

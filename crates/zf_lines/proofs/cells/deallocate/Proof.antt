@@ -32,12 +32,13 @@ use denote.Triple.Spec.{Meets, triple_of}
 use denote.Triple.Table.{entered}
 use denote.Triple.Walked.{needs, Stays, stay_dropped, walk_of, ends_at, Goes-dropped, walk_Meets}
 use Rattle.core.proofs.alloc.Calls.{Goes-blank, Al, second, token, gives_key, Gives, at_gives, Gives-goes, Gives-Gives}
-use Rattle.std_alloc.proofs.VecSteps.Shapes.{after}
-use Rattle.std_alloc.proofs.RcSteps.{word, word-Good}
 use Rattle.core.proofs.mem.Param.{El, R, elτ}
+use Rattle.core.proofs.slots.Leases.{uncapped, block_ty, block_size, block_align, args, P}
+use Rattle.std_alloc.{proofs.VecSteps.Shapes.{after}, proofs.RcSteps.{word, word-Good}}
 use Rattle.std_alloc.proofs.RawLayout.{as_raw}
 use Rattle.zf_lines.specs.Ownership.{cells_own, deed_owns}
 use Rattle.zf_lines.proofs.Memory.{Cr, Bs, sz, mark, mark_had, word_had, to_room}
+use Rattle.zf_lines.specs.contracts.cells.deallocate.Key.{name as #self}
 use lib.Dec.{T}
 use lib.ListN.{length}
 use prog.Memory.{Memory, align, capped}
@@ -46,10 +47,8 @@ use prog.Routine.{Routine}
 use contract.BorrowLft.{◌⊑◌}
 use denote.Triple.Statement.{Triple}
 use denote.Triple.Call.{calls_at_last}
-use Rattle.core.proofs.slots.Leases.{uncapped, block_ty, block_size, block_align, args, P}
 use Rattle.zf_lines.specs.contracts.cells.Deed as D-type
 use Rattle.zf_lines.specs.contracts.cells.deallocate as F
-use Rattle.zf_lines.specs.contracts.cells.deallocate.Key.{name as #self}
 use Rattle.zf_lines.proofs.cells.deallocate.Statement as stated
 use Rattle.zf_lines.proofs.cells.deallocate.Code as code
 

@@ -1,8 +1,5 @@
-use Rattle.std.proofs.Common.{rules}
-use Rattle.std.proofs.Common.{◌∙◌}
-use Rattle.std.proofs.lemmas.List.{length-map}
-use Rattle.zf_spec.specs.Lorenzo.{lorenzo, signed_choose}
-use Rattle.zf_spec.proofs.LorenzoInverse.{unlorenzo-lorenzo}
+use Rattle.std.{proofs.Common.{rules, ◌∙◌}, proofs.lemmas.List.{length-map}}
+use Rattle.zf_spec.{specs.Lorenzo.{lorenzo, signed_choose}, proofs.LorenzoInverse.{unlorenzo-lorenzo}}
 use Rattle.zf_lorenzo.proofs.WeightedAxes.{along_axes-sums}
 use Rattle.zf_lorenzo.proofs.transform.forward.Goals as goal
 

@@ -1,5 +1,4 @@
-use Rattle.std.proofs.Common.{◌∙◌}
-use Rattle.std.proofs.lemmas.List.{length-map}
+use Rattle.std.{proofs.Common.{◌∙◌}, proofs.lemmas.List.{length-map}}
 use Rattle.zf_spec.specs.Lorenzo.{unlorenzo, plain_choose}
 use Rattle.zf_lorenzo.proofs.WeightedAxes.{along_axes-sums}
 use Rattle.zf_lorenzo.proofs.transform.inverse.Goals as goal

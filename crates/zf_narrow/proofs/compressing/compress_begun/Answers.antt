@@ -2,9 +2,8 @@ use Rattle.std.proofs.Common.{rules, ◌≡◌, sym, ap, subst, ℕ, List, lengt
 use Rattle.zf_dev.specs.Source.{Takes}
 use Rattle.zf_parse.specs.declared.fault.StreamFault.{StreamFault}
 use Rattle.zf_stream.specs.Outcomes.{Compressed}
-use Rattle.zf_narrow.specs.Promotions.{read_so_far}
+use Rattle.zf_narrow.{specs.Promotions.{read_so_far}, proofs.Compressed.{Runs, run_good, run_fault}}
 use Rattle.zf_narrow.specs.Texts.{narrow_len, compress_narrow_answer, narrow_text}
-use Rattle.zf_narrow.proofs.Compressed.{Runs, run_good, run_fault}
 use Rattle.zf_narrow.proofs.compressing.compress_begun.Goals as goal
 
 pub returns-in-Ok-clause-outcome : goal.returns-in-Ok-clause-outcome

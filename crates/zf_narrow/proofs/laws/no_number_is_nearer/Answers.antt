@@ -1,5 +1,4 @@
-use Rattle.zf_narrow.specs.Values.{on_step}
-use Rattle.zf_narrow.proofs.Nearest.{none_nearer}
+use Rattle.zf_narrow.{specs.Values.{on_step}, proofs.Nearest.{none_nearer}}
 use Rattle.zf_narrow.proofs.laws.no_number_is_nearer.Goals as goal
 
 pub returns : goal.returns

@@ -1,6 +1,5 @@
 use Rattle.std.proofs.Common.{rules, ◌≡◌, ℕ, ◌+◌, ◌-◌, ◌*◌, take, drop, subst, arith}
-use Rattle.std.proofs.Math.Nat.{mul-le-mul_right}
-use Rattle.std.proofs.lemmas.Int.{to_z-of_z}
+use Rattle.std.{proofs.Math.Nat.{mul-le-mul_right}, proofs.lemmas.Int.{to_z-of_z}}
 use Rattle.std.specs.Int.{w32, from_le_bytes, cast_signed}
 use Rattle.zf_narrow.proofs.OneMore.{put_part, demoted-more, length-narrow_bytes, one_more}
 use Rattle.zf_narrow.proofs.raw.put_demoted.Goals as goal

@@ -1,9 +1,7 @@
 -- The bytes of the values so far.
-use Rattle.std.proofs.Common.{◌≡◌, ◌*◌, take}
-use Rattle.std.specs.Int.{w32}
+use Rattle.std.{proofs.Common.{◌≡◌, ◌*◌, take}, specs.Int.{w32}}
 use Rattle.zf_spec.specs.Stream.{values_from}
-use Rattle.zf_narrow.specs.Values.{size_of}
-use Rattle.zf_narrow.specs.RawNarrow.{raw_narrow}
+use Rattle.zf_narrow.{specs.Values.{size_of}, specs.RawNarrow.{raw_narrow}}
 use Rattle.zf_narrow.proofs.raw.put_demoted.Given as goal
 
 abbrev pub invariant-loop-i : goal.invariant-loop-i

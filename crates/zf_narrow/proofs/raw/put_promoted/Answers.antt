@@ -1,8 +1,6 @@
 use Rattle.std.proofs.Common.{rules, ◌≡◌, ℕ, ◌+◌, ◌-◌, ◌*◌, take, drop, arith}
-use Rattle.std.proofs.Math.Nat.{mul-le-mul_right}
-use Rattle.std.proofs.lemmas.Int.{to_z-of_z}
-use Rattle.zf_narrow.specs.RawNarrow.{value_of}
-use Rattle.zf_narrow.proofs.OneMore.{put_part, promoted-more}
+use Rattle.std.{proofs.Math.Nat.{mul-le-mul_right}, proofs.lemmas.Int.{to_z-of_z}}
+use Rattle.zf_narrow.{specs.RawNarrow.{value_of}, proofs.OneMore.{put_part, promoted-more}}
 use Rattle.zf_narrow.proofs.raw.put_promoted.Goals as goal
 
 pub loop-i-preserved : goal.loop-i-preserved

@@ -1,8 +1,7 @@
 use Rattle.std.proofs.Common.{refl, sym, ap, subst, ◌∙◌, Ok, Err}
 use Rattle.zf_parse.specs.declared.fault.StreamFault.TheVariants.{Write}
 use Rattle.zf_narrow.specs.declared.fault.NarrowFault.TheVariants.{NotNarrow, Stream}
-use Rattle.zf_narrow.specs.Promoting.{listed}
-use Rattle.zf_narrow.specs.Texts.{RestoredNarrow}
+use Rattle.zf_narrow.{specs.Promoting.{listed}, specs.Texts.{RestoredNarrow}}
 use Rattle.zf_narrow.proofs.Restored.{demotes, restored_as, ends_good, ends_unsettled, ends_other, ends_refused}
 use Rattle.zf_narrow.proofs.restoring.restore_begun.Goals as goal
 

@@ -1,5 +1,4 @@
-use Rattle.std.proofs.Common.{ap, ◌∙◌, sym}
-use Rattle.std.proofs.lemmas.List.{take_more_set}
+use Rattle.std.{proofs.Common.{ap, ◌∙◌, sym}, proofs.lemmas.List.{take_more_set}}
 use Rattle.zf_narrow.specs.Promoting.{listed}
 use Rattle.zf_narrow.proofs.taking.put_half.Goals as goal
 

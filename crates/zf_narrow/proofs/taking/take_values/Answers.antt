@@ -1,5 +1,4 @@
-use Rattle.std.proofs.Common.{rules}
-use Rattle.std.proofs.lemmas.List.{length-take-le}
+use Rattle.std.{proofs.Common.{rules}, proofs.lemmas.List.{length-take-le}}
 use Rattle.zf_narrow.proofs.Taken.{two_pieces}
 use Rattle.zf_narrow.proofs.taking.take_values.Goals as goal
 

@@ -1,9 +1,7 @@
-use Rattle.std.proofs.Common.{rules}
-use Rattle.std.proofs.Common.{◌≡◌, ℕ, ◌≤◌, ◌^◌, take, drop, map, length, ap, sym, subst, ◌∙◌, arith}
+use Rattle.std.proofs.Common.{rules, ◌≡◌, ℕ, ◌≤◌, ◌^◌, take, drop, map, length, ap, sym, subst, ◌∙◌, arith}
 use Rattle.std.proofs.lemmas.List.{take-map, drop-map}
 use Rattle.zf_base.specs.Positions.{IsExtent}
-use Rattle.zf_pad.specs.Rasters.{IsRasterBlock}
-use Rattle.zf_pad.proofs.Blocks.{lies_within, gathered_block}
+use Rattle.zf_pad.{specs.Rasters.{IsRasterBlock}, proofs.Blocks.{lies_within, gathered_block}}
 use Rattle.zf_pad.proofs.Lines.{whole_within, line_taken}
 use Rattle.zf_pad.proofs.array_block.gather_block.Goals as goal
 

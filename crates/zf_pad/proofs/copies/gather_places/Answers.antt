@@ -3,8 +3,8 @@ use Rattle.std.proofs.lemmas.List.{length-map, map-set}
 use Rattle.zf_base.proofs.Values.{number_at}
 use Rattle.zf_pad.proofs.Copying.{exists_here, index_here, gathered_none, gathered_more, gathered_skip, gathered_all}
 use Rattle.zf_pad.proofs.Existing.{first_place, first_index}
-use Rattle.zf_pad.proofs.copies.gather_places.Goals as goal
 use Rattle.zf_pad.proofs.copies.gather_places.Goals.{then-is_inside, else-is_inside}
+use Rattle.zf_pad.proofs.copies.gather_places.Goals as goal
 
 pub counted_from-from_origin-requires : goal.counted_from-from_origin-requires
 counted_from-from_origin-requires g c =

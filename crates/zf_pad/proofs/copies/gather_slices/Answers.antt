@@ -1,8 +1,6 @@
-use Rattle.std.proofs.Common.{rules}
-use Rattle.std.proofs.Common.{◌≡◌, ℕ, ◌<◌, ◌≤◌, ◌^◌, true, ◌+◌, ◌*◌, map, sym, ap, subst, ◌∙◌, arith}
+use Rattle.std.proofs.Common.{rules, ◌≡◌, ℕ, ◌<◌, ◌≤◌, ◌^◌, true, ◌+◌, ◌*◌, map, sym, ap, subst, ◌∙◌, arith}
 use Rattle.zf_base.specs.declared.position.Extent.{Extent}
-use Rattle.zf_pad.specs.declared.layout.Layout.{Layout}
-use Rattle.zf_pad.specs.Layouts.{index_at, CanCopy, IsWholeBlock}
+use Rattle.zf_pad.{specs.declared.layout.Layout.{Layout}, specs.Layouts.{index_at, CanCopy, IsWholeBlock}}
 use Rattle.zf_pad.proofs.Copying.{IsGatheredTo, exists, index_here, slice_index, row_within, gathered_none, gathered_row, row_copied, gathered_all}
 use Rattle.zf_pad.proofs.Existing.{first_place, first_index, place_of_whole}
 use Rattle.zf_pad.proofs.copies.gather_slices.Goals as goal

@@ -1,10 +1,9 @@
-use Rattle.std.proofs.Common.{true, false, pos, map, ◌∙◌, arith}
-use Rattle.std.proofs.lemmas.List.{length-map, map-set}
+use Rattle.std.{proofs.Common.{true, false, pos, map, ◌∙◌, arith}, proofs.lemmas.List.{length-map, map-set}}
 use Rattle.zf_base.proofs.Values.{number_at}
 use Rattle.zf_pad.proofs.Copying.{exists_here, index_here, scattered_none, scattered_more, scattered_skip, scattered_all}
 use Rattle.zf_pad.proofs.Existing.{first_place, first_index}
-use Rattle.zf_pad.proofs.copies.scatter_places.Goals as goal
 use Rattle.zf_pad.proofs.copies.scatter_places.Goals.{then-is_inside, else-is_inside}
+use Rattle.zf_pad.proofs.copies.scatter_places.Goals as goal
 
 pub counted_from-from_origin-requires : goal.counted_from-from_origin-requires
 counted_from-from_origin-requires g c =

@@ -1,8 +1,8 @@
 use Rattle.std.proofs.Common.{◌*◌, true, false, length, map, ◌∙◌, arith}
 use Rattle.zf_pad.proofs.Copying.{exists_here, index_here, row_within, whole_rows, scattered_none, scattered_row, row_copied, scattered_skip_row, scattered_all}
 use Rattle.zf_pad.proofs.Existing.{first_place, first_index}
-use Rattle.zf_pad.proofs.copies.scatter_rows.Goals as goal
 use Rattle.zf_pad.proofs.copies.scatter_rows.Goals.{then-is_inside, else-is_inside}
+use Rattle.zf_pad.proofs.copies.scatter_rows.Goals as goal
 
 pub counted_from-from_origin-requires : goal.counted_from-from_origin-requires
 counted_from-from_origin-requires g c =

@@ -1,7 +1,5 @@
-use Rattle.std.proofs.Common.{map, rules, arith}
-use Rattle.std.proofs.lemmas.List.{length-map, map-set}
-use Rattle.zf_base.specs.Positions.{used_axes}
-use Rattle.zf_base.proofs.Values.{number_at}
+use Rattle.std.{proofs.Common.{map, rules, arith}, proofs.lemmas.List.{length-map, map-set}}
+use Rattle.zf_base.{specs.Positions.{used_axes}, proofs.Values.{number_at}}
 use Rattle.zf_pad.proofs.Sizes.{used_length, used_sizes}
 use Rattle.zf_pad.proofs.Sources.{padded_none, padded_more, padded_all, pad-whole, value_of_source, source_in_block}
 use Rattle.zf_pad.proofs.padding.pad.Goals as goal

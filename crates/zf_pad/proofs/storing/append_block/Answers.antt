@@ -1,6 +1,4 @@
-use Rattle.std.proofs.Common.{rules}
-use Rattle.std.proofs.Common.{arith}
-use Rattle.std.proofs.lemmas.List.{length-map, map-append}
+use Rattle.std.{proofs.Common.{rules, arith}, proofs.lemmas.List.{length-map, map-append}}
 use Rattle.zf_pad.proofs.Appended.{whole_block, whole_size}
 use Rattle.zf_pad.proofs.storing.append_block.Goals as goal
 

@@ -1,12 +1,8 @@
-use Rattle.std.proofs.Common.{rules}
-use Rattle.std.proofs.Common.{◌≡◌, ℕ, ◌+◌, ◌*◌, ◌≤◌, List, length, map, take, drop, refl, sym, ap, subst, ◌∙◌, take_at, arith}
-use Rattle.std.proofs.Math.Nat.{mul-le-mul}
-use Rattle.std.proofs.lemmas.List.{length-map, take-map}
-use Rattle.zf_base.specs.declared.position.Pos.{Pos}
-use Rattle.zf_base.specs.declared.position.Extent.{Extent}
+use Rattle.std.proofs.Common.{rules, ◌≡◌, ℕ, ◌+◌, ◌*◌, ◌≤◌, List, length, map, take, drop, refl, sym, ap, subst, ◌∙◌, take_at, arith}
+use Rattle.std.{proofs.Math.Nat.{mul-le-mul}, proofs.lemmas.List.{length-map, take-map}}
+use Rattle.zf_base.{specs.declared.position.Pos.{Pos}, specs.declared.position.Extent.{Extent}}
 use Rattle.zf_base.specs.Positions.{used_axes, IsExtent}
-use Rattle.zf_pad.specs.declared.layout.Layout.{Layout}
-use Rattle.zf_pad.specs.Stored.{AppendsBlock}
+use Rattle.zf_pad.{specs.declared.layout.Layout.{Layout}, specs.Stored.{AppendsBlock}}
 use Rattle.zf_pad.proofs.Sizes.{sizes_four_at_most}
 use Rattle.zf_pad.proofs.Appended.{IsBox, box_within, box_one_to_one, part_appended}
 use Rattle.zf_pad.proofs.storing.append_part.Goals as goal

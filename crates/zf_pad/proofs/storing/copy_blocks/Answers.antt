@@ -1,9 +1,6 @@
-use Rattle.std.proofs.Common.{rules}
-use Rattle.std.proofs.Common.{◌≡◌, ◌+◌, ◌*◌, ◌<◌, ◌≤◌, ⊎_elim, pos, map, length, get_or, ap, sym, ◌∙◌, arith}
-use Rattle.std.proofs.Math.Nat.{mul-le-mul_right}
-use Rattle.std.proofs.lemmas.Bool.{cases_lt}
-use Rattle.zf_pad.proofs.Copying.{row_copied}
-use Rattle.zf_pad.proofs.StoredLines.{front_stays}
+use Rattle.std.proofs.Common.{rules, ◌≡◌, ◌+◌, ◌*◌, ◌<◌, ◌≤◌, ⊎_elim, pos, map, length, get_or, ap, sym, ◌∙◌, arith}
+use Rattle.std.{proofs.Math.Nat.{mul-le-mul_right}, proofs.lemmas.Bool.{cases_lt}}
+use Rattle.zf_pad.{proofs.Copying.{row_copied}, proofs.StoredLines.{front_stays}}
 use Rattle.zf_pad.proofs.storing.copy_blocks.Goals as goal
 
 pub copy_row-requires-clause-there : goal.copy_row-requires-clause-there

@@ -1,9 +1,7 @@
-use Rattle.std.proofs.Common.{rules}
-use Rattle.std.proofs.Common.{◌≡◌, ℕ, ◌+◌, ◌-◌, ◌%◌, ◌<◌, ◌≤◌, ◌⊎◌, inl, inr, ⊎_elim, map, length, take, drop, ap, sym, ◌∙◌, arith}
+use Rattle.std.proofs.Common.{rules, ◌≡◌, ℕ, ◌+◌, ◌-◌, ◌%◌, ◌<◌, ◌≤◌, ◌⊎◌, inl, inr, ⊎_elim, map, length, take, drop, ap, sym, ◌∙◌, arith}
 use Rattle.std.proofs.lemmas.List.{length-map, take-map}
 use Rattle.zf_spec.specs.Grid.{product}
-use Rattle.zf_pad.specs.Stored.{raster_of, line_len}
-use Rattle.zf_pad.proofs.Stored.{length-raster_of}
+use Rattle.zf_pad.{specs.Stored.{raster_of, line_len}, proofs.Stored.{length-raster_of}}
 use Rattle.zf_pad.proofs.StoredLines.{next_first, line_end, taken_more}
 use Rattle.zf_pad.proofs.storing.copy_lines.Goals as goal
 

@@ -1,5 +1,4 @@
-use Rattle.std.proofs.Common.{rules}
-use Rattle.std.proofs.Common.{◌≡◌, ℕ, ◌*◌, ◌≤◌, ap, ◌∙◌, mul-le-mul_left}
+use Rattle.std.proofs.Common.{rules, ◌≡◌, ℕ, ◌*◌, ◌≤◌, ap, ◌∙◌, mul-le-mul_left}
 use Rattle.zf_pad.proofs.StoredLines.{others_fit}
 use Rattle.zf_pad.proofs.storing.line_of.Goals as goal
 

@@ -1,5 +1,4 @@
-use Rattle.zf_parse.proofs.Fits.{code_fits}
-use Rattle.zf_parse.proofs.Parts.{said_fit, restored_fit}
+use Rattle.zf_parse.{proofs.Fits.{code_fits}, proofs.Parts.{said_fit, restored_fit}}
 use Rattle.zf_parse.proofs.laws.what_is_read_fits.Goals as goal
 
 pub returns-clause-code : goal.returns-clause-code

@@ -1,6 +1,5 @@
 use Rattle.std.proofs.Common.{◌≡◌, ℕ, ◌-◌, ◌%◌, ◌≤◌, length, ap, length-append, arith, rules}
-use Rattle.zf_spec.specs.Numbers.{field}
-use Rattle.zf_spec.proofs.Fields.{length-field}
+use Rattle.zf_spec.{specs.Numbers.{field}, proofs.Fields.{length-field}}
 use Rattle.zf_bits.specs.Reader.{Reader, rest, Reads}
 use Rattle.zf_parse.proofs.Fill.{fill_one, fill_more, fill_good}
 use Rattle.zf_parse.proofs.reading.check_fill.Goals as goal

@@ -1,11 +1,8 @@
 use Rattle.std.proofs.Common.{◌≡◌, ℕ, ◌-◌, false, List, [], ◌++◌, length, replicate, subst}
-use Rattle.std.specs.List.{All}
-use Rattle.std.specs.Prelude.{OnSome}
-use Rattle.zf_spec.specs.Kept.{kept_planes}
-use Rattle.zf_spec.specs.HeldPlanes.{planes_held, IsClearFrom}
+use Rattle.std.{specs.List.{All}, specs.Prelude.{OnSome}}
+use Rattle.zf_spec.{specs.Kept.{kept_planes}, specs.HeldPlanes.{planes_held, IsClearFrom}}
 use Rattle.zf_bits.specs.Reader.{rest}
-use Rattle.zf_planes.specs.Decoding.{coded}
-use Rattle.zf_planes.proofs.Unpacking.{arrays_as_words}
+use Rattle.zf_planes.{specs.Decoding.{coded}, proofs.Unpacking.{arrays_as_words}}
 use Rattle.zf_planes.proofs.decoding.decode.Goals as goal
 
 pub returns-clause-digits : goal.returns-clause-digits

@@ -1,10 +1,9 @@
-use Rattle.std.proofs.Common.{rules}
-use Rattle.std.proofs.Common.{◌≡◌, ℕ, ◌+◌, ◌-◌, ◌≤◌, min, Bool, List, ◌++◌, take, sym, ap, ◌∙◌, arith}
+use Rattle.std.proofs.Common.{rules, ◌≡◌, ℕ, ◌+◌, ◌-◌, ◌≤◌, min, Bool, List, ◌++◌, take, sym, ap, ◌∙◌, arith}
+use Rattle.std.proofs.lemmas.Option.{IfSome_then}
 use Rattle.zf_spec.specs.ReadPlanes.{first_bits}
 use Rattle.zf_bits.specs.Reader.{Reader, rest}
 use Rattle.zf_planes.specs.Decoding.{Takes, tail_ahead, tail_bits, plane_ahead, plane_bits}
 use Rattle.zf_planes.proofs.Passing.{Passes-start, Passes-part, Passes-lacks, Takes-rest, Takes-sum, if_none, on_none}
-use Rattle.std.proofs.lemmas.Option.{IfSome_then}
 use Rattle.zf_planes.proofs.PlaneAhead.{plane_ahead-is, plane_bits-is}
 use Rattle.zf_planes.proofs.decoding.read_by_runs.Given.{Over}
 use Rattle.zf_planes.proofs.decoding.read_by_runs.Goals as goal

@@ -2,8 +2,7 @@ use Rattle.std.proofs.Common.{◌≡◌, ℕ, ◌%◌, ◌<◌, ◌+◌, ◌-◌
 use Rattle.zf_bits.specs.Reader.{Reader, rest}
 use Rattle.zf_planes.specs.Decoding.{IsWindow, Takes, Lacks, tail_ahead, tail_bits, run_ahead, run_bits}
 use Rattle.zf_planes.proofs.Passing.{Passes-start, Passes-part, Passes-lacks, Takes-rest, Takes-sum, if_none}
-use Rattle.zf_planes.proofs.Peeking.{group_ahead, one_first}
-use Rattle.zf_planes.proofs.Steps.{tail_run}
+use Rattle.zf_planes.{proofs.Peeking.{group_ahead, one_first}, proofs.Steps.{tail_run}}
 use Rattle.zf_planes.proofs.decoding.read_group.Goals as goal
 
 -- ---- the run lies among the bits that were looked at

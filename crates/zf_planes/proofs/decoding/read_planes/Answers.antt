@@ -1,9 +1,6 @@
-use Rattle.std.proofs.Common.{rules}
-use Rattle.std.proofs.Common.{◌≡◌, true, false, map, arith}
-use Rattle.std.proofs.lemmas.List.{length-map}
+use Rattle.std.{proofs.Common.{rules, ◌≡◌, true, false, map, arith}, proofs.lemmas.List.{length-map}}
 use Rattle.zf_bits.specs.Reader.{rest}
-use Rattle.zf_planes.specs.Decoding.{ReadsTop}
-use Rattle.zf_planes.proofs.PlanesRead.{bits_are, planes_are, spent_on}
+use Rattle.zf_planes.{specs.Decoding.{ReadsTop}, proofs.PlanesRead.{bits_are, planes_are, spent_on}}
 use Rattle.zf_planes.proofs.decoding.read_planes.Given.{Over}
 use Rattle.zf_planes.proofs.decoding.read_planes.Goals.{After-skip, in-16+in_ok-left-in-16, in-64+in_ok-left-in-64, in_default+in_ok-left-in_default}
 use Rattle.zf_planes.proofs.decoding.read_planes.Goals as goal

@@ -1,8 +1,7 @@
 -- So many zeros are read, and what reading makes of the rest is what it makes of the run behind them.
 use Rattle.std.proofs.Common.{◌≡◌, ◌-◌, ◌<◌, ◌++◌, false, replicate}
 use Rattle.zf_bits.specs.Reader.{rest}
-use Rattle.zf_planes.specs.Decoding.{run_ahead, run_bits}
-use Rattle.zf_planes.proofs.Passing.{Passes}
+use Rattle.zf_planes.{specs.Decoding.{run_ahead, run_bits}, proofs.Passing.{Passes}}
 use Rattle.zf_planes.proofs.decoding.read_run.Given as goal
 
 abbrev pub invariant-loop-zeros : goal.invariant-loop-zeros

@@ -1,15 +1,11 @@
-use Rattle.std.proofs.Common.{rules}
-use Rattle.std.proofs.Common.{◌≡◌, ℕ, ◌+◌, ◌-◌, ◌*◌, ◌%◌, ◌<◌, ◌≤◌, ◌⊎◌, max, Bool, true, false, List, [], ◌∷◌, ◌++◌, length, replicate, refl, sym, ap, ◌∙◌, arith, append_assoc}
-use Rattle.zf_spec.specs.Planes.{reach}
-use Rattle.zf_spec.specs.HeldPlanes.{digits_held, IsClearFrom}
-use Rattle.zf_spec.proofs.Reach.{reach-le}
-use Rattle.zf_spec.proofs.HeldPlanes.{length-digits_held}
+use Rattle.std.proofs.Common.{rules, ◌≡◌, ℕ, ◌+◌, ◌-◌, ◌*◌, ◌%◌, ◌<◌, ◌≤◌, ◌⊎◌, max, Bool, true, false, List, [], ◌∷◌, ◌++◌, length, replicate, refl, sym, ap, ◌∙◌, arith, append_assoc}
+use Rattle.zf_spec.{specs.Planes.{reach}, specs.HeldPlanes.{digits_held, IsClearFrom}}
+use Rattle.zf_spec.{proofs.Reach.{reach-le}, proofs.HeldPlanes.{length-digits_held}}
 use Rattle.zf_bits.specs.Reader.{Reader, rest}
 use Rattle.zf_planes.specs.Decoding.{IsWindow, Takes, ReadsTail, tail_ahead, tail_bits}
 use Rattle.zf_planes.proofs.Passing.{Passes-part, Passes-end, Passes-lacks, if_none}
-use Rattle.zf_planes.proofs.Peeking.{zero_first}
+use Rattle.zf_planes.{proofs.Peeking.{zero_first}, proofs.Steps.{tail_over, tail_end, tail_short}}
 use Rattle.zf_planes.proofs.Placing.{clear_later, held_behind, one_placed, reach_behind, reach_one}
-use Rattle.zf_planes.proofs.Steps.{tail_over, tail_end, tail_short}
 use Rattle.zf_planes.proofs.decoding.read_tail.Goals.{then-loop-n-test+else-cursor-gt0, else-loop-n-test}
 use Rattle.zf_planes.proofs.decoding.read_tail.Goals as goal
 
@@ -57,9 +53,11 @@ loop-n-preserved g c =
     record {
       passes = Passes-part (tail_bits left' (c.args.size - (n + z + 1)) s') before.passes bits' ok.taken;
       digits =
-          cc (before.digits,
-              regroup (digits_held n old) (replicate z false) (tail_ahead left' (c.args.size - (n + z + 1)) s'),
-              placed.0);
+          cc (
+            before.digits,
+            regroup (digits_held n old) (replicate z false) (tail_ahead left' (c.args.size - (n + z + 1)) s'),
+            placed.0,
+          );
       clear = placed.1;
       within = omega (arith, ok.within, before.within);
       above = omega (arith, before.above, reached, long);

@@ -1,10 +1,8 @@
 -- The digits up to rank n are read, the others are zero, and what reading makes of the rest is what it makes of the tail behind them.
 use Rattle.std.proofs.Common.{◌≡◌, ◌-◌, ◌≤◌, max, ◌++◌}
-use Rattle.zf_spec.specs.Planes.{reach}
-use Rattle.zf_spec.specs.HeldPlanes.{digits_held, IsClearFrom}
+use Rattle.zf_spec.{specs.Planes.{reach}, specs.HeldPlanes.{digits_held, IsClearFrom}}
 use Rattle.zf_bits.specs.Reader.{rest}
-use Rattle.zf_planes.specs.Decoding.{tail_ahead, tail_bits}
-use Rattle.zf_planes.proofs.Passing.{Passes}
+use Rattle.zf_planes.{specs.Decoding.{tail_ahead, tail_bits}, proofs.Passing.{Passes}}
 use Rattle.zf_planes.proofs.decoding.read_tail.Given as goal
 
 abbrev pub invariant-loop-n : goal.invariant-loop-n

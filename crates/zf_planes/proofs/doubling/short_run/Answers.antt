@@ -1,13 +1,10 @@
-use Rattle.std.proofs.Common.{rules}
-use Rattle.std.proofs.Common.{◌≡◌, ℕ, ◌-◌, ◌*◌, ◌%◌, ◌^◌, ◌<◌, ap, ◌∙◌, arith}
-use Rattle.std.proofs.lemmas.Bool.{eq-eqb}
-use Rattle.std.proofs.lemmas.Bool.Decides.{nat_tests}
+use Rattle.std.proofs.Common.{rules, ◌≡◌, ℕ, ◌-◌, ◌*◌, ◌%◌, ◌^◌, ◌<◌, ap, ◌∙◌, arith}
+use Rattle.std.{proofs.lemmas.Bool.{eq-eqb}, proofs.lemmas.Bool.Decides.{nat_tests}, proofs.Math.Nat.{mod-lt}}
 use Rattle.std.proofs.lemmas.Nat.{one_shl, pow_pos}
-use Rattle.std.proofs.Math.Nat.{mod-lt}
 use Rattle.zf_spec.proofs.Fields.{field-mod}
 use Rattle.zf_planes.proofs.Doubled.{run_of_entry, run_len, run_bits, implied}
-use Rattle.zf_planes.proofs.doubling.short_run.Goals as goal
 use Rattle.zf_planes.proofs.doubling.short_run.Goals.{then-digits-most-eq0, else-digits-most-eq0}
+use Rattle.zf_planes.proofs.doubling.short_run.Goals as goal
 
 pub overflow_sub-len : goal.overflow_sub-len
 overflow_sub-len c =

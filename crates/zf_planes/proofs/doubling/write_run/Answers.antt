@@ -1,13 +1,8 @@
-use Rattle.std.proofs.Common.{rules}
-use Rattle.std.proofs.Common.{◌≡◌, ℕ, ◌-◌, ◌/◌, ◌%◌, ◌^◌, ◌<◌, Bool, List, ◌++◌, length, sym, ap, ◌∙◌, arith, append_assoc, length-append}
+use Rattle.std.proofs.Common.{rules, ◌≡◌, ℕ, ◌-◌, ◌/◌, ◌%◌, ◌^◌, ◌<◌, Bool, List, ◌++◌, length, sym, ap, ◌∙◌, arith, append_assoc, length-append}
 use Rattle.zf_bits.specs.Writer.{Writer}
-use Rattle.zf_spec.specs.Numbers.{field}
-use Rattle.zf_spec.specs.Planes.{code_from_run}
-use Rattle.zf_spec.proofs.Fields.{length-field}
-use Rattle.zf_planes.specs.Doubled.{doubled}
-use Rattle.zf_planes.specs.Writes.{Remains}
+use Rattle.zf_spec.{specs.Numbers.{field}, specs.Planes.{code_from_run}, proofs.Fields.{length-field}}
+use Rattle.zf_planes.{specs.Doubled.{doubled}, specs.Writes.{Remains}, proofs.Doubled.{run_goes_on}}
 use Rattle.zf_planes.proofs.Budgets.{Remains-same, Remains-fits, Remains-more}
-use Rattle.zf_planes.proofs.Doubled.{run_goes_on}
 use Rattle.zf_planes.proofs.doubling.write_run.Goals as goal
 
 pub loop-digits-init : goal.loop-digits-init

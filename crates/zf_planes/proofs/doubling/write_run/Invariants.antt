@@ -1,7 +1,6 @@
 -- Behind the bits that were put together the code of a run remains to be written.
 use Rattle.std.proofs.Common.{◌^◌, ◌<◌, ◌≤◌, ◌++◌}
-use Rattle.zf_spec.specs.Numbers.{field}
-use Rattle.zf_spec.specs.Planes.{code_from_run}
+use Rattle.zf_spec.{specs.Numbers.{field}, specs.Planes.{code_from_run}}
 use Rattle.zf_planes.specs.Writes.{Remains}
 use Rattle.zf_planes.proofs.doubling.write_run.Given as goal
 

@@ -1,14 +1,10 @@
-use Rattle.std.proofs.Common.{rules}
-use Rattle.std.proofs.Common.{◌≡◌, ℕ, ◌+◌, ◌-◌, ◌*◌, ◌/◌, ◌%◌, ◌^◌, ◌<◌, ◌≤◌, min, Bool, true, List, [], ◌∷◌, ◌++◌, length, take, ap, arith, append_assoc, length-append}
+use Rattle.std.proofs.Common.{rules, ◌≡◌, ℕ, ◌+◌, ◌-◌, ◌*◌, ◌/◌, ◌%◌, ◌^◌, ◌<◌, ◌≤◌, min, Bool, true, List, [], ◌∷◌, ◌++◌, length, take, ap, arith, append_assoc, length-append}
 use Rattle.std.proofs.lemmas.Nat.{one_shl}
-use Rattle.zf_spec.specs.Numbers.{field}
-use Rattle.zf_spec.specs.Planes.{code_from_run, plane_code}
+use Rattle.zf_spec.{specs.Numbers.{field}, specs.Planes.{code_from_run, plane_code}}
 use Rattle.zf_spec.proofs.Fields.{length-field, field-mod}
-use Rattle.zf_bits.specs.Writer.{Writer, Appends}
-use Rattle.zf_bits.proofs.Appending.{Appends-same}
-use Rattle.zf_planes.specs.Writes.{Remains}
+use Rattle.zf_bits.{specs.Writer.{Writer, Appends}, proofs.Appending.{Appends-same}}
+use Rattle.zf_planes.{specs.Writes.{Remains}, proofs.Doubled.{plane_with, rest_small}}
 use Rattle.zf_planes.proofs.Budgets.{Remains-but, Remains-start, Remains-same, Remains-more}
-use Rattle.zf_planes.proofs.Doubled.{plane_with, rest_small}
 use Rattle.zf_planes.proofs.doubling.write_with.Goals as goal
 
 -- the first digits, a group bit and the run
@@ -25,8 +21,12 @@ joined : (size n v k a j b m x : ℕ) → n < size → size ≤ 64 → 0 < v / 2
     → field m x ++ code_from_run (field (size - n) (v / 2 ^ n)) ≡ field k a ++ plane_code n (field size v)
 joined size n v k a j b m x within narrow some small first second =
     let run = code_from_run (field (size - n) (v / 2 ^ n)) in
-    cc (low_digits n v (omega arith), append_assoc (field k a ++ field n v) (true ∷ []) run,
-        append_assoc (field k a) (field n v) (true ∷ run), plane_with size n v (omega arith) some small)
+    cc (
+      low_digits n v (omega arith),
+      append_assoc (field k a ++ field n v) (true ∷ []) run,
+      append_assoc (field k a) (field n v) (true ∷ run),
+      plane_with size n v (omega arith) some small,
+    )
 
 pub write_run-requires-clause-within : goal.write_run-requires-clause-within
 write_run-requires-clause-within c = rest_small c.args.size c.args.n c.args.digits (omega (arith, c.requires.in_plane)) c.requires.digits

@@ -1,7 +1,6 @@
 use Rattle.std.proofs.Common.{◌≡◌, ℕ, min, List, length, take, subst}
 use Rattle.zf_bits.specs.Writer.{Appends}
-use Rattle.zf_spec.specs.Planes.{code}
-use Rattle.zf_spec.specs.HeldPlanes.{planes_held}
+use Rattle.zf_spec.{specs.Planes.{code}, specs.HeldPlanes.{planes_held}}
 use Rattle.zf_planes.proofs.Unpacking.{arrays_as_words}
 use Rattle.zf_planes.proofs.encoding.encode.Goals as goal
 

@@ -1,11 +1,8 @@
-use Rattle.std.proofs.Common.{rules}
-use Rattle.std.proofs.Common.{◌≡◌, ℕ, ◌+◌, ◌-◌, ◌*◌, ◌≤◌, Bool, List, ◌++◌, length, take, drop, sym, ap, ◌∙◌, arith, length-drop, length-take}
+use Rattle.std.proofs.Common.{rules, ◌≡◌, ℕ, ◌+◌, ◌-◌, ◌*◌, ◌≤◌, Bool, List, ◌++◌, length, take, drop, sym, ap, ◌∙◌, arith, length-drop, length-take}
 use Rattle.std.proofs.lemmas.List.{take-append-drop, drop-drop, take_all}
-use Rattle.zf_spec.specs.HeldPlanes.{digits_held}
-use Rattle.zf_spec.proofs.HeldPlanes.{length-digits_held}
+use Rattle.zf_spec.{specs.HeldPlanes.{digits_held}, proofs.HeldPlanes.{length-digits_held}}
 use Rattle.zf_bits.proofs.Appending.{Appends-same}
-use Rattle.zf_planes.proofs.Budgets.{Remains-same, Remains-more, Remains-end}
-use Rattle.zf_planes.proofs.Digits.{field_in_word}
+use Rattle.zf_planes.{proofs.Budgets.{Remains-same, Remains-more, Remains-end}, proofs.Digits.{field_in_word}}
 use Rattle.zf_planes.proofs.encoding.write_digits.Goals as goal
 
 -- the next n digits, and those behind them

@@ -1,10 +1,7 @@
-use Rattle.std.proofs.Common.{rules}
-use Rattle.std.proofs.Common.{◌≡◌, ℕ, List, ◌-◌, ◌*◌, ◌≤◌, ap, length, take, drop, sym, arith, length-append, length-take}
-use Rattle.zf_spec.specs.Planes.{tail}
-use Rattle.zf_spec.specs.HeldPlanes.{digits_held}
+use Rattle.std.proofs.Common.{rules, ◌≡◌, ℕ, List, ◌-◌, ◌*◌, ◌≤◌, ap, length, take, drop, sym, arith, length-append, length-take}
+use Rattle.zf_spec.{specs.Planes.{tail}, specs.HeldPlanes.{digits_held}}
 use Rattle.zf_spec.proofs.HeldPlanes.{length-digits_held}
-use Rattle.zf_planes.proofs.Budgets.{take_append}
-use Rattle.zf_planes.proofs.Digits.{held_prefix}
+use Rattle.zf_planes.{proofs.Budgets.{take_append}, proofs.Digits.{held_prefix}}
 use Rattle.zf_bits.proofs.Appending.{Appends-append, Appends-same}
 use Rattle.zf_planes.proofs.encoding.write_plane.Goals as goal
 

@@ -1,20 +1,14 @@
-use Rattle.std.proofs.Common.{rules}
-use Rattle.std.proofs.Common.{◌≡◌, ℕ, ◌+◌, ◌-◌, ◌*◌, ◌<◌, ◌≤◌, ◌⊎◌, ⊎_elim, min, max, Bool, false, List, [], ◌++◌, length, map, take, drop, get_or, replicate, refl, sym, ap, ◌∙◌, arith}
+use Rattle.std.proofs.Common.{rules, ◌≡◌, ℕ, ◌+◌, ◌-◌, ◌*◌, ◌<◌, ◌≤◌, ◌⊎◌, ⊎_elim, min, max, Bool, false, List, [], ◌++◌, length, map, take, drop, get_or, replicate, refl, sym, ap, ◌∙◌, arith}
 use Rattle.std.proofs.lemmas.List.{append-nil, drop_all, length-map, take-take, take-append-drop, length-replicate}
-use Rattle.zf_spec.specs.Planes.{code, code_from, plane_code, reach}
-use Rattle.zf_bits.specs.Writer.{Writer, Appends}
-use Rattle.zf_spec.specs.Numbers.{field}
-use Rattle.zf_spec.specs.HeldPlanes.{planes_held, digits_held}
-use Rattle.zf_planes.specs.Writes.{Remains}
+use Rattle.zf_spec.{specs.Planes.{code, code_from, plane_code, reach}, specs.Numbers.{field}}
+use Rattle.zf_spec.{specs.HeldPlanes.{planes_held, digits_held}, proofs.Fields.{field-zero}}
+use Rattle.zf_bits.{specs.Writer.{Writer, Appends}, proofs.Appending.{Appends-same}}
+use Rattle.zf_planes.{specs.Writes.{Remains}, proofs.Lengths.{length-code_words-le}}
 use Rattle.zf_planes.proofs.Budgets.{Remains-start, Remains-same, Remains-fits, Remains-more, Remains-end}
-use Rattle.zf_planes.proofs.Lengths.{length-code_words-le}
-use Rattle.zf_spec.proofs.Fields.{field-zero}
-use Rattle.zf_bits.proofs.Appending.{Appends-same}
-use Rattle.zf_planes.proofs.Zeros.{take_zeros, zero_code}
+use Rattle.zf_planes.{proofs.Zeros.{take_zeros, zero_code}, proofs.encoding.write_planes_below.Given.{Over}}
 use Rattle.zf_planes.proofs.Unpacking.{length-top_held, code_next, each_long}
-use Rattle.zf_planes.proofs.encoding.write_planes_below.Given.{Over}
-use Rattle.zf_planes.proofs.encoding.write_planes_below.Goals as goal
 use Rattle.zf_planes.proofs.encoding.write_planes_below.Goals.{After-write_reserved, then-loop-i-test+else-left-gt0, else-loop-i-test}
+use Rattle.zf_planes.proofs.encoding.write_planes_below.Goals as goal
 
 -- what remains begins with the code of the next plane
 next_plane : {A : Type 0} {old now : Writer} {budget left : ℕ} {whole : List Bool} (words : A → List ℕ) (above prec size i : ℕ) (planes : List A) (plane : A)

@@ -1,7 +1,6 @@
 -- The code of the planes from the i-th on remains to be written.
 use Rattle.std.proofs.Common.{map, ◌-◌, ◌≤◌, take, drop}
-use Rattle.zf_spec.specs.Planes.{code, code_from}
-use Rattle.zf_spec.specs.HeldPlanes.{planes_held}
+use Rattle.zf_spec.{specs.Planes.{code, code_from}, specs.HeldPlanes.{planes_held}}
 use Rattle.zf_planes.specs.Writes.{Remains}
 use Rattle.zf_planes.proofs.encoding.write_planes_below.Given as goal
 

@@ -1,19 +1,13 @@
-use Rattle.std.proofs.Common.{rules}
-use Rattle.std.proofs.Common.{◌≡◌, ℕ, zero, suc, ◌+◌, ◌-◌, ◌*◌, ◌/◌, ◌%◌, ◌^◌, ◌<◌, ◌≤◌, min, Bool, true, false, List, [], ◌∷◌, ◌++◌, length, take, drop, replicate, get_or, refl, sym, ap, ◌∙◌, arith}
-use Rattle.std.specs.Int.{w64, trailing_zeros}
-use Rattle.std.specs.Int.Count.{trailing_of_zero}
+use Rattle.std.proofs.Common.{rules, ◌≡◌, ℕ, zero, suc, ◌+◌, ◌-◌, ◌*◌, ◌/◌, ◌%◌, ◌^◌, ◌<◌, ◌≤◌, min, Bool, true, false, List, [], ◌∷◌, ◌++◌, length, take, drop, replicate, get_or, refl, sym, ap, ◌∙◌, arith}
+use Rattle.std.{specs.Int.{w64, trailing_zeros}, specs.Int.Count.{trailing_of_zero}}
 use Rattle.std.proofs.lemmas.List.{length-drop, length-take, drop_all}
-use Rattle.zf_spec.specs.Planes.{tail, has_one, reach}
-use Rattle.zf_spec.specs.HeldPlanes.{digits_held}
+use Rattle.zf_spec.{specs.Planes.{tail, has_one, reach}, specs.HeldPlanes.{digits_held}}
 use Rattle.zf_spec.proofs.HeldPlanes.{length-digits_held}
-use Rattle.zf_bits.specs.Writer.{Writer, Appends}
-use Rattle.zf_bits.proofs.Appending.{Appends-same}
-use Rattle.zf_planes.specs.Writes.{Remains}
+use Rattle.zf_bits.{specs.Writer.{Writer, Appends}, proofs.Appending.{Appends-same}}
+use Rattle.zf_planes.{specs.Writes.{Remains}, proofs.Digits.{next_one, split_at_next, held_part}}
 use Rattle.zf_planes.proofs.Budgets.{Remains-start, Remains-same, Remains-fits, Remains-more, Remains-bit, Remains-end}
-use Rattle.zf_planes.proofs.Digits.{next_one, split_at_next, held_part}
 use Rattle.zf_planes.proofs.Runs.{tail_none, tail_run_at, tail_some, has_one-drop, has_one-drop_none}
-use Rattle.zf_planes.proofs.Zeros.{run_of_plane}
-use Rattle.zf_planes.proofs.encoding.write_tail.Given.{Over}
+use Rattle.zf_planes.{proofs.Zeros.{run_of_plane}, proofs.encoding.write_tail.Given.{Over}}
 use Rattle.zf_planes.proofs.encoding.write_tail.Goals as goal
 
 -- a plane has as many digits as its size

@@ -1,7 +1,6 @@
 -- The tail of the digits from n on remains to be written.
 use Rattle.std.proofs.Common.{◌-◌, ◌≤◌, drop}
-use Rattle.zf_spec.specs.Planes.{tail}
-use Rattle.zf_spec.specs.HeldPlanes.{digits_held}
+use Rattle.zf_spec.{specs.Planes.{tail}, specs.HeldPlanes.{digits_held}}
 use Rattle.zf_planes.specs.Writes.{Remains}
 use Rattle.zf_planes.proofs.encoding.write_tail.Given as goal
 

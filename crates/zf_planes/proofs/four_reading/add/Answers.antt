@@ -1,5 +1,4 @@
-use Rattle.std.proofs.Common.{rules}
-use Rattle.std.proofs.Common.{arith}
+use Rattle.std.proofs.Common.{rules, arith}
 use Rattle.zf_planes.proofs.Lanes.{lanes_put}
 use Rattle.zf_planes.proofs.four_reading.add.Goals as goal
 

@@ -1,12 +1,9 @@
-use Rattle.std.proofs.Common.{rules}
-use Rattle.std.proofs.Common.{◌≡◌, ℕ, ◌+◌, ◌-◌, ◌⊎◌, inl, inr, false, List, [], ◌∷◌, ◌++◌, replicate, refl, subst, ◌∙◌, arith}
+use Rattle.std.proofs.Common.{rules, ◌≡◌, ℕ, ◌+◌, ◌-◌, ◌⊎◌, inl, inr, false, List, [], ◌∷◌, ◌++◌, replicate, refl, subst, ◌∙◌, arith}
 use Rattle.zf_bits.specs.Reader.{Reader, rest}
-use Rattle.zf_planes.specs.Decoding.{planes_ahead, planes_bits, IsSpent}
-use Rattle.zf_planes.specs.Lanes.{gathered, ReadsPlanes}
+use Rattle.zf_planes.{specs.Decoding.{planes_ahead, planes_bits, IsSpent}, proofs.LastRank.{three_through}}
+use Rattle.zf_planes.{specs.Lanes.{gathered, ReadsPlanes}, proofs.Passing.{Passes-lacks, if_none}}
 use Rattle.zf_planes.proofs.Lanes.{gathered_words, low_planes-zeros, four_below, no_lanes_below}
 use Rattle.zf_planes.proofs.LanesAhead.{FoursRead, FoursRead-more, gathered-more}
-use Rattle.zf_planes.proofs.LastRank.{three_through}
-use Rattle.zf_planes.proofs.Passing.{Passes-lacks, if_none}
 use Rattle.zf_planes.proofs.PlanesAhead.{planes_over, zero_planes}
 use Rattle.zf_planes.proofs.four_reading.read_gathered.Goals as goal
 

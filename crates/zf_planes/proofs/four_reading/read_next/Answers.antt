@@ -1,7 +1,5 @@
-use Rattle.std.proofs.Common.{rules}
-use Rattle.std.proofs.lemmas.Option.{IfSome_then}
-use Rattle.zf_planes.proofs.Passing.{on_none}
-use Rattle.zf_planes.proofs.LastRank.{ahead_of_three, three_for_four}
+use Rattle.std.{proofs.Common.{rules}, proofs.lemmas.Option.{IfSome_then}}
+use Rattle.zf_planes.{proofs.Passing.{on_none}, proofs.LastRank.{ahead_of_three, three_for_four}}
 use Rattle.zf_planes.proofs.four_reading.read_next.Goals as goal
 
 pub returns-else-n-lt3-clause-short : goal.returns-else-n-lt3-clause-short

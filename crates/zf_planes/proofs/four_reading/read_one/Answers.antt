@@ -1,5 +1,4 @@
-use Rattle.std.proofs.Common.{rules}
-use Rattle.std.proofs.Common.{arith}
+use Rattle.std.proofs.Common.{rules, arith}
 use Rattle.zf_planes.proofs.PlanesRead.{known_plane}
 use Rattle.zf_planes.proofs.four_reading.read_one.Goals as goal
 

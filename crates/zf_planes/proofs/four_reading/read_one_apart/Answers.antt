@@ -1,6 +1,5 @@
 use Rattle.std.proofs.Common.{rules}
-use Rattle.zf_spec.proofs.HeldPlanes.{length-digits_held}
-use Rattle.zf_spec.proofs.Reach.{reach-le}
+use Rattle.zf_spec.{proofs.HeldPlanes.{length-digits_held}, proofs.Reach.{reach-le}}
 use Rattle.zf_planes.proofs.Gathering.{held_4}
 use Rattle.zf_planes.proofs.four_reading.read_one_apart.Goals as goal
 

@@ -1,8 +1,5 @@
-use Rattle.std.proofs.Common.{rules}
-use Rattle.std.proofs.Common.{◌≡◌, ℕ, suc, ◌-◌, sym, subst, arith}
-use Rattle.zf_planes.specs.Lanes.{ReadsSome}
-use Rattle.zf_planes.proofs.Passing.{if_none}
-use Rattle.zf_planes.proofs.PlanesAhead.{plane_bits-le}
+use Rattle.std.proofs.Common.{rules, ◌≡◌, ℕ, suc, ◌-◌, sym, subst, arith}
+use Rattle.zf_planes.{specs.Lanes.{ReadsSome}, proofs.Passing.{if_none}, proofs.PlanesAhead.{plane_bits-le}}
 use Rattle.zf_planes.proofs.LanesAhead.{SomeRead, at_end, in_sight, one_read, reach_of_one}
 use Rattle.zf_planes.proofs.four_reading.read_some.Goals as goal
 

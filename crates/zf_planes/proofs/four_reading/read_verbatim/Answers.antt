@@ -1,8 +1,5 @@
-use Rattle.std.proofs.Common.{rules}
-use Rattle.std.proofs.Common.{arith}
-use Rattle.zf_planes.specs.Fours.{string_planes}
-use Rattle.zf_planes.proofs.Passing.{if_none}
-use Rattle.zf_planes.proofs.LastRank.{own_bits}
+use Rattle.std.proofs.Common.{rules, arith}
+use Rattle.zf_planes.{specs.Fours.{string_planes}, proofs.Passing.{if_none}, proofs.LastRank.{own_bits}}
 use Rattle.zf_planes.proofs.LanesAhead.{word_read}
 use Rattle.zf_planes.proofs.four_reading.read_verbatim.Goals as goal
 

@@ -1,6 +1,5 @@
 use Rattle.std.proofs.Common.{◌≡◌, ◌+◌, ◌*◌, ◌/◌, ◌%◌, get_or, ap, ◌∙◌, arith}
-use Rattle.zf_planes.specs.declared.entries.TheConstants.{PAIRS}
-use Rattle.zf_planes.proofs.Tables.{IsPair, pair_of_entry}
+use Rattle.zf_planes.{specs.declared.entries.TheConstants.{PAIRS}, proofs.Tables.{IsPair, pair_of_entry}}
 use Rattle.zf_planes.proofs.four_writing.code_of_two.Goals.{After-from-2}
 use Rattle.zf_planes.proofs.four_writing.code_of_two.Goals as goal
 

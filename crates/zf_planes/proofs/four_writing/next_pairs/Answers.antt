@@ -1,8 +1,6 @@
-use Rattle.std.proofs.Common.{rules}
-use Rattle.std.proofs.Common.{arith}
+use Rattle.std.proofs.Common.{rules, arith}
 use Rattle.zf_spec.specs.Numbers.{field}
-use Rattle.zf_planes.specs.Fours.{string_planes}
-use Rattle.zf_planes.proofs.Strings.{GoesOn, GoesOn-more, pair_of_string}
+use Rattle.zf_planes.{specs.Fours.{string_planes}, proofs.Strings.{GoesOn, GoesOn-more, pair_of_string}}
 use Rattle.zf_planes.proofs.four_writing.next_pairs.Goals as goal
 
 pub loop-above-preserved : goal.loop-above-preserved

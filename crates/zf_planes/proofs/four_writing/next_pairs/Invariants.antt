@@ -1,7 +1,6 @@
 -- The code of the first planes is the bits that were put together, and the others are the first k of the rest.
 use Rattle.std.proofs.Common.{◌≡◌, ◌^◌, ◌<◌, ◌≤◌, ◌++◌, max}
-use Rattle.zf_spec.specs.Numbers.{field}
-use Rattle.zf_spec.specs.Planes.{code_from, reach_of_all}
+use Rattle.zf_spec.{specs.Numbers.{field}, specs.Planes.{code_from, reach_of_all}}
 use Rattle.zf_planes.specs.Fours.{string_planes}
 use Rattle.zf_planes.proofs.four_writing.next_pairs.Given as goal
 

@@ -1,7 +1,5 @@
 use Rattle.std.proofs.Common.{arith}
-use Rattle.zf_planes.specs.Spread.{top_digit}
-use Rattle.zf_planes.proofs.Lone.{pairs-lt}
-use Rattle.zf_planes.proofs.TopPlanes.{spread_of_bytes}
+use Rattle.zf_planes.{specs.Spread.{top_digit}, proofs.Lone.{pairs-lt}, proofs.TopPlanes.{spread_of_bytes}}
 use Rattle.zf_planes.proofs.four_writing.pairs_of_top.Goals as goal
 
 pub returns-clause-digits : goal.returns-clause-digits

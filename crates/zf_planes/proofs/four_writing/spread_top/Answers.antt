@@ -1,7 +1,5 @@
-use Rattle.std.proofs.Common.{rules}
-use Rattle.std.proofs.Common.{arith}
-use Rattle.zf_planes.specs.Spread.{top_digit}
-use Rattle.zf_planes.proofs.TopPlanes.{spread_of_entries, spread-lt}
+use Rattle.std.proofs.Common.{rules, arith}
+use Rattle.zf_planes.{specs.Spread.{top_digit}, proofs.TopPlanes.{spread_of_entries, spread-lt}}
 use Rattle.zf_planes.proofs.four_writing.spread_top.Goals as goal
 
 pub returns-clause-digits : goal.returns-clause-digits

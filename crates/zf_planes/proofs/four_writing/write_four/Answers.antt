@@ -1,9 +1,7 @@
 use Rattle.std.proofs.Common.{◌≡◌, ℕ, ◌+◌, ◌-◌, ◌*◌, ◌≤◌, min, Bool, false, List, [], ◌++◌, length, map, take, replicate, sym, ap, ◌∙◌, arith, append-nil, length-append}
-use Rattle.zf_spec.specs.Numbers.{field}
-use Rattle.zf_spec.specs.Planes.{planes_of, code, code_from}
+use Rattle.zf_spec.{specs.Numbers.{field}, specs.Planes.{planes_of, code, code_from}}
 use Rattle.zf_bits.specs.Writer.{Writer, Appends}
-use Rattle.zf_planes.specs.Spread.{top_planes}
-use Rattle.zf_planes.specs.Writes.{Remains}
+use Rattle.zf_planes.{specs.Spread.{top_planes}, specs.Writes.{Remains}}
 use Rattle.zf_planes.proofs.Budgets.{Remains-same, Remains-fits, Remains-more, Remains-end}
 use Rattle.zf_planes.proofs.TopPlanes.{below, no_top_planes, zeros_written}
 use Rattle.zf_planes.proofs.four_writing.write_four.Goals as goal

@@ -1,11 +1,7 @@
-use Rattle.std.proofs.Common.{rules}
-use Rattle.std.proofs.Common.{◌≡◌, ℕ, ◌-◌, ◌*◌, ◌≤◌, Bool, List, [], ◌++◌, length, sym, ap, ◌∙◌, arith, append-nil}
-use Rattle.zf_spec.specs.Numbers.{field}
-use Rattle.zf_spec.specs.Planes.{code_from}
-use Rattle.zf_spec.proofs.Fields.{length-field}
+use Rattle.std.proofs.Common.{rules, ◌≡◌, ℕ, ◌-◌, ◌*◌, ◌≤◌, Bool, List, [], ◌++◌, length, sym, ap, ◌∙◌, arith, append-nil}
+use Rattle.zf_spec.{specs.Numbers.{field}, specs.Planes.{code_from}, proofs.Fields.{length-field}}
 use Rattle.zf_bits.specs.Writer.{Writer}
-use Rattle.zf_planes.specs.Fours.{string_planes}
-use Rattle.zf_planes.specs.Writes.{Remains}
+use Rattle.zf_planes.{specs.Fours.{string_planes}, specs.Writes.{Remains}}
 use Rattle.zf_planes.proofs.Budgets.{Remains-same, Remains-fits, Remains-more, Remains-end}
 use Rattle.zf_planes.proofs.Strings.{next_of_string, own_string, string_end, Remains-none}
 use Rattle.zf_planes.proofs.four_writing.write_rest.Goals.{then-loop-planes-test+then-left-gt0+else-above-lt3, then-loop-planes-test+else-left-gt0, else-loop-planes-test}

@@ -1,8 +1,7 @@
 -- The code of the planes of the string that are left remains to be written.
 use Rattle.std.proofs.Common.{◌≡◌, ◌≤◌, max}
 use Rattle.zf_spec.specs.Planes.{code_from, reach_of_all}
-use Rattle.zf_planes.specs.Fours.{string_planes}
-use Rattle.zf_planes.specs.Writes.{Remains}
+use Rattle.zf_planes.{specs.Fours.{string_planes}, specs.Writes.{Remains}}
 use Rattle.zf_planes.proofs.four_writing.write_rest.Given as goal
 
 abbrev pub invariant-loop-planes : goal.invariant-loop-planes

@@ -1,11 +1,7 @@
-use Rattle.std.proofs.Common.{rules}
-use Rattle.std.proofs.Common.{◌≡◌, ℕ, ◌-◌, ◌≤◌, min, Bool, List, ◌++◌, take, [], length, sym, arith, append-nil}
-use Rattle.zf_spec.specs.Numbers.{field}
-use Rattle.zf_spec.specs.Planes.{code_from}
-use Rattle.zf_spec.proofs.Fields.{length-field}
+use Rattle.std.proofs.Common.{rules, ◌≡◌, ℕ, ◌-◌, ◌≤◌, min, Bool, List, ◌++◌, take, [], length, sym, arith, append-nil}
+use Rattle.zf_spec.{specs.Numbers.{field}, specs.Planes.{code_from}, proofs.Fields.{length-field}}
 use Rattle.zf_bits.specs.Writer.{Writer, Appends}
-use Rattle.zf_planes.specs.Fours.{string_planes}
-use Rattle.zf_planes.specs.Writes.{Remains}
+use Rattle.zf_planes.{specs.Fours.{string_planes}, specs.Writes.{Remains}}
 use Rattle.zf_planes.proofs.Budgets.{Remains-start, Remains-same, Remains-fits, Remains-more, Remains-end}
 use Rattle.zf_planes.proofs.four_writing.write_string.Goals as goal
 

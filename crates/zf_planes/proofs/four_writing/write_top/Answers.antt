@@ -1,17 +1,12 @@
-use Rattle.std.proofs.Common.{rules}
-use Rattle.std.proofs.Common.{◌≡◌, ℕ, ◌-◌, ◌<◌, ◌≤◌, min, max, Bool, true, List, ◌∷◌, ◌++◌, length, map, get_or, sym, ap, ◌∙◌, arith}
-use Rattle.zf_spec.specs.Numbers.{field}
-use Rattle.zf_spec.specs.Grid.{upto}
-use Rattle.zf_spec.proofs.Fields.{length-field}
+use Rattle.std.proofs.Common.{rules, ◌≡◌, ℕ, ◌-◌, ◌<◌, ◌≤◌, min, max, Bool, true, List, ◌∷◌, ◌++◌, length, map, get_or, sym, ap, ◌∙◌, arith}
+use Rattle.zf_spec.{specs.Numbers.{field}, specs.Grid.{upto}, proofs.Fields.{length-field}}
 use Rattle.zf_spec.specs.Planes.{code_from, reach_of_all}
 use Rattle.zf_bits.specs.Writer.{Writer}
-use Rattle.zf_planes.specs.Fours.{string_planes}
+use Rattle.zf_planes.{specs.Fours.{string_planes}, specs.Writes.{Remains}, proofs.Lone.{lone_first}}
 use Rattle.zf_planes.specs.Spread.{top_digit, top_planes, lone_planes, lone_code}
-use Rattle.zf_planes.specs.Writes.{Remains}
 use Rattle.zf_planes.proofs.Budgets.{Remains-start, Remains-same, Remains-fits, Remains-more, Remains-end}
 use Rattle.zf_planes.proofs.Strings.{code_from-append, reach_of_string-le, Remains-above}
 use Rattle.zf_planes.proofs.TopPlanes.{below, string-split, top_planes-sizes, no_top_planes}
-use Rattle.zf_planes.proofs.Lone.{lone_first}
 use Rattle.zf_planes.proofs.four_writing.write_top.Goals.{then-lone-gt0, else-lone-gt0}
 use Rattle.zf_planes.proofs.four_writing.write_top.Goals as goal
 

@@ -1,8 +1,7 @@
 -- The code of the top planes of the words that are left remains to be written.
 use Rattle.std.proofs.Common.{◌≤◌}
 use Rattle.zf_spec.specs.Planes.{code_from}
-use Rattle.zf_planes.specs.Spread.{top_planes}
-use Rattle.zf_planes.specs.Writes.{Remains}
+use Rattle.zf_planes.{specs.Spread.{top_planes}, specs.Writes.{Remains}}
 use Rattle.zf_planes.proofs.four_writing.write_top.Given as goal
 
 abbrev pub invariant-loop-planes : goal.invariant-loop-planes

@@ -1,8 +1,6 @@
-use Rattle.std.proofs.Common.{rules}
-use Rattle.std.proofs.Common.{◌≡◌, ℕ, ◌+◌, ◌*◌, ◌/◌, ◌%◌, ◌^◌, ◌<◌, refl, ◌∙◌, arith}
+use Rattle.std.proofs.Common.{rules, ◌≡◌, ℕ, ◌+◌, ◌*◌, ◌/◌, ◌%◌, ◌^◌, ◌<◌, refl, ◌∙◌, arith}
 use Rattle.zf_spec.proofs.Fields.{field-mod}
-use Rattle.zf_planes.specs.Fours.{string_planes}
-use Rattle.zf_planes.specs.Lanes.{lanes_in, AreBelow}
+use Rattle.zf_planes.{specs.Fours.{string_planes}, specs.Lanes.{lanes_in, AreBelow}}
 use Rattle.zf_planes.proofs.Lanes.{IsLonger, one_behind}
 use Rattle.zf_planes.proofs.in_lanes.lanes_of_16.Goals as goal
 

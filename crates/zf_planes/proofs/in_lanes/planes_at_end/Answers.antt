@@ -1,8 +1,5 @@
-use Rattle.std.proofs.Common.{rules}
-use Rattle.std.proofs.Common.{◌≡◌, ℕ, ◌*◌, ◌/◌, ◌%◌, ◌^◌, ◌<◌, min, cond, sym, ap, ◌∙◌, arith}
-use Rattle.std.proofs.Math.Nat.{mod-lt}
-use Rattle.std.proofs.lemmas.Nat.{one_shl, pow_pos}
-use Rattle.std.proofs.lemmas.Bool.{lt-ltb}
+use Rattle.std.proofs.Common.{rules, ◌≡◌, ℕ, ◌*◌, ◌/◌, ◌%◌, ◌^◌, ◌<◌, min, cond, sym, ap, ◌∙◌, arith}
+use Rattle.std.{proofs.Math.Nat.{mod-lt}, proofs.lemmas.Nat.{one_shl, pow_pos}, proofs.lemmas.Bool.{lt-ltb}}
 use Rattle.std.proofs.lemmas.Bool.Decides.{nat_tests}
 use Rattle.zf_spec.proofs.Fields.{field-mod}
 use Rattle.zf_planes.specs.Lanes.{lanes_apart, AreAtEnd}

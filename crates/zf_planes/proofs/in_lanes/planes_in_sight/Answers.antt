@@ -1,6 +1,5 @@
 use Rattle.std.proofs.Common.{◌/◌, ◌%◌, arith}
-use Rattle.zf_planes.specs.Lanes.{lanes_apart, AreInSight}
-use Rattle.zf_planes.proofs.LaneTables.{lanes_of_entry}
+use Rattle.zf_planes.{specs.Lanes.{lanes_apart, AreInSight}, proofs.LaneTables.{lanes_of_entry}}
 use Rattle.zf_planes.proofs.in_lanes.planes_in_sight.Goals.{After-from-2}
 use Rattle.zf_planes.proofs.in_lanes.planes_in_sight.Goals as goal
 

@@ -1,6 +1,5 @@
 use Rattle.std.proofs.Common.{◌≡◌, ℕ, List, length, take, subst}
-use Rattle.zf_spec.specs.Planes.{code}
-use Rattle.zf_spec.specs.HeldPlanes.{planes_held}
+use Rattle.zf_spec.{specs.Planes.{code}, specs.HeldPlanes.{planes_held}}
 use Rattle.zf_planes.proofs.Unpacking.{arrays_as_words}
 use Rattle.zf_planes.proofs.measuring.code_len.Goals as goal
 

@@ -1,8 +1,6 @@
-use Rattle.std.proofs.Common.{rules}
-use Rattle.std.proofs.Common.{◌≤◌, drop, arith, length-drop}
+use Rattle.std.proofs.Common.{rules, ◌≤◌, drop, arith, length-drop}
 use Rattle.std.proofs.lemmas.List.Sums.{count_by-le-length}
-use Rattle.zf_spec.specs.HeldPlanes.{digits_held}
-use Rattle.zf_spec.proofs.HeldPlanes.{length-digits_held}
+use Rattle.zf_spec.{specs.HeldPlanes.{digits_held}, proofs.HeldPlanes.{length-digits_held}}
 use Rattle.zf_spec.proofs.Reach.{reach-le}
 use Rattle.zf_planes.proofs.Lengths.{length-tail, length-plane_code, reach-drop}
 use Rattle.zf_planes.proofs.measuring.plane_len.Given.{Over}

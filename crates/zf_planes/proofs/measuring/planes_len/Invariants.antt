@@ -1,7 +1,6 @@
 -- With the length of the code from the i-th plane on, the sum is the length of the whole code.
 use Rattle.std.proofs.Common.{◌≡◌, ◌+◌, ◌≤◌, length, map, take, drop}
-use Rattle.zf_spec.specs.Planes.{code, code_from}
-use Rattle.zf_spec.specs.HeldPlanes.{planes_held}
+use Rattle.zf_spec.{specs.Planes.{code, code_from}, specs.HeldPlanes.{planes_held}}
 use Rattle.zf_planes.proofs.measuring.planes_len.Given as goal
 
 abbrev pub invariant-loop-i : goal.invariant-loop-i

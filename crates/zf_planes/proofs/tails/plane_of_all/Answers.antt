@@ -1,5 +1,4 @@
-use Rattle.zf_planes.proofs.Digits.{masked}
-use Rattle.zf_planes.proofs.WordPlanes.{read_all}
+use Rattle.zf_planes.{proofs.Digits.{masked}, proofs.WordPlanes.{read_all}}
 use Rattle.zf_planes.proofs.tails.plane_of_all.Goals as goal
 
 pub returns-clause-read : goal.returns-clause-read

@@ -1,5 +1,4 @@
-use Rattle.std.proofs.Common.{◌-◌, ◌/◌, ◌%◌, ◌^◌, arith}
-use Rattle.std.proofs.lemmas.Nat.{one_shl}
+use Rattle.std.{proofs.Common.{◌-◌, ◌/◌, ◌%◌, ◌^◌, arith}, proofs.lemmas.Nat.{one_shl}}
 use Rattle.zf_planes.proofs.WordPlanes.{IsEntry, tail_of_entry, read_with}
 use Rattle.zf_planes.proofs.tails.plane_with.Goals as goal
 

@@ -1,9 +1,7 @@
-use Rattle.std.proofs.Common.{rules}
-use Rattle.std.proofs.Common.{◌≡◌, ℕ, ◌*◌, ◌<◌, ◌≤◌, ◌⊎◌, ⊎_elim, inl, inr, length, map, ◌∙◌, arith, length-set}
-use Rattle.zf_spec.specs.HeldPlanes.{digits_held}
-use Rattle.zf_spec.proofs.HeldPlanes.{length-digits_held}
-use Rattle.zf_spec.proofs.Reach.{reach-le}
+use Rattle.std.proofs.Common.{rules, ◌≡◌, ℕ, ◌*◌, ◌<◌, ◌≤◌, ◌⊎◌, ⊎_elim, inl, inr, length, map, ◌∙◌, arith, length-set}
 use Rattle.std.proofs.lemmas.List.{length-map}
+use Rattle.zf_spec.{specs.HeldPlanes.{digits_held}, proofs.HeldPlanes.{length-digits_held}}
+use Rattle.zf_spec.proofs.Reach.{reach-le}
 use Rattle.zf_planes.proofs.Passing.{if_none}
 use Rattle.zf_planes.proofs.PlanesRead.{AreRead-start, AreRead-more, AreRead-ranks, AreRead-lacks, AreRead-over}
 use Rattle.zf_planes.proofs.word_reading.read_by_kinds.Goals as goal

@@ -1,13 +1,9 @@
-use Rattle.std.proofs.Common.{rules}
-use Rattle.zf_planes.proofs.Passing.{Takes-rest}
-use Rattle.std.proofs.Common.{◌≡◌, ℕ, suc, ◌+◌, ◌-◌, ◌<◌, ◌≤◌, length, map, drop, ap, ◌∙◌, arith, length-set}
+use Rattle.std.proofs.Common.{rules, ◌≡◌, ℕ, suc, ◌+◌, ◌-◌, ◌<◌, ◌≤◌, length, map, drop, ap, ◌∙◌, arith, length-set}
 use Rattle.std.proofs.lemmas.List.{length-map, drop-drop}
-use Rattle.zf_bits.specs.Reader.{rest}
-use Rattle.zf_planes.specs.Decoding.{Takes}
-use Rattle.zf_planes.proofs.Gathering.{written}
+use Rattle.zf_planes.{proofs.Passing.{Takes-rest}, specs.Decoding.{Takes}, proofs.Gathering.{written}}
 use Rattle.zf_planes.proofs.Peeking.{window_long, window_passed, Takes-skip}
-use Rattle.zf_planes.proofs.PlanesRead.{next_known, one_more}
-use Rattle.zf_planes.proofs.Unpacking.{top_behind, set_words}
+use Rattle.zf_planes.{proofs.PlanesRead.{next_known, one_more}, proofs.Unpacking.{top_behind, set_words}}
+use Rattle.zf_bits.specs.Reader.{rest}
 use Rattle.zf_planes.proofs.word_reading.read_same.Goals as goal
 
 pub loop-i-preserved : goal.loop-i-preserved

@@ -1,11 +1,8 @@
 use Rattle.std.proofs.Common.{◌≡◌, max, Bool, List, sym, ap, ◌∙◌, arith}
-use Rattle.zf_spec.specs.Numbers.{field}
-use Rattle.zf_spec.specs.Planes.{reach}
+use Rattle.zf_spec.{specs.Numbers.{field}, specs.Planes.{reach}}
 use Rattle.zf_bits.specs.Reader.{rest}
-use Rattle.zf_planes.specs.Decoding.{plane_ahead, plane_bits}
-use Rattle.zf_planes.proofs.Gathering.{Written, written}
-use Rattle.zf_planes.proofs.PlanesRead.{known_plane}
-use Rattle.zf_planes.proofs.word_reading.take_plane.Given.{Over}
+use Rattle.zf_planes.{specs.Decoding.{plane_ahead, plane_bits}, proofs.Gathering.{Written, written}}
+use Rattle.zf_planes.{proofs.PlanesRead.{known_plane}, proofs.word_reading.take_plane.Given.{Over}}
 use Rattle.zf_planes.proofs.word_reading.take_plane.Goals as goal
 
 -- the bits that come next are the code of these digits

@@ -1,11 +1,7 @@
-use Rattle.std.proofs.Common.{rules}
-use Rattle.std.proofs.Common.{◌≡◌, ◌+◌, ◌<◌, Bool, List, ◌++◌, map, take, drop, sym, ap, ◌∙◌, arith, append_assoc}
+use Rattle.std.proofs.Common.{rules, ◌≡◌, ◌+◌, ◌<◌, Bool, List, ◌++◌, map, take, drop, sym, ap, ◌∙◌, arith, append_assoc}
 use Rattle.std.proofs.lemmas.Nat.{le_or_l, le_or_r}
-use Rattle.zf_spec.specs.Numbers.{field}
-use Rattle.zf_spec.specs.Planes.{code_from}
-use Rattle.zf_spec.specs.HeldPlanes.{planes_held}
-use Rattle.zf_planes.proofs.Unpacking.{code_next}
-use Rattle.zf_planes.proofs.Narrow.{narrow_two}
+use Rattle.zf_spec.{specs.Numbers.{field}, specs.Planes.{code_from}, specs.HeldPlanes.{planes_held}}
+use Rattle.zf_planes.{proofs.Unpacking.{code_next}, proofs.Narrow.{narrow_two}}
 use Rattle.zf_planes.proofs.word_writing.narrow_planes.Goals as goal
 
 pub overflow_mul-second : goal.overflow_mul-second
@@ -48,11 +44,19 @@ loop-digits-preserved g c =
     let three : c.loop-i.above ≡ 3 = c.loop-digits-test.true in
     let back : code_from 3 (drop c.loop-digits.i (take c.args.prec (planes_held size (map words c.args.planes.now)))) ≡ field more.result.len more.result.bits ++ code_from 3 rest =
     cc (
-        code_next words 3 c.args.prec size c.loop-digits.i c.args.planes.now plane c.index-planes-planes-in-loop-digits.is c.if-i-prec.true c.requires.planes,
-        c.first_word-digits.ensures.digits, more.ensures.code, more.ensures.same) in
+      code_next words 3 c.args.prec size c.loop-digits.i c.args.planes.now plane c.index-planes-planes-in-loop-digits.is c.if-i-prec.true c.requires.planes,
+      c.first_word-digits.ensures.digits,
+      more.ensures.code,
+      more.ensures.same,
+    ) in
     record {
-      code = cc (c.loop-digits.invariant.code, back, three, joined.ensures.bits,
-          append_assoc (field part.len part.bits) (field more.result.len more.result.bits) (code_from 3 rest));
+      code = cc (
+        c.loop-digits.invariant.code,
+        back,
+        three,
+        joined.ensures.bits,
+        append_assoc (field part.len part.bits) (field more.result.len more.result.bits) (code_from 3 rest),
+      );
       place = omega (arith, c.if-i-prec.true);
       small = joined.ensures.small more.ensures.small;
       in_word = omega (arith, joined.ensures.len, c.if-part-le60.true, more.ensures.shorter c.requires.some);

@@ -1,8 +1,6 @@
 -- The code of the planes before the i-th is the bits that were put together.
 use Rattle.std.proofs.Common.{◌≡◌, map, ◌-◌, ◌^◌, ◌<◌, ◌≤◌, ◌++◌, take, drop}
-use Rattle.zf_spec.specs.Numbers.{field}
-use Rattle.zf_spec.specs.Planes.{code_from}
-use Rattle.zf_spec.specs.HeldPlanes.{planes_held}
+use Rattle.zf_spec.{specs.Numbers.{field}, specs.Planes.{code_from}, specs.HeldPlanes.{planes_held}}
 use Rattle.zf_planes.proofs.word_writing.narrow_planes.Given as goal
 
 abbrev pub invariant-loop-i : goal.invariant-loop-i

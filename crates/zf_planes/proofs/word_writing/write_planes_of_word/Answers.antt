@@ -1,20 +1,15 @@
-use Rattle.std.proofs.Common.{rules}
-use Rattle.std.proofs.Common.{[], get_or, refl, ◌<◌, ◌≤◌, ◌≡◌, ℕ, ◌+◌, ◌-◌, max, Bool, List, ◌++◌, length, map, take, drop, sym, ap, ◌∙◌, arith, append_assoc, length-append}
+use Rattle.std.proofs.Common.{rules, [], get_or, refl, ◌<◌, ◌≤◌, ◌≡◌, ℕ, ◌+◌, ◌-◌, max, Bool, List, ◌++◌, length, map, take, drop, sym, ap, ◌∙◌, arith, append_assoc, length-append}
 use Rattle.std.proofs.lemmas.List.{drop_all, length-map}
-use Rattle.zf_spec.specs.Numbers.{field}
-use Rattle.zf_spec.specs.Planes.{plane_code, code_from, reach}
-use Rattle.zf_spec.specs.HeldPlanes.{digits_held, planes_held}
-use Rattle.zf_spec.proofs.Fields.{length-field}
-use Rattle.zf_planes.proofs.Budgets.{Remains-through, Remains-same, Remains-fits, Remains-more, Remains-end}
-use Rattle.zf_planes.proofs.Unpacking.{length-top_held}
+use Rattle.zf_spec.{specs.Numbers.{field}, specs.Planes.{plane_code, code_from, reach}}
+use Rattle.zf_spec.{specs.HeldPlanes.{digits_held, planes_held}, proofs.Fields.{length-field}}
 use Rattle.zf_spec.proofs.Reach.{reach-le}
-use Rattle.zf_bits.specs.Writer.{Writer}
-use Rattle.zf_planes.specs.Writes.{Remains, LeavesPart}
-use Rattle.zf_planes.proofs.Strings.{Remains-none}
-use Rattle.zf_planes.proofs.PlainPlanes.{next_word, whole_code}
+use Rattle.zf_planes.proofs.Budgets.{Remains-through, Remains-same, Remains-fits, Remains-more, Remains-end}
+use Rattle.zf_planes.{proofs.Unpacking.{length-top_held}, specs.Writes.{Remains, LeavesPart}}
+use Rattle.zf_planes.{proofs.Strings.{Remains-none}, proofs.PlainPlanes.{next_word, whole_code}}
 use Rattle.zf_planes.proofs.word_writing.write_planes_of_word.Given.{Over}
-use Rattle.zf_planes.proofs.word_writing.write_planes_of_word.Goals as goal
 use Rattle.zf_planes.proofs.word_writing.write_planes_of_word.Goals.{then-loop-i-test+else-left-part, else-loop-i-test, then-loop-i-test+then-left-part+else-digits-above-eq0+then-above-size, then-loop-i-3-test+else-whole-size-le64, else-loop-i-3-test}
+use Rattle.zf_bits.specs.Writer.{Writer}
+use Rattle.zf_planes.proofs.word_writing.write_planes_of_word.Goals as goal
 
 pub write_part-left-requires-clause-fits : goal.write_part-left-requires-clause-fits
 write_part-left-requires-clause-fits g c = omega (arith, Remains-fits (field c.loop-i.part.len c.loop-i.part.bits) _ c.loop-i.invariant.remains, length-field c.loop-i.part.len c.loop-i.part.bits)
@@ -43,9 +38,13 @@ loop-i-preserved-else-part-more-gt64 g c =
     let next = next_word g.P.Plane.words c.loop-i.above c.args.prec c.args.size c.loop-i.i part.len part.bits c.first_word-digits.result c.args.planes.now c.index-planes-planes.result c.loop-i.invariant.remains
     c.index-planes-planes.is c.loop-i-test.true c.requires.planes c.first_word-digits.ensures.digits in
     record {
-      remains = Remains-same next (cc (more.ensures.code, more.ensures.same, c.join-part.ensures.bits,
-          append_assoc (field part.len part.bits) (field more.result.len more.result.bits)
-              (code_from c.loop-i.above rest)));
+      remains = Remains-same next (cc (
+        more.ensures.code,
+        more.ensures.same,
+        c.join-part.ensures.bits,
+        append_assoc (field part.len part.bits) (field more.result.len more.result.bits)
+            (code_from c.loop-i.above rest),
+      ));
       above = c.loop-i.invariant.above;
       place = omega (arith, c.loop-i-test.true);
       small = c.join-part.ensures.small more.ensures.small;
@@ -169,8 +168,12 @@ loop-i-3-preserved g c =
     c.index-planes-planes-in-loop-i-3.is c.loop-i-3-test.true c.requires.planes c.first_word-bits.ensures.digits in
     let all : max size (reach (field size v)) ≡ size = omega (arith, reach-le (field size v), length-field size v) in
     record {
-      remains = Remains-same next (cc (whole_code size size v refl, all, joined.ensures.bits,
-          append_assoc (field now.whole.len now.whole.bits) (field size v) (code_from size rest)));
+      remains = Remains-same next (cc (
+        whole_code size size v refl,
+        all,
+        joined.ensures.bits,
+        append_assoc (field now.whole.len now.whole.bits) (field size v) (code_from size rest),
+      ));
       place = omega (arith, c.loop-i-3-test.true);
       small = joined.ensures.small c.first_word-bits.ensures.small;
       in_word = omega (arith, joined.ensures.len, c.if-whole-size-le64.true);

@@ -1,8 +1,6 @@
 -- Behind the bits that were put together the code of the planes from the i-th on remains to be written.
 use Rattle.std.proofs.Common.{map, ◌-◌, ◌*◌, ◌^◌, ◌<◌, ◌≤◌, ◌++◌, take, drop}
-use Rattle.zf_spec.specs.Numbers.{field}
-use Rattle.zf_spec.specs.Planes.{code_from}
-use Rattle.zf_spec.specs.HeldPlanes.{planes_held}
+use Rattle.zf_spec.{specs.Numbers.{field}, specs.Planes.{code_from}, specs.HeldPlanes.{planes_held}}
 use Rattle.zf_planes.specs.Writes.{Remains}
 use Rattle.zf_planes.proofs.word_writing.write_planes_of_word.Given as goal
 

@@ -1,8 +1,6 @@
-use Rattle.std.proofs.Common.{rules}
-use Rattle.std.proofs.lemmas.Nat.{mod_below, pow_pos}
+use Rattle.std.{proofs.Common.{rules}, proofs.lemmas.Nat.{mod_below, pow_pos}}
 use Rattle.zf_spec.proofs.Fields.{field-mod}
-use Rattle.zf_planes.proofs.Digits.{masked}
-use Rattle.zf_planes.proofs.Gathering.{held_word}
+use Rattle.zf_planes.{proofs.Digits.{masked}, proofs.Gathering.{held_word}}
 use Rattle.zf_planes.proofs.words.first_word.Goals as goal
 
 pub returns-clause-digits : goal.returns-clause-digits

@@ -1,13 +1,8 @@
-use Rattle.std.proofs.Common.{rules}
-use Rattle.std.proofs.Common.{◌≡◌, ◌+◌, ◌-◌, ◌/◌, ◌%◌, ◌^◌, drop, arith}
-use Rattle.std.specs.Int.Bits.{bit_and}
-use Rattle.std.specs.Int.Count.{ones as number_ones}
-use Rattle.std.proofs.lemmas.List.{drop_all, length-drop}
+use Rattle.std.{proofs.Common.{rules, ◌≡◌, ◌+◌, ◌-◌, ◌/◌, ◌%◌, ◌^◌, drop, arith}, specs.Int.Bits.{bit_and}}
+use Rattle.std.{specs.Int.Count.{ones as number_ones}, proofs.lemmas.List.{drop_all, length-drop}}
 use Rattle.std.proofs.lemmas.List.Sums.{count_by-le-length}
-use Rattle.zf_spec.specs.HeldPlanes.{digits_held}
-use Rattle.zf_spec.proofs.HeldPlanes.{length-digits_held}
-use Rattle.zf_planes.proofs.Lengths.{ones, part_ones, ones_split}
-use Rattle.zf_planes.proofs.words.ones_from.Given.{Over}
+use Rattle.zf_spec.{specs.HeldPlanes.{digits_held}, proofs.HeldPlanes.{length-digits_held}}
+use Rattle.zf_planes.{proofs.Lengths.{ones, part_ones, ones_split}, proofs.words.ones_from.Given.{Over}}
 use Rattle.zf_planes.proofs.words.ones_from.Goals as goal
 
 pub loop-at-init : goal.loop-at-init

@@ -1,8 +1,6 @@
-use Rattle.std.proofs.Common.{rules}
-use Rattle.std.proofs.Common.{◌+◌, ◌-◌, ◌/◌, ◌%◌, ◌^◌, ◌*◌, ◌≤◌, length, arith}
+use Rattle.std.proofs.Common.{rules, ◌+◌, ◌-◌, ◌/◌, ◌%◌, ◌^◌, ◌*◌, ◌≤◌, length, arith}
 use Rattle.std.specs.Int.{w64, trailing_zeros}
-use Rattle.zf_spec.specs.HeldPlanes.{digits_held}
-use Rattle.zf_spec.proofs.HeldPlanes.{length-digits_held}
+use Rattle.zf_spec.{specs.HeldPlanes.{digits_held}, proofs.HeldPlanes.{length-digits_held}}
 use Rattle.zf_planes.proofs.Digits.{IsNextOne, zeros_of_word, next_one, split_at_next, within_plane}
 use Rattle.zf_planes.proofs.words.zeros_from.Given.{Over}
 use Rattle.zf_planes.proofs.words.zeros_from.Goals as goal

@@ -1,7 +1,6 @@
-use Rattle.zf_cached.specs.Ownership.{Owns}
+use Rattle.zf_cached.{specs.Ownership.{Owns}, specs.Views.{state_of_view}}
 use Rattle.zf_private.proofs.Alike.{alike-refl}
 use Rattle.zf_private.proofs.Alone.{same-answers, alike-ran, unowned-ran, own-ran}
-use Rattle.zf_cached.specs.Views.{state_of_view}
 use Rattle.zf_private.proofs.laws.views_run_as_if_alone.Goals as goal
 
 pub returns : goal.returns

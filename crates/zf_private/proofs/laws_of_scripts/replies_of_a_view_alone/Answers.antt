@@ -1,6 +1,5 @@
 use Rattle.std.proofs.Common.{false}
-use Rattle.zf_cached.specs.Commands.{Command}
-use Rattle.zf_cached.specs.Steps.{step}
+use Rattle.zf_cached.{specs.Commands.{Command}, specs.Steps.{step}}
 use Rattle.zf_private.proofs.Scripts.{some_views, begins, alone}
 use Rattle.zf_private.proofs.laws_of_scripts.replies_of_a_view_alone.Goals as goal
 

@@ -1,5 +1,4 @@
-use Rattle.std.proofs.Common.{◌∙◌, ap, length}
-use Rattle.std.proofs.lemmas.List.{length-replicate}
+use Rattle.std.{proofs.Common.{◌∙◌, ap, length}, proofs.lemmas.List.{length-replicate}}
 use Rattle.zf_run.proofs.Changing.{filled_block}
 use Rattle.zf_commands.proofs.Passing.{filled_line}
 use Rattle.zf_run.proofs.changes.fill_block.Goals as goal

@@ -1,5 +1,4 @@
-use Rattle.std.proofs.Common.{rules}
-use Rattle.std.proofs.Common.{ap, ◌∙◌}
+use Rattle.std.proofs.Common.{rules, ap, ◌∙◌}
 use Rattle.zf_header.specs.declared.header.Mode.TheVariants.{Rate}
 use Rattle.zf_run.proofs.Resizing.{not_as_many, no_room, is_new, has_room_is, has_no_room}
 use Rattle.zf_run.proofs.changes.new_shape.Goals as goal

@@ -1,11 +1,9 @@
-use Rattle.std.proofs.Common.{rules}
-use Rattle.std.proofs.Common.{refl, ap, not}
+use Rattle.std.proofs.Common.{rules, refl, ap, not}
 use Rattle.zf_base.specs.Positions.{used_axes}
 use Rattle.zf_cached.specs.Commands.{Command}
-use Rattle.zf_run.specs.Sessions.{setting_of, session_of}
-use Rattle.zf_commands.proofs.Stepping.{refused_size, refused_memory}
-use Rattle.zf_run.proofs.Changing.{same_array}
+use Rattle.zf_run.{specs.Sessions.{setting_of, session_of}, proofs.Changing.{same_array}}
 use Rattle.zf_run.proofs.Resizing.{resizes}
+use Rattle.zf_commands.proofs.Stepping.{refused_size, refused_memory}
 use Rattle.zf_run.proofs.changes.resize.Goals as goal
 
 pub returns-in_default-clause-does : goal.returns-in_default-clause-does

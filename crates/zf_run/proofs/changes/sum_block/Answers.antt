@@ -1,9 +1,6 @@
-use Rattle.std.proofs.Common.{rules}
-use Rattle.std.proofs.Common.{length}
-use Rattle.std.proofs.lemmas.List.{length-map}
+use Rattle.std.{proofs.Common.{rules, length}, proofs.lemmas.List.{length-map}}
 use Rattle.zf_array.specs.Standing.{shape}
-use Rattle.zf_run.proofs.Sessions.{touched_is, sum_is}
-use Rattle.zf_run.proofs.Changing.{header_after}
+use Rattle.zf_run.{proofs.Sessions.{touched_is, sum_is}, proofs.Changing.{header_after}}
 use Rattle.zf_commands.proofs.Passing.{block_room}
 use Rattle.zf_run.proofs.changes.sum_block.Goals as goal
 

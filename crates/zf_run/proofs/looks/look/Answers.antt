@@ -1,9 +1,7 @@
-use Rattle.std.proofs.Common.{rules}
-use Rattle.std.proofs.Common.{sym, ap, subst, ◌∙◌}
+use Rattle.std.proofs.Common.{rules, sym, ap, subst, ◌∙◌}
 use Rattle.zf_cached.specs.Windows.{whole, LiesIn}
 use Rattle.zf_const.specs.Standing.{Held}
-use Rattle.zf_run.specs.Ends.{Looks}
-use Rattle.zf_run.proofs.Ending.{looks_all, looks_stopped}
+use Rattle.zf_run.{specs.Ends.{Looks}, proofs.Ending.{looks_all, looks_stopped}}
 use Rattle.zf_run.proofs.looks.look.Goals as goal
 
 pub run_lines-requires : goal.run_lines-requires

@@ -1,10 +1,7 @@
-use Rattle.std.proofs.Common.{rules}
-use Rattle.std.proofs.Common.{sym, ap, subst, ◌∙◌}
+use Rattle.std.proofs.Common.{rules, sym, ap, subst, ◌∙◌}
 use Rattle.zf_cached.specs.Windows.{whole, LiesIn}
 use Rattle.zf_array.specs.Standing.{Held}
-use Rattle.zf_run.specs.Ends.{Runs}
-use Rattle.zf_run.specs.Splits.{parted_session}
-use Rattle.zf_run.proofs.Ending.{runs_all, runs_stopped}
+use Rattle.zf_run.{specs.Ends.{Runs}, specs.Splits.{parted_session}, proofs.Ending.{runs_all, runs_stopped}}
 use Rattle.zf_run.proofs.runs.run.Goals as goal
 
 pub run_lines-requires : goal.run_lines-requires

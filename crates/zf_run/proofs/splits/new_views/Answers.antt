@@ -1,7 +1,5 @@
-use Rattle.std.proofs.Common.{rules}
-use Rattle.std.proofs.Common.{sym, subst, ◌+◌}
-use Rattle.zf_run.specs.Splits.{AreNewParts}
-use Rattle.zf_run.proofs.Splitting.{one_made}
+use Rattle.std.proofs.Common.{rules, sym, subst, ◌+◌}
+use Rattle.zf_run.{specs.Splits.{AreNewParts}, proofs.Splitting.{one_made}}
 use Rattle.zf_run.proofs.splits.new_views.Goals as goal
 
 pub loop-i-preserved : goal.loop-i-preserved
@@ -11,4 +9,4 @@ loop-i-preserved g c =
     let made = c.in_ok-new.ensures in
     subst (AreNewParts g.row.D _ n c.args.lines (i + 1)) (sym c.in_ok-push.ensures.items)
     (one_made g.row.D _ n c.args.lines i c.loop-i.views.items c.in_ok-new.field-0 c.loop-i.invariant (
-        search rules))
+    search rules))

@@ -1,16 +1,10 @@
-use Rattle.std.proofs.Common.{rules}
-use Rattle.std.proofs.Common.{sym, ap, subst, ◌∙◌, length}
+use Rattle.std.proofs.Common.{rules, sym, ap, subst, ◌∙◌, length}
 use Rattle.zf_header.specs.declared.header.Header.{Header}
 use Rattle.zf_cached.specs.Windows.{whole, LiesIn}
-use Rattle.zf_cache.proofs.Steps.{empty_fits_at}
-use Rattle.zf_cache.specs.Kept.{Kept}
-use Rattle.zf_store.specs.Stored.{Stored, format_of, code_at}
-use Rattle.zf_store.proofs.Kept.{blocks_is}
-use Rattle.zf_twoway.specs.Placing.{skewed}
-use Rattle.zf_twoway.specs.Standing.{HasRoom}
-use Rattle.zf_twoway.proofs.Standing.{fits_of}
-use Rattle.zf_run.specs.Ends.{RunsTwo}
-use Rattle.zf_run.proofs.Ending.{two_all, two_stopped}
+use Rattle.zf_cache.{proofs.Steps.{empty_fits_at}, specs.Kept.{Kept}}
+use Rattle.zf_store.{specs.Stored.{Stored, format_of, code_at}, proofs.Kept.{blocks_is}}
+use Rattle.zf_twoway.{specs.Placing.{skewed}, specs.Standing.{HasRoom}, proofs.Standing.{fits_of}}
+use Rattle.zf_run.{specs.Ends.{RunsTwo}, proofs.Ending.{two_all, two_stopped}}
 use Rattle.zf_run.proofs.two_runs.run_two.Goals as goal
 
 pub run_lines-requires : goal.run_lines-requires

@@ -1,8 +1,6 @@
 use Rattle.std.proofs.Common.{◌≡◌, length}
-use Rattle.zf_cached.specs.Windows.{Window}
-use Rattle.zf_cached.specs.Steps.{flushed_views}
-use Rattle.zf_run.specs.Sessions.{setting_of, kind}
-use Rattle.zf_run.specs.Splits.{split_session, AreParts}
+use Rattle.zf_cached.{specs.Windows.{Window}, specs.Steps.{flushed_views}}
+use Rattle.zf_run.{specs.Sessions.{setting_of, kind}, specs.Splits.{split_session, AreParts}}
 use Rattle.zf_run.proofs.views.flush_views.Given as goal
 
 abbrev pub invariant-loop-i : goal.invariant-loop-i

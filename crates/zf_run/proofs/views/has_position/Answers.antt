@@ -1,8 +1,5 @@
-use Rattle.std.proofs.Common.{rules}
-use Rattle.std.proofs.Common.{ap, subst, ◌∙◌, length}
-use Rattle.std.proofs.lemmas.Bool.{false≢true}
-use Rattle.zf_base.specs.Places.{block_number}
-use Rattle.zf_base.specs.Positions.{used_axes, IsPosition}
+use Rattle.std.{proofs.Common.{rules, ap, subst, ◌∙◌, length}, proofs.lemmas.Bool.{false≢true}}
+use Rattle.zf_base.{specs.Places.{block_number}, specs.Positions.{used_axes, IsPosition}}
 use Rattle.zf_array.specs.Standing.{shape}
 use Rattle.zf_run.proofs.Viewing.{not_inside, view_is_none, position_is_none, owns_is}
 use Rattle.zf_run.proofs.views.has_position.Goals as goal

@@ -1,28 +1,17 @@
 use Rattle.std.proofs.Common.{◌≡◌, ℕ, refl, sym, ap, subst, ◌∙◌, not, Bool, true, false, List, length, get_or, None, ℤ, lit<, lit≤, rules}
-use Rattle.std.specs.Option.{option_map}
-use Rattle.std.specs.Int.{Width, w128}
-use Rattle.std.proofs.lemmas.Int.{to_z-of_z}
-use Rattle.zf_base.specs.Positions.{used_axes}
-use Rattle.zf_base.specs.Places.{block_number, place_of}
-use Rattle.zf_cached.specs.Windows.{Window}
-use Rattle.zf_cached.specs.Commands.{Command}
-use Rattle.zf_cached.specs.State.{State}
-use Rattle.zf_cached.specs.Acts.{Act}
-use Rattle.zf_cached.specs.Views.{answered, IsWithin}
+use Rattle.std.{specs.Option.{option_map}, specs.Int.{Width, w128}, proofs.lemmas.Int.{to_z-of_z}}
+use Rattle.zf_base.{specs.Positions.{used_axes}, specs.Places.{block_number, place_of}}
+use Rattle.zf_cached.{specs.Windows.{Window}, specs.Commands.{Command}, specs.State.{State}, specs.Acts.{Act}}
+use Rattle.zf_cached.{specs.Views.{answered, IsWithin}, specs.Runs.{array_setting}, specs.Replies.{Reply}}
 use Rattle.zf_cached.specs.Steps.{Setting, Session, tests, refuses_split, view_has, by_view, is_of_type, done}
-use Rattle.zf_cached.specs.Runs.{array_setting}
-use Rattle.zf_cached.specs.Replies.{Reply}
 use Rattle.zf_private.specs.Standing as private
 use Rattle.zf_private.specs.Standing.{Own}
-use Rattle.zf_array.specs.Standing.{Held, shape}
-use Rattle.zf_array.proofs.Coded.{coded_empty}
-use Rattle.zf_run.specs.Sessions.{setting_of}
-use Rattle.zf_run.specs.declared.views.Change.{Change}
-use Rattle.zf_run.specs.declared.views.Change.TheVariants as changes
-use Rattle.zf_run.specs.Changes.{change_cmd, change_act}
-use Rattle.zf_run.specs.Splits.{split_session}
-use Rattle.zf_commands.proofs.Stepping.{refused_range, refused_value}
+use Rattle.zf_array.{specs.Standing.{Held, shape}, proofs.Coded.{coded_empty}}
+use Rattle.zf_run.{specs.Sessions.{setting_of}, specs.declared.views.Change.{Change}}
+use Rattle.zf_run.{specs.Changes.{change_cmd, change_act}, specs.Splits.{split_session}}
 use Rattle.zf_run.proofs.Lending.{lent_ready, at_view, act_there, lent}
+use Rattle.zf_run.specs.declared.views.Change.TheVariants as changes
+use Rattle.zf_commands.proofs.Stepping.{refused_range, refused_value}
 use Rattle.zf_run.proofs.views.view_change.Goals as goal
 
 -- what is tested before a change of a value, and what is done

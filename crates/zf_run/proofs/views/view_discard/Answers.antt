@@ -1,13 +1,10 @@
-use Rattle.std.proofs.Common.{rules}
-use Rattle.std.proofs.Common.{ap, ◌∙◌, get_or}
-use Rattle.zf_cached.specs.Views.{answered}
-use Rattle.zf_cached.specs.Steps.{done}
+use Rattle.std.proofs.Common.{rules, ap, ◌∙◌, get_or}
+use Rattle.zf_cached.{specs.Views.{answered}, specs.Steps.{done}}
 use Rattle.zf_cache.proofs.Steps.{emptied_fits, discarded}
 use Rattle.zf_private.proofs.Others.{acted-discard}
 use Rattle.zf_array.specs.Standing.{state, format}
-use Rattle.zf_run.specs.Splits.{view_state}
+use Rattle.zf_run.{specs.Splits.{view_state}, proofs.Viewing.{has_view_is, has_no_view, takes, still_parts}}
 use Rattle.zf_commands.proofs.Stepping.{refused_range}
-use Rattle.zf_run.proofs.Viewing.{has_view_is, has_no_view, takes, still_parts}
 use Rattle.zf_run.proofs.views.view_discard.Goals as goal
 
 pub returns-then-i-views : goal.returns-then-i-views

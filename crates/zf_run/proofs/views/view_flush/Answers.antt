@@ -1,9 +1,7 @@
-use Rattle.std.proofs.Common.{rules}
-use Rattle.std.proofs.Common.{refl}
-use Rattle.zf_run.specs.Sessions.{setting_of}
-use Rattle.zf_run.specs.Splits.{split_session}
-use Rattle.zf_commands.proofs.Stepping.{refused_range}
+use Rattle.std.proofs.Common.{rules, refl}
+use Rattle.zf_run.{specs.Sessions.{setting_of}, specs.Splits.{split_session}}
 use Rattle.zf_run.proofs.Viewing.{has_view_is, has_no_view, flushes_view}
+use Rattle.zf_commands.proofs.Stepping.{refused_range}
 use Rattle.zf_run.proofs.views.view_flush.Goals as goal
 
 pub returns-then-i-views : goal.returns-then-i-views

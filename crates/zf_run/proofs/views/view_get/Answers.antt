@@ -1,20 +1,13 @@
 use Rattle.std.proofs.Common.{refl, sym, ap, ◌∙◌, not, length, get_or, Some, lit<, lit≤, rules}
 use Rattle.std.specs.Option.{option_map}
 use Rattle.zf_base.specs.Positions.{used_axes}
-use Rattle.zf_cached.specs.Commands.{Command}
-use Rattle.zf_cached.specs.Replies.{Reply}
-use Rattle.zf_cached.specs.Acts.{Act}
-use Rattle.zf_cached.specs.Views.{answered}
-use Rattle.zf_cached.specs.Steps.{by_view, done}
-use Rattle.zf_cached.specs.Runs.{array_setting}
+use Rattle.zf_cached.{specs.Commands.{Command}, specs.Replies.{Reply}, specs.Acts.{Act}}
+use Rattle.zf_cached.{specs.Views.{answered}, specs.Steps.{by_view, done}, specs.Runs.{array_setting}}
 use Rattle.zf_private.specs.Standing as private
-use Rattle.zf_array.specs.Standing.{shape}
-use Rattle.zf_array.proofs.Coded.{coded_empty}
-use Rattle.zf_run.specs.Sessions.{setting_of}
-use Rattle.zf_run.specs.Splits.{split_session}
-use Rattle.zf_commands.proofs.Stepping.{refused_range}
-use Rattle.zf_commands.proofs.Wide.{wide}
+use Rattle.zf_array.{specs.Standing.{shape}, proofs.Coded.{coded_empty}}
+use Rattle.zf_run.{specs.Sessions.{setting_of}, specs.Splits.{split_session}}
 use Rattle.zf_run.proofs.Lending.{lent_ready, at_view, act_there, lent}
+use Rattle.zf_commands.{proofs.Stepping.{refused_range}, proofs.Wide.{wide}}
 use Rattle.zf_run.proofs.views.view_get.Goals as goal
 
 pub returns-then-not-has_position : goal.returns-then-not-has_position

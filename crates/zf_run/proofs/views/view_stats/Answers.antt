@@ -1,12 +1,8 @@
-use Rattle.std.proofs.Common.{rules}
-use Rattle.std.proofs.Common.{refl, sym, ap, ◌∙◌, not, Some}
-use Rattle.zf_cached.specs.State.{Counts}
-use Rattle.zf_cached.specs.Commands.{Command}
-use Rattle.zf_cached.specs.Steps.{counts_reply, done}
-use Rattle.zf_run.specs.Sessions.{setting_of}
-use Rattle.zf_run.specs.Splits.{split_session}
-use Rattle.zf_commands.proofs.Stepping.{refused_range, accepted}
+use Rattle.std.proofs.Common.{rules, refl, sym, ap, ◌∙◌, not, Some}
+use Rattle.zf_cached.{specs.State.{Counts}, specs.Commands.{Command}, specs.Steps.{counts_reply, done}}
+use Rattle.zf_run.{specs.Sessions.{setting_of}, specs.Splits.{split_session}}
 use Rattle.zf_run.proofs.Viewing.{has_view_is, has_no_view, counts_are}
+use Rattle.zf_commands.proofs.Stepping.{refused_range, accepted}
 use Rattle.zf_run.proofs.views.view_stats.Goals as goal
 
 pub returns-then-i-views : goal.returns-then-i-views

@@ -1,7 +1,6 @@
 use Rattle.std.proofs.Common.{◌≡◌, ◌+◌, ◌-◌, cond, ap, sym, ◌∙◌, arith}
-use Rattle.zf_sample.proofs.Counting.{next_change}
+use Rattle.zf_sample.{proofs.Counting.{next_change}, proofs.changes.count_changes.Goals.{then-ne, else-ne}}
 use Rattle.zf_sample.proofs.changes.count_changes.Goals as goal
-use Rattle.zf_sample.proofs.changes.count_changes.Goals.{then-ne, else-ne}
 
 pub loop-i-preserved : goal.loop-i-preserved
 loop-i-preserved c =

@@ -1,7 +1,6 @@
 use Rattle.std.proofs.Common.{◌+◌, ◌-◌, ◌/◌, pos, ap, ◌∙◌, arith}
 use Rattle.zf_spec.specs.Numbers.{wrap}
-use Rattle.zf_sample.specs.Made.{halved, value_of_word}
-use Rattle.zf_sample.proofs.Making.{next_value}
+use Rattle.zf_sample.{specs.Made.{halved, value_of_word}, proofs.Making.{next_value}}
 use Rattle.zf_sample.proofs.values.raw_values.Goals as goal
 
 pub loop-preserved : goal.loop-preserved

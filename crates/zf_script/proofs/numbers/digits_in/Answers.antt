@@ -1,7 +1,5 @@
-use Rattle.std.proofs.Common.{◌≡◌, take, refl, ap, subst, ◌∙◌, arith}
-use Rattle.std.specs.Str.Parse.{AllDigits, digits_value}
-use Rattle.std.proofs.lemmas.List.{take_all}
-use Rattle.std.proofs.lemmas.Int.Digits.{digits_more}
+use Rattle.std.{proofs.Common.{◌≡◌, take, refl, ap, subst, ◌∙◌, arith}, proofs.lemmas.List.{take_all}}
+use Rattle.std.{specs.Str.Parse.{AllDigits, digits_value}, proofs.lemmas.Int.Digits.{digits_more}}
 use Rattle.zf_script.proofs.Digits.{digit_more, number_more}
 use Rattle.zf_script.proofs.numbers.digits_in.Goals as goal
 

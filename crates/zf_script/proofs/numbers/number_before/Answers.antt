@@ -1,6 +1,5 @@
 use Rattle.std.proofs.Common.{◌≡◌, ◌∷◌, [], ◌+◌, take, drop, decimal, ap, refl, sym, subst, ◌∙◌, arith}
-use Rattle.std.specs.Str.Parse.{AllDigits}
-use Rattle.std.proofs.lemmas.Int.Digits.{digits_more}
+use Rattle.std.{specs.Str.Parse.{AllDigits}, proofs.lemmas.Int.Digits.{digits_more}}
 use Rattle.std.proofs.lemmas.List.{take_all, take_rest}
 use Rattle.std.proofs.lemmas.Option.{slice_get_within, get_or_from_slice_get}
 use Rattle.zf_cached.specs.Grammar.{cut_at}

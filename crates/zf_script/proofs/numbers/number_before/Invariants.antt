@@ -1,5 +1,4 @@
-use Rattle.std.proofs.Common.{◌≡◌, ◌<◌, ◌^◌, take}
-use Rattle.std.specs.Str.Parse.{AllDigits, digits_value}
+use Rattle.std.{proofs.Common.{◌≡◌, ◌<◌, ◌^◌, take}, specs.Str.Parse.{AllDigits, digits_value}}
 use Rattle.zf_script.proofs.numbers.number_before.Given as goal
 
 -- the bytes so far are digits that say the number so far; a zero stands alone

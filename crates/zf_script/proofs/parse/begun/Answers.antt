@@ -1,8 +1,8 @@
 use Rattle.std.proofs.Common.{◌≢◌, arith, get_or}
 use Rattle.zf_script.proofs.Lines.{no_verb, nothing_first}
+use Rattle.zf_script.proofs.parse.begun.Goals.{in_default-via-then-first-lt1, in_default-via-else-first-lt1+in_default-1}
 use Rattle.zf_cached.specs.Grammar.{space, cut_at}
 use Rattle.zf_script.proofs.parse.begun.Goals as goal
-use Rattle.zf_script.proofs.parse.begun.Goals.{in_default-via-then-first-lt1, in_default-via-else-first-lt1+in_default-1}
 
 pub returns-in_err-verb_in-in_default-clause-none : goal.returns-in_err-verb_in-in_default-clause-none
 returns-in_err-verb_in-in_default-clause-none c =

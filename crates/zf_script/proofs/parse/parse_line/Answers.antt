@@ -1,15 +1,11 @@
-use Rattle.std.proofs.Common.{◌≡◌, ℕ, List, ◌∷◌, refl, ap, ◌∙◌}
-use Rattle.std.specs.Int.{w128}
-use Rattle.std.proofs.lemmas.Int.{to_z-of_z}
-use Rattle.std.proofs.lemmas.Result.{err_from_is_err_and}
+use Rattle.std.{proofs.Common.{◌≡◌, ℕ, List, ◌∷◌, refl, ap, ◌∙◌}, specs.Int.{w128}}
+use Rattle.std.{proofs.lemmas.Int.{to_z-of_z}, proofs.lemmas.Result.{err_from_is_err_and}}
 use Rattle.zf_cached.specs.Grammar.{space, comma, cut_at}
 use Rattle.zf_script.specs.declared.command.Cmd.TheVariants as cmds
-use Rattle.zf_script.specs.declared.verb.ValueVerb.{ValueVerb}
-use Rattle.zf_script.specs.declared.verb.ValueVerb.TheVariants as value_verbs
-use Rattle.zf_script.specs.NumberWords.{IsAxesWord}
-use Rattle.zf_script.specs.Arguments.{IsPositionAndValue}
-use Rattle.zf_script.specs.Verbs.{value_verb_word}
+use Rattle.zf_script.{specs.declared.verb.ValueVerb.{ValueVerb}, specs.NumberWords.{IsAxesWord}}
+use Rattle.zf_script.{specs.Arguments.{IsPositionAndValue}, specs.Verbs.{value_verb_word}}
 use Rattle.zf_script.proofs.Lines.{value_fits, get_command, vget_command, set_command, add_command, vset_command, no_get, no_vget, no_set, no_add, no_vset, read_some, read_none, parsed_ok, parsed_err, given, lacking}
+use Rattle.zf_script.specs.declared.verb.ValueVerb.TheVariants as value_verbs
 use Rattle.zf_script.proofs.parse.parse_line.Goals as goal
 
 -- the words of a line that begins with a verb on one value

@@ -1,5 +1,4 @@
-use Rattle.std.specs.Int.{w128}
-use Rattle.std.proofs.lemmas.Int.{to_z-of_z}
+use Rattle.std.{specs.Int.{w128}, proofs.lemmas.Int.{to_z-of_z}}
 use Rattle.zf_script.proofs.Lines.{value_fits, position_and_value_some, position_and_value_none}
 use Rattle.zf_script.proofs.parse.position_and_value_in.Goals as goal
 

@@ -1,5 +1,4 @@
-use Rattle.std.proofs.Common.{◌+◌, sym}
-use Rattle.std.proofs.lemmas.List.{take_rest}
+use Rattle.std.{proofs.Common.{◌+◌, sym}, proofs.lemmas.List.{take_rest}}
 use Rattle.zf_cached.proofs.Cutting.{cut_at-nowhere, cut_at-place}
 use Rattle.zf_script.proofs.words.cut.Goals as goal
 

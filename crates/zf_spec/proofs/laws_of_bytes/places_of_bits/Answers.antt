@@ -1,6 +1,5 @@
 use Rattle.std.proofs.Common.{◌≡◌, ℕ, ◌/◌, ◌%◌, ◌^◌, ◌<◌, sym, ap, ◌∙◌, Bool, false, List, length, get_or, arith}
-use Rattle.zf_spec.specs.Numbers.{is_odd}
-use Rattle.zf_spec.specs.Stream.{to_bytes}
+use Rattle.zf_spec.{specs.Numbers.{is_odd}, specs.Stream.{to_bytes}}
 use Rattle.zf_spec.proofs.WordBits.{get_or-flat_map-field, get_or-word_bits}
 use Rattle.zf_spec.proofs.Bytes.{to_bits-to_bytes, length-to_bytes}
 use Rattle.zf_spec.proofs.laws_of_bytes.places_of_bits.Goals as goal

@@ -1,5 +1,4 @@
-use Rattle.std.proofs.Common.{refl}
-use Rattle.std.specs.Int.{int_wrap}
+use Rattle.std.{proofs.Common.{refl}, specs.Int.{int_wrap}}
 use Rattle.zf_spec.specs.Lorenzo.{lorenzo, unlorenzo}
 use Rattle.zf_spec.proofs.tables.lorenzo_lines.Goals as goal
 

@@ -1,8 +1,5 @@
-use Rattle.std.proofs.Common.{refl}
-use Rattle.std.specs.Int.{int_wrap}
-use Rattle.zf_spec.specs.Padding.{pad}
-use Rattle.zf_spec.specs.Lift.{along}
-use Rattle.zf_spec.specs.Codes.{prec}
+use Rattle.std.{proofs.Common.{refl}, specs.Int.{int_wrap}}
+use Rattle.zf_spec.{specs.Padding.{pad}, specs.Lift.{along}, specs.Codes.{prec}}
 use Rattle.zf_spec.specs.Stream.{header, file, stream, stream_of_bytes}
 use Rattle.zf_spec.proofs.tables.precision_streams.Goals as goal
 

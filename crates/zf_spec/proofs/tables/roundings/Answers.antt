@@ -1,8 +1,5 @@
-use Rattle.std.proofs.Common.{refl}
-use Rattle.std.specs.Int.{int_wrap}
-use Rattle.zf_spec.specs.Padding.{pad}
-use Rattle.zf_spec.specs.Lift.{along}
-use Rattle.zf_spec.specs.Planes.{digits_in_planes}
+use Rattle.std.{proofs.Common.{refl}, specs.Int.{int_wrap}}
+use Rattle.zf_spec.{specs.Padding.{pad}, specs.Lift.{along}, specs.Planes.{digits_in_planes}}
 use Rattle.zf_spec.specs.Codes.{existing_values, round, read_rate}
 use Rattle.zf_spec.proofs.tables.roundings.Goals as goal
 

@@ -1,8 +1,5 @@
-use Rattle.std.proofs.Common.{refl}
-use Rattle.std.specs.Int.{int_wrap}
-use Rattle.zf_spec.specs.Padding.{pad}
-use Rattle.zf_spec.specs.Lorenzo.{lorenzo}
-use Rattle.zf_spec.specs.Codes.{rev, rev_of_planes}
+use Rattle.std.{proofs.Common.{refl}, specs.Int.{int_wrap}}
+use Rattle.zf_spec.{specs.Padding.{pad}, specs.Lorenzo.{lorenzo}, specs.Codes.{rev, rev_of_planes}}
 use Rattle.zf_spec.specs.Stream.{header, file, stream, stream_of_bytes}
 use Rattle.zf_spec.proofs.tables.streams.Goals as goal
 

@@ -1,9 +1,7 @@
 use Rattle.std.proofs.Common.{◌≡◌, sym, ◌+◌, ◌-◌, ◌*◌, length, take, drop, arith, rules}
-use Rattle.zf_spec.specs.Numbers.{number}
-use Rattle.zf_spec.specs.Stream.{fill_len, to_bits}
+use Rattle.zf_spec.{specs.Numbers.{number}, specs.Stream.{fill_len, to_bits}}
 use Rattle.zf_header.specs.HeaderBits.{header_bits}
-use Rattle.zf_store.specs.Words.{all_bits}
-use Rattle.zf_store.proofs.Joined.{fill_of_word}
+use Rattle.zf_store.{specs.Words.{all_bits}, proofs.Joined.{fill_of_word}}
 use Rattle.zf_store.proofs.Opened.{rate_bytes_most, header_least}
 use Rattle.zf_store.proofs.file.has_one_in_fill.Goals as goal
 

@@ -1,5 +1,4 @@
-use Rattle.std.proofs.Common.{◌≡◌, ap, ◌∙◌, ◌-◌, take, drop, arith}
-use Rattle.std.specs.Int.{w64, from_le_bytes}
+use Rattle.std.{proofs.Common.{◌≡◌, ap, ◌∙◌, ◌-◌, take, drop, arith}, specs.Int.{w64, from_le_bytes}}
 use Rattle.zf_spec.specs.Numbers.{field}
 use Rattle.zf_store.proofs.Joined.{word_of_bytes}
 use Rattle.zf_store.proofs.file.word_before.Goals as goal

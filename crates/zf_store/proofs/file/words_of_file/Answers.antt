@@ -1,7 +1,5 @@
-use Rattle.std.proofs.Common.{◌≡◌, ap, ◌∙◌, arith}
-use Rattle.std.specs.Vec.{vec_len}
-use Rattle.zf_spec.specs.Numbers.{word_bits}
-use Rattle.zf_spec.specs.Stream.{to_bits, with_fill}
+use Rattle.std.{proofs.Common.{◌≡◌, ap, ◌∙◌, arith}, specs.Vec.{vec_len}}
+use Rattle.zf_spec.{specs.Numbers.{word_bits}, specs.Stream.{to_bits, with_fill}}
 use Rattle.zf_store.proofs.Opened.{header_most, moved_codes}
 use Rattle.zf_store.proofs.file.words_of_file.Goals as goal
 

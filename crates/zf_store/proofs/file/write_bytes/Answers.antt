@@ -1,7 +1,6 @@
 use Rattle.std.proofs.Common.{◌≡◌, refl, ◌∙◌, ◌+◌, ◌++◌, length, take, length-append, arith}
 use Rattle.std.proofs.lemmas.List.{length-take-le}
-use Rattle.zf_spec.specs.Numbers.{word_bits}
-use Rattle.zf_spec.proofs.WordBits.{length-word_bits}
+use Rattle.zf_spec.{specs.Numbers.{word_bits}, proofs.WordBits.{length-word_bits}}
 use Rattle.zf_store.proofs.Joined.{bytes_more, bytes_all}
 use Rattle.zf_store.proofs.file.write_bytes.Goals as goal
 

@@ -1,7 +1,6 @@
 -- The first words are written.
 use Rattle.std.proofs.Common.{◌≡◌, ◌*◌, ◌++◌, take, length}
-use Rattle.zf_spec.specs.Numbers.{word_bits}
-use Rattle.zf_spec.specs.Stream.{bytes_from, with_fill}
+use Rattle.zf_spec.{specs.Numbers.{word_bits}, specs.Stream.{bytes_from, with_fill}}
 use Rattle.zf_store.proofs.file.write_bytes.Given as goal
 
 pub record Wrote (l : goal.Live-loop-i) : Type 0 where

@@ -1,7 +1,6 @@
 use Rattle.std.proofs.Common.{◌≡◌, ◌∙◌, ◌-◌, ◌*◌, length, get_or, take, arith}
 use Rattle.std.proofs.lemmas.List.{length-take-le}
-use Rattle.zf_spec.specs.Numbers.{word_bits}
-use Rattle.zf_spec.proofs.WordBits.{length-word_bits}
+use Rattle.zf_spec.{specs.Numbers.{word_bits}, proofs.WordBits.{length-word_bits}}
 use Rattle.zf_store.proofs.Joined.{one_word, word_behind, word_before, word_between}
 use Rattle.zf_store.proofs.words.joined_word.Goals as goal
 

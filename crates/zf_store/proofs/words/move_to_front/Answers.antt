@@ -1,7 +1,6 @@
 use Rattle.std.proofs.Common.{◌≡◌, refl, sym, ap, subst, ◌∙◌, ℕ, ◌+◌, ◌-◌, ◌*◌, ◌<◌, ◌++◌, false, min, length, take, drop, replicate, length-set, arith}
 use Rattle.std.specs.Int.{div_ceil}
-use Rattle.zf_spec.specs.Numbers.{word_bits}
-use Rattle.zf_spec.proofs.WordBits.{length-word_bits}
+use Rattle.zf_spec.{specs.Numbers.{word_bits}, proofs.WordBits.{length-word_bits}}
 use Rattle.zf_store.proofs.Runs.{IsMoved, IsMoved-none, IsMoved-more}
 use Rattle.zf_store.proofs.words.move_to_front.Goals as goal
 

@@ -1,6 +1,5 @@
 use Rattle.std.proofs.Common.{◌≡◌, sym, ap, ◌∙◌, ◌+◌, ◌*◌, min, get_or, take, drop, ◌++◌, arith}
-use Rattle.zf_spec.specs.Numbers.{field, word_bits}
-use Rattle.zf_spec.proofs.WordBits.{length-word_bits}
+use Rattle.zf_spec.{specs.Numbers.{field, word_bits}, proofs.WordBits.{length-word_bits}}
 use Rattle.zf_store.proofs.Runs.{with_run, with_run-none, with_run-more, bits_of_word}
 use Rattle.zf_store.proofs.words.put_run.Goals as goal
 

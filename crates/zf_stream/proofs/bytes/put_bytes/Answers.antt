@@ -1,9 +1,6 @@
-use Rattle.std.proofs.Common.{rules}
-use Rattle.std.proofs.Common.{◌≡◌, ℕ, ◌+◌, ◌*◌, ◌<◌, ◌≤◌, List, [], ◌∷◌, length, take, get_or, ap, arith}
-use Rattle.std.proofs.lemmas.List.{append-nil, take_more}
-use Rattle.std.proofs.lemmas.Grind.{flat_map-append, common_steps}
-use Rattle.std.proofs.lemmas.Slice.{take-put_mid}
-use Rattle.std.specs.Int.{w64, to_le_bytes}
+use Rattle.std.proofs.Common.{rules, ◌≡◌, ℕ, ◌+◌, ◌*◌, ◌<◌, ◌≤◌, List, [], ◌∷◌, length, take, get_or, ap, arith}
+use Rattle.std.{proofs.lemmas.List.{append-nil, take_more}, proofs.lemmas.Slice.{take-put_mid}}
+use Rattle.std.{proofs.lemmas.Grind.{flat_map-append, common_steps}, specs.Int.{w64, to_le_bytes}}
 use borrow.Rule.Slice.PartMut.{put_mid}
 use Rattle.zf_stream.specs.Flows.{bytes_in}
 use Rattle.zf_stream.proofs.bytes.put_bytes.Goals as goal

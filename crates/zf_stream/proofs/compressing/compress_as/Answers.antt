@@ -1,5 +1,4 @@
-use Rattle.std.proofs.Common.{rules}
-use Rattle.std.proofs.lemmas.Result.{err_from_is_err_and}
+use Rattle.std.{proofs.Common.{rules}, proofs.lemmas.Result.{err_from_is_err_and}}
 use Rattle.zf_dev.proofs.Devices.{Reads-told}
 use Rattle.zf_stream.proofs.Answering.{nothing_given, prefix_from}
 use Rattle.zf_stream.proofs.Endings.{no_memory, given_from, unread}

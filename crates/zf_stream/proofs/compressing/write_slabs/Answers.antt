@@ -1,11 +1,8 @@
-use Rattle.std.proofs.Common.{length, sym, ap, ◌∙◌, arith, rules}
-use Rattle.std.proofs.lemmas.List.{length-take-le}
-use Rattle.std.proofs.lemmas.Result.{err_from_is_err_and}
-use Rattle.std.specs.Int.{byte_len}
+use Rattle.std.{proofs.Common.{length, sym, ap, ◌∙◌, arith, rules}, proofs.lemmas.List.{length-take-le}}
+use Rattle.std.{proofs.lemmas.Result.{err_from_is_err_and}, specs.Int.{byte_len}}
 use Rattle.zf_pad.proofs.Slabs.{layout_of_slab, length-with_rows}
 use Rattle.zf_dev.proofs.Devices.{Reads-more, Writes-more}
-use Rattle.zf_stream.proofs.OnErrors.{on_err}
-use Rattle.zf_stream.proofs.Rooms.{Keeps-next, array_kept, room_part}
+use Rattle.zf_stream.{proofs.OnErrors.{on_err}, proofs.Rooms.{Keeps-next, array_kept, room_part}}
 use Rattle.zf_stream.proofs.Slabwise.{slab_next, slab_written, slab_broken, slab_refused, rows_len-add, no_rows, zero_rows}
 use Rattle.zf_stream.proofs.Failing.{Reads-ok, Writes-ok}
 use Rattle.zf_stream.proofs.compressing.write_slabs.Goals as goal

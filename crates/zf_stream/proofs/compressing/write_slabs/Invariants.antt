@@ -1,10 +1,8 @@
 -- The rows so far were read, and their codes are on their way.
 use Rattle.std.proofs.Common.{◌≡◌, ◌-◌, ◌<◌, length}
 use Rattle.zf_pad.specs.Slabs.{rows_of}
-use Rattle.zf_dev.specs.Source.{Gives}
-use Rattle.zf_dev.specs.Devices.{Reads, Writes}
-use Rattle.zf_stream.specs.Rows.{rows_len, Compresses}
-use Rattle.zf_stream.specs.Rooms.{IsRoomOf, Keeps}
+use Rattle.zf_dev.{specs.Source.{Gives}, specs.Devices.{Reads, Writes}}
+use Rattle.zf_stream.{specs.Rows.{rows_len, Compresses}, specs.Rooms.{IsRoomOf, Keeps}}
 use Rattle.zf_stream.proofs.compressing.write_slabs.Given as goal
 
 pub record SoFar (g : goal.Over) (l : goal.Live-loop-row g) : Type 0 where

@@ -1,10 +1,8 @@
-use Rattle.std.proofs.lemmas.Grind.{common_steps}
-use Rattle.std.proofs.Common.{◌∙◌, arith}
+use Rattle.std.{proofs.lemmas.Grind.{common_steps}, proofs.Common.{◌∙◌, arith}}
 use Rattle.std.proofs.lemmas.Result.{err_from_is_err_and}
 use Rattle.zf_dev.proofs.Taking.{Takes-none}
-use Rattle.zf_stream.proofs.Endings.{stopped, at_end}
+use Rattle.zf_stream.{proofs.Endings.{stopped, at_end}, proofs.Slabwise.{Stops-none, rows_len-all}}
 use Rattle.zf_stream.proofs.RawRows.{write_refused, more_refused, some_more}
-use Rattle.zf_stream.proofs.Slabwise.{Stops-none, rows_len-all}
 use Rattle.zf_stream.proofs.PrefixesOfStreams.{Stops-behind, Compresses-behind, Compresses-read, Compresses-stop}
 use Rattle.zf_stream.proofs.compressing.write_stream.Goals as goal
 

@@ -1,10 +1,8 @@
-use Rattle.std.proofs.Common.{rules}
-use Rattle.std.proofs.Common.{◌≡◌, ℕ, ◌+◌, ℤ, Bool, List, length, sym, ap, ◌∙◌, length-append, arith}
+use Rattle.std.proofs.Common.{rules, ◌≡◌, ℕ, ◌+◌, ℤ, Bool, List, length, sym, ap, ◌∙◌, length-append, arith}
 use Rattle.zf_base.proofs.Extents.{length-extent_of}
 use Rattle.zf_bits.specs.Reader.{Reader, rest, Reads}
 use Rattle.zf_header.specs.declared.header.Header.{Header}
-use Rattle.zf_stream.specs.Restoring.{ReadsStored}
-use Rattle.zf_stream.specs.Windows.{Window}
+use Rattle.zf_stream.{specs.Restoring.{ReadsStored}, specs.Windows.{Window}}
 use Rattle.zf_parse.proofs.Joining.{rest_behind}
 use Rattle.zf_stream.proofs.decoding.read_block.Goals as goal
 

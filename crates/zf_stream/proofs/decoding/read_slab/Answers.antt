@@ -1,22 +1,14 @@
-use Rattle.std.proofs.Common.{rules}
-use Rattle.std.proofs.Common.{◌≡◌, ◌^◌, ◌<◌, Bool, true, false, List, [], ◌∷◌, ◌++◌, None, Ok, length-append, refl, sym, ap, ◌∙◌, arith}
-use Rattle.std.proofs.lemmas.List.{append-nil, length-map}
-use Rattle.std.proofs.lemmas.Result.{err_from_is_err_and}
-use Rattle.zf_spec.specs.Grid.{blocks, extent_of}
-use Rattle.zf_spec.specs.Codes.{existing_values}
+use Rattle.std.proofs.Common.{rules, ◌≡◌, ◌^◌, ◌<◌, Bool, true, false, List, [], ◌∷◌, ◌++◌, None, Ok, length-append, refl, sym, ap, ◌∙◌, arith}
+use Rattle.std.{proofs.lemmas.List.{append-nil, length-map}, proofs.lemmas.Result.{err_from_is_err_and}}
+use Rattle.zf_spec.{specs.Grid.{blocks, extent_of}, specs.Codes.{existing_values}}
 use Rattle.zf_pad.proofs.Stored.{stored_before, stores_none, stores_more, blocks_stored, all_stored, stored_within}
-use Rattle.zf_base.specs.Widths.{width_of}
-use Rattle.zf_base.proofs.Extents.{length-extent_of}
-use Rattle.zf_dev.proofs.Taking.{Takes-append}
-use Rattle.zf_parse.specs.Parsing.{read_code}
-use Rattle.zf_stream.specs.Windows.{left_of}
-use Rattle.zf_stream.specs.Restoring.{stream_from}
-use Rattle.zf_parse.proofs.Enough.{enough_for_one}
+use Rattle.zf_base.{specs.Widths.{width_of}, proofs.Extents.{length-extent_of}}
+use Rattle.zf_dev.{proofs.Taking.{Takes-append}, proofs.Devices.{Reads-none, Reads-more}}
+use Rattle.zf_parse.{specs.Parsing.{read_code}, proofs.Enough.{enough_for_one}}
 use Rattle.zf_parse.proofs.Joining.{read_codes-next, read_codes-cut}
+use Rattle.zf_stream.{specs.Windows.{left_of}, specs.Restoring.{stream_from}, proofs.Failing.{Reads-ok}}
 use Rattle.zf_stream.proofs.Windows.{Goes-none, Goes-next, Goes-read, codes_refilled}
-use Rattle.zf_dev.proofs.Devices.{Reads-none, Reads-more}
 use Rattle.zf_stream.proofs.Rooms.{Stays-next, still_restores}
-use Rattle.zf_stream.proofs.Failing.{Reads-ok}
 use Rattle.zf_stream.proofs.decoding.read_slab.Goals as goal
 
 pub loop-b-init : goal.loop-b-init

@@ -2,8 +2,7 @@
 use Rattle.std.proofs.Common.{◌≡◌, ℕ, ℤ, List, Ok, map, length}
 use Rattle.zf_pad.proofs.Stored.{Stores}
 use Rattle.zf_parse.specs.Parsing.{read_codes}
-use Rattle.zf_stream.specs.Windows.{left_of, KnowsEnd, Goes}
-use Rattle.zf_stream.specs.Restoring.{stream_from}
+use Rattle.zf_stream.{specs.Windows.{left_of, KnowsEnd, Goes}, specs.Restoring.{stream_from}}
 use Rattle.zf_stream.specs.Rooms.{Stays}
 use Rattle.zf_dev.specs.Devices.{Reads}
 use Rattle.zf_stream.proofs.decoding.read_slab.Given as goal

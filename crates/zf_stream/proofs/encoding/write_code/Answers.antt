@@ -1,5 +1,4 @@
-use Rattle.std.proofs.lemmas.Grind.{common_steps}
-use Rattle.std.proofs.Common.{rules, arith}
+use Rattle.std.{proofs.lemmas.Grind.{common_steps}, proofs.Common.{rules, arith}}
 use Rattle.std.proofs.lemmas.List.{with_items_is, places}
 use Rattle.zf_pad.proofs.Blocks.{padded_same}
 use Rattle.zf_parse.proofs.Codes.{code_same}

@@ -1,18 +1,13 @@
-use Rattle.std.proofs.Common.{rules}
-use Rattle.std.proofs.Common.{◌≡◌, ℕ, ◌+◌, ◌-◌, ◌≤◌, Bool, List, ◌++◌, map, Option, append_assoc, arith}
-use Rattle.std.proofs.lemmas.List.{append-nil}
-use Rattle.std.specs.List.{flat_map}
-use Rattle.zf_spec.specs.Grid.{blocks, upto, count_from, extent_of, block_of}
-use Rattle.zf_spec.specs.Stream.{block_code}
-use Rattle.zf_header.specs.HeaderBits.{coding}
-use Rattle.zf_stream.specs.Flows.{Flows, Spills}
-use Rattle.zf_parse.proofs.Codes.{joined-more, joined-prefix}
-use Rattle.zf_stream.proofs.Flowing.{Flows-more, Flows-next, Flows-spill, Spills-more}
-use Rattle.zf_stream.proofs.OnErrors.{on_err}
+use Rattle.std.proofs.Common.{rules, ◌≡◌, ℕ, ◌+◌, ◌-◌, ◌≤◌, Bool, List, ◌++◌, map, Option, append_assoc, arith}
+use Rattle.std.{proofs.lemmas.List.{append-nil}, specs.List.{flat_map}}
 use Rattle.std.proofs.lemmas.Result.{err_from_is_err_and}
-use Rattle.zf_dev.proofs.Devices.{Writes-more}
+use Rattle.zf_spec.{specs.Grid.{blocks, upto, count_from, extent_of, block_of}, specs.Stream.{block_code}}
+use Rattle.zf_header.specs.HeaderBits.{coding}
+use Rattle.zf_stream.{specs.Flows.{Flows, Spills}, proofs.OnErrors.{on_err}, proofs.Failing.{WritesOnly-ok}}
+use Rattle.zf_stream.proofs.Flowing.{Flows-more, Flows-next, Flows-spill, Spills-more}
 use Rattle.zf_stream.proofs.Rooms.{Keeps-next, room_kept}
-use Rattle.zf_stream.proofs.Failing.{WritesOnly-ok}
+use Rattle.zf_parse.proofs.Codes.{joined-more, joined-prefix}
+use Rattle.zf_dev.proofs.Devices.{Writes-more}
 use Rattle.zf_stream.proofs.encoding.write_codes.Goals as goal
 
 module _ (f : ℕ → List Bool) (start : List Bool) where

@@ -1,11 +1,8 @@
 -- The codes so far are on their way.
-use Rattle.std.proofs.Common.{◌<◌, ◌++◌, map, length}
-use Rattle.std.specs.List.{flat_map}
-use Rattle.zf_spec.specs.Grid.{upto, extent_of, block_of}
-use Rattle.zf_spec.specs.Stream.{block_code}
+use Rattle.std.{proofs.Common.{◌<◌, ◌++◌, map, length}, specs.List.{flat_map}}
+use Rattle.zf_spec.{specs.Grid.{upto, extent_of, block_of}, specs.Stream.{block_code}}
 use Rattle.zf_header.specs.HeaderBits.{coding}
-use Rattle.zf_stream.specs.Flows.{Flows}
-use Rattle.zf_stream.specs.Rooms.{Keeps}
+use Rattle.zf_stream.{specs.Flows.{Flows}, specs.Rooms.{Keeps}}
 use Rattle.zf_dev.specs.Devices.{Writes}
 use Rattle.zf_stream.proofs.encoding.write_codes.Given as goal
 

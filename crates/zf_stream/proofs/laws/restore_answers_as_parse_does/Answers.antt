@@ -1,7 +1,5 @@
-use Rattle.std.proofs.Common.{◌≡◌, ◌↔◌, refl, Result, Ok, Err}
-use Rattle.std.specs.Prelude.{IsOk}
-use Rattle.zf_parse.specs.declared.fault.StreamFault.{StreamFault}
-use Rattle.zf_parse.specs.Parsing.{Said, parse}
+use Rattle.std.{proofs.Common.{◌≡◌, ◌↔◌, refl, Result, Ok, Err}, specs.Prelude.{IsOk}}
+use Rattle.zf_parse.{specs.declared.fault.StreamFault.{StreamFault}, specs.Parsing.{Said, parse}}
 use Rattle.zf_parse.proofs.Steps.{without_said}
 use Rattle.zf_stream.proofs.laws.restore_answers_as_parse_does.Goals as goal
 

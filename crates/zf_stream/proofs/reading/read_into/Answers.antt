@@ -1,5 +1,4 @@
-use Rattle.std.proofs.lemmas.Grind.{common_steps}
-use Rattle.std.proofs.Common.{arith}
+use Rattle.std.{proofs.lemmas.Grind.{common_steps}, proofs.Common.{arith}}
 use Rattle.zf_stream.proofs.reading.read_into.Goals as goal
 
 pub returns-in-Ok-clause-first : goal.returns-in-Ok-clause-first

@@ -1,13 +1,10 @@
-use Rattle.std.proofs.Common.{rules}
-use Rattle.std.proofs.lemmas.Grind.{common_steps}
-use Rattle.std.proofs.Common.{◌≡◌, ℕ, ◌+◌, ◌-◌, ◌*◌, ◌/◌, ◌≤◌, ◌++◌, map, length, take, drop, sym, ap, ◌∙◌, arith}
+use Rattle.std.proofs.Common.{rules, ◌≡◌, ℕ, ◌+◌, ◌-◌, ◌*◌, ◌/◌, ◌≤◌, ◌++◌, map, length, take, drop, sym, ap, ◌∙◌, arith}
+use Rattle.std.{proofs.lemmas.Grind.{common_steps}, proofs.lemmas.Result.{err_from_is_err_and}}
 use Rattle.std.proofs.lemmas.List.{take_at, length-take, length-take-le, length-drop}
-use Rattle.std.proofs.lemmas.Result.{err_from_is_err_and}
 use Rattle.std.proofs.Math.Nat.{add-mul, div-mul-le_self, mul-le-mul_right}
 use Rattle.zf_spec.specs.Stream.{values_from}
 use Rattle.zf_dev.proofs.Giving.{Gives-append}
-use Rattle.zf_stream.proofs.ReadingValues.{reads_more, lacks_behind}
-use Rattle.zf_stream.proofs.Failing.{Reads-ok}
+use Rattle.zf_stream.{proofs.ReadingValues.{reads_more, lacks_behind}, proofs.Failing.{Reads-ok}}
 use Rattle.zf_stream.proofs.reading.read_values.Goals as goal
 
 -- so many values fit into a piece

@@ -1,8 +1,7 @@
 -- The values so far were read.
 use Rattle.std.proofs.Common.{◌≤◌, ◌-◌, map, length, take}
-use Rattle.zf_dev.specs.Source.{Gives}
+use Rattle.zf_dev.{specs.Source.{Gives}, specs.Devices.{Reads}}
 use Rattle.zf_stream.specs.ReadRaw.{ReadsValues}
-use Rattle.zf_dev.specs.Devices.{Reads}
 use Rattle.zf_stream.proofs.reading.read_values.Given as goal
 
 pub record SoFar (g : goal.Over) (l : goal.Live-loop-at g) : Type 0 where

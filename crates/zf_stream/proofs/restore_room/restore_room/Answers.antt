@@ -1,8 +1,7 @@
 use Rattle.std.proofs.Common.{ap, ◌∙◌, arith}
 use Rattle.zf_spec.specs.Grid.{product}
 use Rattle.zf_pad.proofs.Slabs.{product-with_rows}
-use Rattle.zf_stream.proofs.FromPrefix.{header_is}
-use Rattle.zf_stream.proofs.Slabwise.{are_pieces}
+use Rattle.zf_stream.{proofs.FromPrefix.{header_is}, proofs.Slabwise.{are_pieces}}
 use Rattle.zf_stream.proofs.restore_room.restore_room.Goals as goal
 
 pub longest_code-longest-requires-clause-mode : goal.longest_code-longest-requires-clause-mode

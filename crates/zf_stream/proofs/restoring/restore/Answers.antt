@@ -1,6 +1,4 @@
-use Rattle.std.proofs.Common.{rules}
-use Rattle.std.proofs.Common.{arith}
-use Rattle.std.proofs.lemmas.Result.{err_from_is_err_and}
+use Rattle.std.{proofs.Common.{rules, arith}, proofs.lemmas.Result.{err_from_is_err_and}}
 use Rattle.std.proofs.lemmas.List.{length-take-le}
 use Rattle.zf_stream.proofs.Headed.{good_of_prefix}
 use Rattle.zf_stream.proofs.RestoreEndings.{restored_known, restored_header, restored_unread}

@@ -1,8 +1,6 @@
-use Rattle.std.proofs.Common.{rules}
-use Rattle.std.proofs.lemmas.Result.{err_from_is_err_and}
+use Rattle.std.{proofs.Common.{rules}, proofs.lemmas.Result.{err_from_is_err_and}}
 use Rattle.zf_dev.proofs.Devices.{Reads-told}
-use Rattle.zf_stream.proofs.Endings.{unread}
-use Rattle.zf_stream.proofs.RestoreEndings.{no_room, restored_behind}
+use Rattle.zf_stream.{proofs.Endings.{unread}, proofs.RestoreEndings.{no_room, restored_behind}}
 use Rattle.zf_stream.proofs.restoring.restore_as.Goals as goal
 
 pub returns-in_err-room-clause-outcome : goal.returns-in_err-room-clause-outcome

@@ -1,8 +1,6 @@
-use Rattle.std.proofs.Common.{arith}
-use Rattle.std.proofs.Common.{rules}
+use Rattle.std.proofs.Common.{arith, rules}
 use Rattle.zf_pad.specs.Slabs.{rows_of}
-use Rattle.zf_stream.proofs.OnErrors.{on_err}
-use Rattle.zf_stream.proofs.Restored.{rows_left}
+use Rattle.zf_stream.{proofs.OnErrors.{on_err}, proofs.Restored.{rows_left}}
 use Rattle.zf_stream.proofs.RestoredAll.{on_ok_of, if_err_of, restores_all, has_fault, all_left}
 use Rattle.zf_stream.proofs.restoring.restore_rows.Goals as goal
 

@@ -1,19 +1,15 @@
-use Rattle.std.proofs.Common.{rules}
-use Rattle.std.proofs.Common.{◌≡◌, ℕ, ◌+◌, ◌-◌, ◌*◌, ◌/◌, ◌<◌, ◌≤◌, List, map, length, min, mul_comm, ap, ◌∙◌, arith}
-use Rattle.std.proofs.lemmas.Result.{err_from_is_err_and}
-use Rattle.std.proofs.Math.Nat.{mul-le-mul_left, mul-add}
+use Rattle.std.proofs.Common.{rules, ◌≡◌, ℕ, ◌+◌, ◌-◌, ◌*◌, ◌/◌, ◌<◌, ◌≤◌, List, map, length, min, mul_comm, ap, ◌∙◌, arith}
+use Rattle.std.{proofs.lemmas.Result.{err_from_is_err_and}, proofs.Math.Nat.{mul-le-mul_left, mul-add}}
 use Rattle.zf_spec.specs.Grid.{product, grid, blocks}
 use Rattle.zf_pad.specs.Slabs.{rows_of, row_len, with_rows, IsSlab, first_block}
 use Rattle.zf_pad.proofs.Stored.{length-raster_of}
 use Rattle.zf_pad.proofs.Slabs.{length-with_rows, product-with_rows, blocks-with_rows}
 use Rattle.zf_header.specs.declared.header.Header.{Header}
-use Rattle.zf_stream.specs.Rows.{ArePieces}
-use Rattle.zf_stream.proofs.OnErrors.{on_err}
+use Rattle.zf_stream.{specs.Rows.{ArePieces}, proofs.OnErrors.{on_err}, proofs.Failing.{Reads-ok, Writes-ok}}
 use Rattle.zf_stream.proofs.Restored.{blocks_behind, slab_restored, slab_spilled, slab_cut, slab_lacked, Restores-none}
 use Rattle.zf_stream.proofs.Slabwise.{with_shape, IsNext, next_here, next_whole}
-use Rattle.zf_dev.proofs.Devices.{Reads-none, Reads-more, Writes-none, Writes-more}
 use Rattle.zf_stream.proofs.Rooms.{Stays-none, Stays-next, still_restores_all, restores_part}
-use Rattle.zf_stream.proofs.Failing.{Reads-ok, Writes-ok}
+use Rattle.zf_dev.proofs.Devices.{Reads-none, Reads-more, Writes-none, Writes-more}
 use Rattle.zf_stream.proofs.restoring.restore_slabs.Goals as goal
 
 -- the slab that comes next, of which so many rows are there

@@ -1,8 +1,7 @@
 -- The rows so far were restored.
 use Rattle.std.proofs.Common.{◌≡◌, ◌+◌, ◌-◌, ◌/◌}
 use Rattle.zf_pad.specs.Slabs.{rows_of, first_block}
-use Rattle.zf_stream.specs.Rooms.{CanRestoreAll, Stays}
-use Rattle.zf_stream.specs.Restoring.{Restores}
+use Rattle.zf_stream.{specs.Rooms.{CanRestoreAll, Stays}, specs.Restoring.{Restores}}
 use Rattle.zf_dev.specs.Devices.{Reads, Writes}
 use Rattle.zf_stream.proofs.restoring.restore_slabs.Given as goal
 

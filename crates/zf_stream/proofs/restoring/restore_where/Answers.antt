@@ -1,5 +1,4 @@
-use Rattle.std.proofs.Common.{rules, ◌≡◌, ◌≢◌, arith}
-use Rattle.std.proofs.lemmas.Result.{err_from_is_err_and}
+use Rattle.std.{proofs.Common.{rules, ◌≡◌, ◌≢◌, arith}, proofs.lemmas.Result.{err_from_is_err_and}}
 use Rattle.std.proofs.lemmas.List.{length-take-le}
 use Rattle.zf_stream.proofs.TypedAnswers.{where_unread, where_header, where_other, where_failed, where_done}
 use Rattle.zf_stream.proofs.restoring.restore_where.Goals as goal

@@ -1,8 +1,6 @@
-use Rattle.std.proofs.Common.{rules}
-use Rattle.std.proofs.Common.{◌≡◌, ℕ, ◌≤◌, List, [], ◌∷◌, length, get_or, take, refl, sym, subst, ◌∙◌, arith}
+use Rattle.std.proofs.Common.{rules, ◌≡◌, ℕ, ◌≤◌, List, [], ◌∷◌, length, get_or, take, refl, sym, subst, ◌∙◌, arith}
 use Rattle.zf_spec.specs.Grid.{IsShape}
-use Rattle.zf_pad.specs.Slabs.{with_rows}
-use Rattle.zf_pad.proofs.Slabs.{length-with_rows, IsShape-with_rows}
+use Rattle.zf_pad.{specs.Slabs.{with_rows}, proofs.Slabs.{length-with_rows, IsShape-with_rows}}
 use Rattle.zf_stream.proofs.slabs.with_rows.Goals as goal
 
 -- at most four sizes, one after another

@@ -1,13 +1,9 @@
-use Rattle.std.proofs.Common.{rules}
-use Rattle.std.proofs.lemmas.Grind.{common_steps}
-use Rattle.std.proofs.Common.{◌≡◌, ℕ, ◌+◌, ◌*◌, ◌<◌, ◌≤◌, ◌⊎◌, ℤ, List, [], ◌∷◌, ◌++◌, map, length, take, get_or, sym, ap, ◌∙◌, arith}
-use Rattle.std.proofs.lemmas.List.{append-nil, map-append, take_more}
-use Rattle.std.proofs.lemmas.Slice.{take-put_mid}
-use Rattle.std.proofs.Math.Nat.{add-mul, mul-le-mul_right}
+use Rattle.std.proofs.Common.{rules, ◌≡◌, ℕ, ◌+◌, ◌*◌, ◌<◌, ◌≤◌, ◌⊎◌, ℤ, List, [], ◌∷◌, ◌++◌, map, length, take, get_or, sym, ap, ◌∙◌, arith}
+use Rattle.std.{proofs.lemmas.Grind.{common_steps}, proofs.lemmas.List.{append-nil, map-append, take_more}}
+use Rattle.std.{proofs.lemmas.Slice.{take-put_mid}, proofs.Math.Nat.{add-mul, mul-le-mul_right}}
 use Rattle.std.specs.Int.{Width, w32, w64, byte_len, to_le_bytes, cast_unsigned}
 use borrow.Rule.Slice.PartMut.{put_mid}
-use Rattle.zf_spec.specs.Stream.{raw}
-use Rattle.zf_spec.proofs.Bytes.{length-to_le_bytes}
+use Rattle.zf_spec.{specs.Stream.{raw}, proofs.Bytes.{length-to_le_bytes}}
 use Rattle.zf_stream.proofs.RawValues.{raw-append}
 use Rattle.zf_stream.proofs.values.put_raw.Goals as goal
 

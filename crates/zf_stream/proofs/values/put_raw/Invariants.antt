@@ -1,6 +1,5 @@
 -- The bytes of the values so far.
-use Rattle.std.proofs.Common.{◌≡◌, ◌*◌, map, take}
-use Rattle.std.specs.Int.{byte_len}
+use Rattle.std.{proofs.Common.{◌≡◌, ◌*◌, map, take}, specs.Int.{byte_len}}
 use Rattle.zf_spec.specs.Stream.{raw}
 use Rattle.zf_stream.proofs.values.put_raw.Given as goal
 

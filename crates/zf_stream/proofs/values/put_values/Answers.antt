@@ -1,5 +1,4 @@
-use Rattle.std.proofs.Common.{rules}
-use Rattle.std.proofs.lemmas.List.{map_push, take_more_set, take_all}
+use Rattle.std.{proofs.Common.{rules}, proofs.lemmas.List.{map_push, take_more_set, take_all}}
 use Rattle.std.proofs.Math.Nat.{mul-le-mul_right}
 use Rattle.zf_stream.proofs.LittleEndian.{values_from-more}
 use Rattle.zf_stream.proofs.values.put_values.Goals as goal

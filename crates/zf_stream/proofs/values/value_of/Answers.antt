@@ -1,5 +1,4 @@
-use Rattle.std.proofs.Common.{rules}
-use Rattle.std.proofs.lemmas.List.{get_or_default}
+use Rattle.std.{proofs.Common.{rules}, proofs.lemmas.List.{get_or_default}}
 use Rattle.zf_stream.proofs.LittleEndian.{value_is}
 use Rattle.zf_stream.proofs.values.value_of.Goals as goal
 

@@ -1,19 +1,11 @@
-use Rattle.std.proofs.Common.{rules}
-use Rattle.std.proofs.Common.{◌≡◌, ℕ, ◌≤◌, ℤ, List, map, length, take, subst}
-use Rattle.std.proofs.lemmas.List.{take_all, take-map, length-map}
-use Rattle.std.specs.Prelude.{OnOk, OnErr}
-use Rattle.std.specs.Int.{Width}
-use Rattle.zf_spec.specs.Grid.{product}
-use Rattle.zf_spec.specs.Stream.{raw}
-use Rattle.zf_pad.specs.Stored.{raster_of}
-use Rattle.zf_pad.proofs.Stored.{length-raster_of, raster_of_one}
-use Rattle.zf_dev.specs.Sink.{Appends, AppendsPrefix}
-use Rattle.zf_stream.proofs.OnErrors.{on_err}
-use Rattle.zf_stream.proofs.RawValues.{raw-append}
-use Rattle.zf_stream.proofs.Piecewise.{part_written, part_failed}
-use Rattle.zf_dev.proofs.Devices.{Writes-more}
-use Rattle.zf_stream.proofs.Failing.{WritesOnly-ok}
+use Rattle.std.{proofs.Common.{rules, ◌≡◌, ℕ, ◌≤◌, ℤ, List, map, length, take, subst}, specs.Int.{Width}}
+use Rattle.std.{proofs.lemmas.List.{take_all, take-map, length-map}, specs.Prelude.{OnOk, OnErr}}
 use Rattle.std.proofs.lemmas.Result.{err_from_is_err_and}
+use Rattle.zf_spec.{specs.Grid.{product}, specs.Stream.{raw}}
+use Rattle.zf_pad.{specs.Stored.{raster_of}, proofs.Stored.{length-raster_of, raster_of_one}}
+use Rattle.zf_dev.{specs.Sink.{Appends, AppendsPrefix}, proofs.Devices.{Writes-more}}
+use Rattle.zf_stream.{proofs.OnErrors.{on_err}, proofs.RawValues.{raw-append}, proofs.Failing.{WritesOnly-ok}}
+use Rattle.zf_stream.proofs.Piecewise.{part_written, part_failed}
 use Rattle.zf_stream.proofs.writing.write_stored.Goals as goal
 
 pub returns-in_err-write_values-clause-err : goal.returns-in_err-write_values-clause-err

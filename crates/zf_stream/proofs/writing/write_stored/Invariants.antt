@@ -1,10 +1,8 @@
 -- The bytes of the values so far were written.
 use Rattle.std.proofs.Common.{◌≤◌, ◌-◌, map, take}
-use Rattle.zf_spec.specs.Grid.{product}
-use Rattle.zf_spec.specs.Stream.{raw}
+use Rattle.zf_spec.{specs.Grid.{product}, specs.Stream.{raw}}
 use Rattle.zf_pad.specs.Stored.{raster_of, IsFirst}
-use Rattle.zf_dev.specs.Sink.{Appends}
-use Rattle.zf_dev.specs.Devices.{Writes}
+use Rattle.zf_dev.{specs.Sink.{Appends}, specs.Devices.{Writes}}
 use Rattle.zf_stream.proofs.writing.write_stored.Given as goal
 
 pub record Written (g : goal.Over) (l : goal.Live-loop-at g) : Type 0 where

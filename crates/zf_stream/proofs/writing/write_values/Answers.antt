@@ -1,16 +1,11 @@
-use Rattle.std.proofs.Common.{rules, min}
-use Rattle.std.proofs.lemmas.Grind.{common_steps}
-use Rattle.std.proofs.Common.{◌≡◌, ℕ, ◌*◌, ◌/◌, ◌≤◌, ℤ, List, ◌++◌, map, ap, ◌∙◌, arith}
-use Rattle.std.proofs.lemmas.List.{map-append}
+use Rattle.std.proofs.Common.{rules, min, ◌≡◌, ℕ, ◌*◌, ◌/◌, ◌≤◌, ℤ, List, ◌++◌, map, ap, ◌∙◌, arith}
+use Rattle.std.{proofs.lemmas.Grind.{common_steps}, proofs.lemmas.List.{map-append}, specs.Int.{Width}}
 use Rattle.std.proofs.Math.Nat.{div-mul-le_self, mul-le-mul_right}
-use Rattle.std.specs.Int.{Width}
-use Rattle.zf_spec.specs.Stream.{raw}
-use Rattle.zf_stream.proofs.Piecewise.{piece_is, part_written, part_failed}
-use Rattle.zf_stream.proofs.OnErrors.{on_err}
-use Rattle.zf_stream.proofs.RawValues.{raw-append}
-use Rattle.zf_dev.proofs.Devices.{Writes-more}
-use Rattle.zf_stream.proofs.Failing.{WritesOnly-ok}
 use Rattle.std.proofs.lemmas.Result.{err_from_is_err_and}
+use Rattle.zf_spec.specs.Stream.{raw}
+use Rattle.zf_stream.{proofs.Piecewise.{piece_is, part_written, part_failed}, proofs.OnErrors.{on_err}}
+use Rattle.zf_stream.{proofs.RawValues.{raw-append}, proofs.Failing.{WritesOnly-ok}}
+use Rattle.zf_dev.proofs.Devices.{Writes-more}
 use Rattle.zf_stream.proofs.writing.write_values.Goals as goal
 
 -- so many values fit into a piece

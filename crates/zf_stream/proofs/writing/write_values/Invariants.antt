@@ -1,8 +1,7 @@
 -- The bytes of the values so far were written.
 use Rattle.std.proofs.Common.{◌≤◌, ◌-◌, map, length, take}
 use Rattle.zf_spec.specs.Stream.{raw}
-use Rattle.zf_dev.specs.Sink.{Appends}
-use Rattle.zf_dev.specs.Devices.{Writes}
+use Rattle.zf_dev.{specs.Sink.{Appends}, specs.Devices.{Writes}}
 use Rattle.zf_stream.proofs.writing.write_values.Given as goal
 
 pub record Written (g : goal.Over) (l : goal.Live-loop-at g) : Type 0 where

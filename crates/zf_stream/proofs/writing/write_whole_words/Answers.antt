@@ -1,14 +1,11 @@
-use Rattle.std.proofs.Common.{rules}
-use Rattle.std.proofs.Common.{◌≡◌, ℕ, ◌-◌, ◌*◌, ◌/◌, ◌%◌, ◌<◌, ◌^◌, Bool, List, Option, ◌++◌, length, take, drop, All, take-append-drop, length-append}
+use Rattle.std.proofs.Common.{rules, ◌≡◌, ℕ, ◌-◌, ◌*◌, ◌/◌, ◌%◌, ◌<◌, ◌^◌, Bool, List, Option, ◌++◌, length, take, drop, All, take-append-drop, length-append}
 use Rattle.std.proofs.lemmas.List.{take-append-le, drop-append-le, length-drop, take_at}
 use Rattle.std.specs.Int.{div_ceil}
-use Rattle.zf_spec.specs.Numbers.{field, number, word_bits}
-use Rattle.zf_spec.specs.Stream.{to_bits, with_fill}
+use Rattle.zf_spec.{specs.Numbers.{field, number, word_bits}, specs.Stream.{to_bits, with_fill}}
 use Rattle.zf_spec.proofs.Fields.{length-field, field-number}
 use Rattle.zf_dev.specs.Sink as Sink
 use Rattle.zf_dev.specs.Sink.{AppendsPrefix}
-use Rattle.zf_stream.specs.Flows.{bytes_in, Flows, Spills}
-use Rattle.zf_stream.proofs.OnErrors.{on_err}
+use Rattle.zf_stream.{specs.Flows.{bytes_in, Flows, Spills}, proofs.OnErrors.{on_err}}
 use Rattle.zf_stream.proofs.WordBytes.{to_bits-bytes_in, small-bytes_in, length-bytes_in, word_bits-take}
 use Rattle.zf_stream.proofs.writing.write_whole_words.Goals as goal
 

@@ -1,14 +1,9 @@
-use Rattle.std.proofs.Common.{rules}
-use Rattle.std.proofs.Common.{◌≡◌, ℕ, ◌*◌, ◌<◌, ◌≤◌, ◌^◌, List, ◌++◌, length, arith}
-use Rattle.std.proofs.lemmas.List.Elements.{All-from_get_or}
-use Rattle.std.proofs.lemmas.Grind.{flat_map-append}
-use Rattle.std.specs.Int.{w64, to_le_bytes}
-use Rattle.zf_stream.proofs.Piecewise.{piece_is, part_written, part_failed}
-use Rattle.zf_stream.specs.Flows.{bytes_in}
-use Rattle.zf_stream.proofs.OnErrors.{on_err}
+use Rattle.std.proofs.Common.{rules, ◌≡◌, ℕ, ◌*◌, ◌<◌, ◌≤◌, ◌^◌, List, ◌++◌, length, arith}
+use Rattle.std.{proofs.lemmas.List.Elements.{All-from_get_or}, proofs.lemmas.Grind.{flat_map-append}}
+use Rattle.std.{specs.Int.{w64, to_le_bytes}, proofs.lemmas.Result.{err_from_is_err_and}}
+use Rattle.zf_stream.{proofs.Piecewise.{piece_is, part_written, part_failed}, specs.Flows.{bytes_in}}
+use Rattle.zf_stream.{proofs.OnErrors.{on_err}, proofs.Failing.{WritesOnly-ok}}
 use Rattle.zf_dev.proofs.Devices.{Writes-more}
-use Rattle.zf_stream.proofs.Failing.{WritesOnly-ok}
-use Rattle.std.proofs.lemmas.Result.{err_from_is_err_and}
 use Rattle.zf_stream.proofs.writing.write_words.Goals as goal
 
 joined : (xs ys : List ℕ) → bytes_in (xs ++ ys) ≡ bytes_in xs ++ bytes_in ys

@@ -1,8 +1,7 @@
 -- The bytes of the words so far were written.
 use Rattle.std.proofs.Common.{◌≤◌, ◌-◌, length, take}
-use Rattle.zf_dev.specs.Sink.{Appends}
+use Rattle.zf_dev.{specs.Sink.{Appends}, specs.Devices.{Writes}}
 use Rattle.zf_stream.specs.Flows.{bytes_in}
-use Rattle.zf_dev.specs.Devices.{Writes}
 use Rattle.zf_stream.proofs.writing.write_words.Given as goal
 
 pub record Written (g : goal.Over) (l : goal.Live-loop-at g) : Type 0 where

@@ -1,6 +1,5 @@
 use Rattle.zf_cache.proofs.Steps.{discarded_at, emptied_fits_at}
-use Rattle.zf_twoway.specs.Placing.{skewed}
-use Rattle.zf_twoway.proofs.Standing.{fits_at, fits_of}
+use Rattle.zf_twoway.{specs.Placing.{skewed}, proofs.Standing.{fits_at, fits_of}}
 use Rattle.zf_twoway.proofs.laws.discards.Goals as goal
 
 pub returns : goal.returns

@@ -1,6 +1,5 @@
 use Rattle.zf_cache.proofs.Steps.{empty_fits_at}
-use Rattle.zf_twoway.specs.Placing.{skewed}
-use Rattle.zf_twoway.proofs.Standing.{fits_of}
+use Rattle.zf_twoway.{specs.Placing.{skewed}, proofs.Standing.{fits_of}}
 use Rattle.zf_twoway.proofs.laws.empty_caches_fit.Goals as goal
 
 pub returns : goal.returns

@@ -1,5 +1,4 @@
-use Rattle.zf_twoway.specs.Touch.{touch}
-use Rattle.zf_twoway.proofs.Touches.{touch-is_here, touch-hits}
+use Rattle.zf_twoway.{specs.Touch.{touch}, proofs.Touches.{touch-is_here, touch-hits}}
 use Rattle.zf_twoway.proofs.laws_of_touches.touched_blocks.Goals as goal
 
 pub returns : goal.returns

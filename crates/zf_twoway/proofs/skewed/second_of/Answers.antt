@@ -1,6 +1,4 @@
-use Rattle.std.proofs.Common.{◌/◌, ◌≤◌, arith}
-use Rattle.std.proofs.lemmas.Nat.{xor_lt}
-use Rattle.std.proofs.Math.Nat.{div-le_self}
+use Rattle.std.{proofs.Common.{◌/◌, ◌≤◌, arith}, proofs.lemmas.Nat.{xor_lt}, proofs.Math.Nat.{div-le_self}}
 use Rattle.std.specs.Int.Bits.{bit_xor}
 use Rattle.zf_twoway.proofs.skewed.second_of.Goals as goal
 

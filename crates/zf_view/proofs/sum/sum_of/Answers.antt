@@ -1,13 +1,10 @@
-use Rattle.std.proofs.Common.{◌<◌, ◌+◌, ◌*◌, ◌^◌, refl, sym, ap, subst, ◌∙◌, to_z, arith}
-use Rattle.std.specs.Int.{w128}
+use Rattle.std.{proofs.Common.{◌<◌, ◌+◌, ◌*◌, ◌^◌, refl, sym, ap, subst, ◌∙◌, to_z, arith}, specs.Int.{w128}}
 use Rattle.std.proofs.lemmas.Int.{ints}
 use Rattle.zf_spec.specs.Grid.{product}
 use Rattle.zf_base.specs.Positions.{IsPosition}
-use Rattle.zf_window.specs.Positions.{Walking, raster_at}
-use Rattle.zf_window.proofs.Raster.{product_window, raster_at-inside}
+use Rattle.zf_window.{specs.Positions.{Walking, raster_at}, proofs.Raster.{product_window, raster_at-inside}}
+use Rattle.zf_window.{specs.Bounds.{IsUpTo}, proofs.Bounds.{value_up_to}}
 use Rattle.zf_view.specs.Sums.{touched_to, sum_found}
-use Rattle.zf_window.specs.Bounds.{IsUpTo}
-use Rattle.zf_window.proofs.Bounds.{value_up_to}
 use Rattle.zf_view.proofs.Sums.{more, more_fits, more_is, touched_more, found_more}
 use Rattle.zf_view.proofs.sum.sum_of.Goals as goal
 

@@ -1,7 +1,5 @@
-use Rattle.std.proofs.Common.{rules}
-use Rattle.std.proofs.Common.{map, string_bytes}
-use Rattle.zfpi.specs.Calls.{Fulfils}
-use Rattle.zfpi.proofs.Promises.{OfCommand-one, RefusesWords-of, OnUsage-of}
+use Rattle.std.proofs.Common.{rules, map, string_bytes}
+use Rattle.zfpi.{specs.Calls.{Fulfils}, proofs.Promises.{OfCommand-one, RefusesWords-of, OnUsage-of}}
 use Rattle.zfpi.proofs.program.answer.Goals as goal
 
 pub returns-in-Ok : goal.returns-in-Ok

@@ -1,7 +1,6 @@
 use Rattle.std.proofs.Common.{refl}
 use Rattle.zfpi.specs.declared.command.Command.TheVariants.{Compress, CompressNarrow, Restore, RestoreNarrow, Info, Bound, Sample}
-use Rattle.zfpi.proofs.Causes.{HasCauses-sure}
-use Rattle.zfpi.proofs.Stopping.{StopsAtEnd-same}
+use Rattle.zfpi.{proofs.Causes.{HasCauses-sure}, proofs.Stopping.{StopsAtEnd-same}}
 use Rattle.zfpi.proofs.Stepping.{Steps-sent}
 use Rattle.zfpi.proofs.HandedOn.{Behaves-sent, HasCauses-sent, IsSent-sent, Fulfils-sent, unloaded_sent}
 use Rattle.zfpi.proofs.program.do_command.Goals as goal

@@ -1,5 +1,4 @@
-use Rattle.zfpi.specs.Statuses.{error_line}
-use Rattle.zfpi.proofs.HandedOn.{flushed_quiet, Sends-stays}
+use Rattle.zfpi.{specs.Statuses.{error_line}, proofs.HandedOn.{flushed_quiet, Sends-stays}}
 use Rattle.zfpi.proofs.program.report.Goals as goal
 
 pub returns-clause-message : goal.returns-clause-message

@@ -1,6 +1,5 @@
 use Rattle.std.proofs.Common.{rules, map, string_bytes}
-use Rattle.zfpi.proofs.Stepping.{Steps-quiet}
-use Rattle.zfpi.proofs.Promises.{IsComplete-quiet, GivesBack-behaves}
+use Rattle.zfpi.{proofs.Stepping.{Steps-quiet}, proofs.Promises.{IsComplete-quiet, GivesBack-behaves}}
 use Rattle.zfpi.proofs.program.zfpi.Goals as goal
 
 pub returns : goal.returns

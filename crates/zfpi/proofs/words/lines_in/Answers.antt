@@ -1,7 +1,5 @@
-use Rattle.std.proofs.Common.{Some, subst, arith}
-use Rattle.std.proofs.lemmas.Bool.{false≢true}
-use Rattle.zfpi.specs.Words.{IsLines}
-use Rattle.zfpi.proofs.CommandWords.{IsLinesWord-number}
+use Rattle.std.{proofs.Common.{Some, subst, arith}, proofs.lemmas.Bool.{false≢true}}
+use Rattle.zfpi.{specs.Words.{IsLines}, proofs.CommandWords.{IsLinesWord-number}}
 use Rattle.zfpi.proofs.words.lines_in.Goals as goal
 
 pub returns-else-is_line_count-clause-none : goal.returns-else-is_line_count-clause-none

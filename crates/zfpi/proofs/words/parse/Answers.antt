@@ -1,7 +1,6 @@
 use Rattle.std.proofs.Common.{◌≡◌, take, map, length, subst, sym, arith, string_bytes}
 use Rattle.std.proofs.lemmas.List.{length-map, take_all}
-use Rattle.zfpi.specs.Words.{BeginsCommand}
-use Rattle.zfpi.specs.Stages.{LeadsTo}
+use Rattle.zfpi.{specs.Words.{BeginsCommand}, specs.Stages.{LeadsTo}}
 use Rattle.zfpi.proofs.CommandWords.{word_more, IsUsage-stopped, IsUsage-ended}
 use Rattle.zfpi.proofs.words.parse.Goals as goal
 

@@ -1,7 +1,5 @@
-use Rattle.std.proofs.Common.{subst, arith}
-use Rattle.std.proofs.lemmas.Bool.{false≢true}
-use Rattle.zf_header.specs.declared.header.Mode.TheVariants.{Precision}
-use Rattle.zf_header.specs.HeaderBits.{IsMode}
+use Rattle.std.{proofs.Common.{subst, arith}, proofs.lemmas.Bool.{false≢true}}
+use Rattle.zf_header.{specs.declared.header.Mode.TheVariants.{Precision}, specs.HeaderBits.{IsMode}}
 use Rattle.zfpi.proofs.CommandWords.{IsPrecisionWord-number}
 use Rattle.zfpi.proofs.words.precision_in.Goals as goal
 

@@ -1,7 +1,5 @@
-use Rattle.std.proofs.Common.{◌≤◌, subst, arith}
-use Rattle.std.proofs.lemmas.Bool.{false≢true}
-use Rattle.zf_header.specs.declared.header.Mode.TheVariants.{Rate}
-use Rattle.zf_header.specs.HeaderBits.{IsRate, rate_bytes_of}
+use Rattle.std.{proofs.Common.{◌≤◌, subst, arith}, proofs.lemmas.Bool.{false≢true}}
+use Rattle.zf_header.{specs.declared.header.Mode.TheVariants.{Rate}, specs.HeaderBits.{IsRate, rate_bytes_of}}
 use Rattle.zfpi.proofs.CommandWords.{IsRateWord-number}
 use Rattle.zfpi.proofs.words.rate_in.Goals as goal
 

@@ -1,9 +1,7 @@
-use Rattle.std.proofs.Common.{◌≡◌, ◌<◌, All, ap, sym, subst, ◌∙◌}
+use Rattle.std.{proofs.Common.{◌≡◌, ◌<◌, All, ap, sym, subst, ◌∙◌}, proofs.lemmas.Result.{IfOk-weaker}}
 use Rattle.std.proofs.lemmas.List.Elements.{All-from_get_or}
-use Rattle.std.proofs.lemmas.Result.{IfOk-weaker}
 use Rattle.zf_header.specs.HeaderBits.{IsMode, IsHeader}
-use Rattle.zf_parse.specs.Parsing.{restored_text}
-use Rattle.zf_parse.proofs.StreamsBack.{text-reversible_text}
+use Rattle.zf_parse.{specs.Parsing.{restored_text}, proofs.StreamsBack.{text-reversible_text}}
 use Rattle.zfpi_uses.proofs.streams.there_and_back.Goals as goal
 
 pub returns : goal.returns

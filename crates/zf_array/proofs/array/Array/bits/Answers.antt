@@ -1,6 +1,5 @@
 use Rattle.std.proofs.Common.{sym, ap, ◌∙◌}
-use Rattle.zf_header.specs.declared.header.Header.{Header}
-use Rattle.zf_header.specs.HeaderBits.{block_bits}
+use Rattle.zf_header.{specs.declared.header.Header.{Header}, specs.HeaderBits.{block_bits}}
 use Rattle.zf_array.proofs.Standing.{header_now}
 use Rattle.zf_array.proofs.array.Array.bits.Goals as goal
 

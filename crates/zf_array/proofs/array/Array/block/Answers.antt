@@ -1,17 +1,12 @@
-use Rattle.std.proofs.Common.{refl, sym, ap, subst, ◌∙◌, ◌<◌, Bool, List, lit<, map}
-use Rattle.std.specs.Vec.{vec_len}
+use Rattle.std.{proofs.Common.{refl, sym, ap, subst, ◌∙◌, ◌<◌, Bool, List, lit<, map}, specs.Vec.{vec_len}}
 use Rattle.zf_spec.specs.Grid.{blocks}
 use Rattle.zf_base.specs.Formats.{Format, existing_of}
-use Rattle.zf_cached.specs.State.{State}
-use Rattle.zf_cached.specs.Touch.{touch}
+use Rattle.zf_cached.{specs.State.{State}, specs.Touch.{touch}}
 use Rattle.zf_header.specs.declared.header.Header.{Header}
-use Rattle.zf_store.specs.Stored.{code_at, format_of}
-use Rattle.zf_store.proofs.Kept.{blocks_is}
-use Rattle.zf_cache.specs.Kept.{line_of}
-use Rattle.zf_cache.proofs.Sound.{values_here}
+use Rattle.zf_store.{specs.Stored.{code_at, format_of}, proofs.Kept.{blocks_is}}
+use Rattle.zf_cache.{specs.Kept.{line_of}, proofs.Sound.{values_here}}
 use Rattle.zf_array.proofs.Standing.{format_now, has_blocks, header_now, state_after}
-use Rattle.zf_array.proofs.Steps.{held_step, step}
-use Rattle.zf_array.specs.Standing.{state}
+use Rattle.zf_array.{proofs.Steps.{held_step, step}, specs.Standing.{state}}
 use Rattle.zf_array.proofs.array.Array.block.Goals as goal
 
 pub touch-requires : goal.touch-requires

@@ -1,15 +1,11 @@
 use Rattle.std.proofs.Common.{◌≡◌, refl, sym, ap, ◌∙◌, ◌≤◌, ◌^◌, Bool, List, length, arith, map, ℤ}
-use Rattle.zf_base.specs.Formats.{Format, existing_of}
-use Rattle.zf_cached.specs.State.{State}
-use Rattle.zf_cached.specs.Touch.{touch_for_writing, with_values}
+use Rattle.zf_base.{specs.Formats.{Format, existing_of}, proofs.Formats.{length-existing_of}}
+use Rattle.zf_cached.{specs.State.{State}, specs.Touch.{touch_for_writing, with_values}}
 use Rattle.zf_header.specs.declared.header.Header.{Header}
 use Rattle.zf_store.specs.Stored.{format_of}
-use Rattle.zf_base.proofs.Formats.{length-existing_of}
 use Rattle.zf_lines.specs.Rows.{over}
-use Rattle.zf_array.specs.Loans.{spliced}
-use Rattle.zf_array.proofs.Standing.{format_now, has_blocks}
-use Rattle.zf_array.proofs.Lent.{spliced_all, header_block}
-use Rattle.zf_array.specs.Standing.{format, state, array_of}
+use Rattle.zf_array.{specs.Loans.{spliced}, proofs.Standing.{format_now, has_blocks}}
+use Rattle.zf_array.{proofs.Lent.{spliced_all, header_block}, specs.Standing.{format, state, array_of}}
 use Rattle.zf_array.proofs.array.Array.block_mut.Goals as goal
 
 pub returns : goal.returns

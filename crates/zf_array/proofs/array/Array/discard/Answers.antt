@@ -1,7 +1,5 @@
-use Rattle.std.proofs.Common.{refl, ap, Bool, List}
-use Rattle.std.specs.Vec.{vec_len}
-use Rattle.zf_cached.specs.State.{State}
-use Rattle.zf_cached.specs.Changes.{discard}
+use Rattle.std.{proofs.Common.{refl, ap, Bool, List}, specs.Vec.{vec_len}}
+use Rattle.zf_cached.{specs.State.{State}, specs.Changes.{discard}}
 use Rattle.zf_store.specs.Stored.{code_at, format_of}
 use Rattle.zf_cache.proofs.Steps.{emptied_fits, discarded}
 use Rattle.zf_array.proofs.Steps.{step, header_step}

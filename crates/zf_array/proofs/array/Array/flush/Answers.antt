@@ -1,8 +1,6 @@
 use Rattle.std.proofs.Common.{ap, Bool, List, lit<}
-use Rattle.zf_cached.specs.State.{State}
-use Rattle.zf_cached.specs.Changes.{flush, emptied}
-use Rattle.zf_array.proofs.Standing.{has_blocks, joined_after}
-use Rattle.zf_array.proofs.Steps.{step, header_step}
+use Rattle.zf_cached.{specs.State.{State}, specs.Changes.{flush, emptied}}
+use Rattle.zf_array.{proofs.Standing.{has_blocks, joined_after}, proofs.Steps.{step, header_step}}
 use Rattle.zf_array.proofs.array.Array.flush.Goals as goal
 
 pub flush-requires : goal.flush-requires

@@ -1,18 +1,13 @@
-use Rattle.std.proofs.Common.{◌≡◌, sym, ap, subst, ◌∙◌, ℕ, List, length}
-use Rattle.std.specs.Vec.{vec_len}
+use Rattle.std.{proofs.Common.{◌≡◌, sym, ap, subst, ◌∙◌, ℕ, List, length}, specs.Vec.{vec_len}}
 use Rattle.zf_spec.specs.Grid.{blocks, IsShape}
-use Rattle.zf_header.specs.declared.header.Header.{Header}
-use Rattle.zf_store.specs.Stored.{Stored, code_at, format_of}
+use Rattle.zf_header.{specs.declared.header.Header.{Header}, specs.HeaderBits.{IsRate, rate_bytes_of}}
+use Rattle.zf_store.{specs.Stored.{Stored, code_at, format_of}, specs.Files.{IsOpened}}
+use Rattle.zf_store.proofs.Opened.{is_header}
 use Rattle.zf_base.specs.Widths.{width_of}
-use Rattle.zf_header.specs.HeaderBits.{IsRate, rate_bytes_of}
 use Rattle.zf_cached.specs.Changes.{opened, raised}
 use Rattle.zf_cache.proofs.Steps.{empty_fits}
-use Rattle.zf_store.specs.Files.{IsOpened}
-use Rattle.zf_store.proofs.Opened.{is_header}
-use Rattle.zf_array.specs.Parts.{held_by}
-use Rattle.zf_array.proofs.Standing.{stored_held}
-use Rattle.zf_array.proofs.Steps.{open_is, opens, room_of}
-use Rattle.zf_array.specs.Standing.{stored, format, array_of}
+use Rattle.zf_array.{specs.Parts.{held_by}, proofs.Standing.{stored_held}}
+use Rattle.zf_array.{proofs.Steps.{open_is, opens, room_of}, specs.Standing.{stored, format, array_of}}
 use Rattle.zf_array.proofs.array.Array.from_file.Goals as goal
 
 pub invariant_of-result : goal.invariant_of-result

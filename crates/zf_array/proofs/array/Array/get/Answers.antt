@@ -1,6 +1,5 @@
 use Rattle.std.proofs.Common.{◌≡◌, List, ℕ, length, sym, ap, subst, ◌∙◌, pos, get_or, lit<}
-use Rattle.zf_base.specs.Positions.{used_axes, IsPosition}
-use Rattle.zf_base.specs.Places.{block_number, place_of, IsAt}
+use Rattle.zf_base.{specs.Positions.{used_axes, IsPosition}, specs.Places.{block_number, place_of, IsAt}}
 use Rattle.zf_cached.specs.Touch.{touch}
 use Rattle.zf_array.specs.Standing.{format, state, block_at, place_at}
 use Rattle.zf_array.proofs.array.Array.get.Goals as goal

@@ -1,5 +1,4 @@
-use Rattle.std.proofs.Common.{map, lit<}
-use Rattle.std.specs.Vec.{vec_len}
+use Rattle.std.{proofs.Common.{map, lit<}, specs.Vec.{vec_len}}
 use Rattle.zf_array.proofs.Standing.{joined_after}
 use Rattle.zf_array.proofs.Coded.{block_there, line_there, loaded, fits_loaded, held_loaded}
 use Rattle.zf_array.proofs.array.Array.load_code.Goals as goal

@@ -4,8 +4,7 @@ use Rattle.zf_store.specs.Stored.{Stored, code_at, format_of, zeros}
 use Rattle.zf_header.specs.HeaderBits.{rate_bytes_of}
 use Rattle.zf_cached.specs.Changes.{opened}
 use Rattle.zf_cache.proofs.Steps.{empty_fits}
-use Rattle.zf_array.proofs.Standing.{stored_held}
-use Rattle.zf_array.proofs.Steps.{new_is, opens, room_of}
+use Rattle.zf_array.{proofs.Standing.{stored_held}, proofs.Steps.{new_is, opens, room_of}}
 use Rattle.zf_array.proofs.array.Array.new.Goals as goal
 
 pub invariant_of-result : goal.invariant_of-result

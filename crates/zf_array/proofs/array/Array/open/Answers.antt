@@ -1,7 +1,5 @@
 use Rattle.std.proofs.Common.{ap, Bool, List}
-use Rattle.zf_cached.specs.State.{State}
-use Rattle.zf_cached.specs.Changes.{opened}
-use Rattle.zf_cached.specs.Arrays.{open_array}
+use Rattle.zf_cached.{specs.State.{State}, specs.Changes.{opened}, specs.Arrays.{open_array}}
 use Rattle.zf_array.proofs.array.Array.open.Goals as goal
 
 pub returns-clause-clean : goal.returns-clause-clean

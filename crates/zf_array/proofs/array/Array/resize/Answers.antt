@@ -1,16 +1,11 @@
-use Rattle.std.proofs.Common.{sym, ap, ◌∙◌, false, length, replicate}
+use Rattle.std.{proofs.Common.{sym, ap, ◌∙◌, false, length, replicate}, specs.Vec.{vec_len}}
 use Rattle.zf_spec.specs.Grid.{blocks}
-use Rattle.std.specs.Vec.{vec_len}
-use Rattle.zf_cache.specs.Standing.{state_of}
-use Rattle.zf_header.specs.declared.header.Header.{Header}
+use Rattle.zf_cache.{specs.Standing.{state_of}, proofs.Steps.{empty_fits}}
+use Rattle.zf_header.{specs.declared.header.Header.{Header}, specs.HeaderBits.{block_bits, rate_bytes_of}}
 use Rattle.zf_store.specs.Stored.{Stored, code_at, format_of, zeros}
-use Rattle.zf_header.specs.HeaderBits.{block_bits, rate_bytes_of}
 use Rattle.zf_cached.specs.Changes.{resized}
-use Rattle.zf_cache.proofs.Steps.{empty_fits}
-use Rattle.zf_array.specs.Parts.{held_by}
-use Rattle.zf_array.proofs.Standing.{stored_held, state_now, header_now}
-use Rattle.zf_array.proofs.Steps.{same_ty, resizes, room_of}
-use Rattle.zf_array.specs.Standing.{format}
+use Rattle.zf_array.{specs.Parts.{held_by}, proofs.Standing.{stored_held, state_now, header_now}}
+use Rattle.zf_array.{proofs.Steps.{same_ty, resizes, room_of}, specs.Standing.{format}}
 use Rattle.zf_array.proofs.array.Array.resize.Goals as goal
 
 pub invariant_of-self : goal.invariant_of-self

@@ -1,13 +1,10 @@
-use Rattle.std.proofs.Common.{refl, sym, ap, subst, ◌∙◌, length}
+use Rattle.std.{proofs.Common.{refl, sym, ap, subst, ◌∙◌, length}, specs.Vec.{vec_len}}
+use Rattle.std.proofs.lemmas.List.{take_at}
 use Rattle.zf_spec.specs.Grid.{blocks}
 use Rattle.zf_base.specs.Widths.{width_of}
-use Rattle.zf_header.specs.declared.header.Header.{Header}
-use Rattle.zf_header.specs.HeaderBits.{IsRate}
-use Rattle.std.specs.Vec.{vec_len}
-use Rattle.std.proofs.lemmas.List.{take_at}
+use Rattle.zf_header.{specs.declared.header.Header.{Header}, specs.HeaderBits.{IsRate}}
 use Rattle.zf_store.specs.Stored.{Stored, file_of}
-use Rattle.zf_array.proofs.Standing.{stored_now, header_now}
-use Rattle.zf_array.proofs.Steps.{saved_is}
+use Rattle.zf_array.{proofs.Standing.{stored_now, header_now}, proofs.Steps.{saved_is}}
 use Rattle.zf_array.proofs.array.Array.save_bytes.Goals as goal
 
 pub returns : goal.returns

@@ -1,10 +1,7 @@
-use Rattle.std.proofs.Common.{ap, ◌∙◌, Bool, List, lit<}
+use Rattle.std.{proofs.Common.{ap, ◌∙◌, Bool, List, lit<}, proofs.lemmas.Result.{on_ok_weaker}}
 use Rattle.zf_base.specs.Formats.{Format}
-use Rattle.zf_cached.specs.State.{State}
-use Rattle.zf_cached.specs.Changes.{relined}
-use Rattle.std.proofs.lemmas.Result.{on_ok_weaker}
-use Rattle.zf_array.specs.Standing.{format, state}
-use Rattle.zf_array.proofs.Standing.{has_blocks, joined_after}
+use Rattle.zf_cached.{specs.State.{State}, specs.Changes.{relined}}
+use Rattle.zf_array.{specs.Standing.{format, state}, proofs.Standing.{has_blocks, joined_after}}
 use Rattle.zf_array.proofs.Steps.{step, header_step}
 use Rattle.zf_array.proofs.array.Array.set_lines.Goals as goal
 

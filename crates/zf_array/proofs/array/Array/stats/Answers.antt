@@ -1,8 +1,7 @@
 use Rattle.std.proofs.Common.{sym, ap, ◌∙◌, Bool, List}
 use Rattle.zf_cached.specs.State.{State}
 use Rattle.zf_cache.specs.Standing.{state_at}
-use Rattle.zf_array.specs.Standing.{state}
-use Rattle.zf_array.proofs.Standing.{state_now}
+use Rattle.zf_array.{specs.Standing.{state}, proofs.Standing.{state_now}}
 use Rattle.zf_array.proofs.array.Array.stats.Goals as goal
 
 pub returns : goal.returns

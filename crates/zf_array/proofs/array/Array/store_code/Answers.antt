@@ -1,7 +1,5 @@
-use Rattle.std.proofs.Common.{map, lit<}
-use Rattle.std.specs.Vec.{vec_len}
-use Rattle.zf_array.proofs.Standing.{joined_after}
-use Rattle.zf_array.proofs.Steps.{header_step}
+use Rattle.std.{proofs.Common.{map, lit<}, specs.Vec.{vec_len}}
+use Rattle.zf_array.{proofs.Standing.{joined_after}, proofs.Steps.{header_step}}
 use Rattle.zf_array.proofs.Coded.{block_there, line_there, coded_empty, fits_stored, stored_coded}
 use Rattle.zf_array.proofs.array.Array.store_code.Goals as goal
 

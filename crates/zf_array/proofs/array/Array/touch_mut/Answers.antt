@@ -1,14 +1,10 @@
-use Rattle.std.proofs.Common.{sym, ap, subst, ◌∙◌, ◌<◌, Bool, List, lit<}
-use Rattle.std.specs.Vec.{vec_len}
+use Rattle.std.{proofs.Common.{sym, ap, subst, ◌∙◌, ◌<◌, Bool, List, lit<}, specs.Vec.{vec_len}}
 use Rattle.zf_spec.specs.Grid.{blocks}
-use Rattle.zf_cached.specs.State.{State}
-use Rattle.zf_cached.specs.Touch.{touch_for_writing}
+use Rattle.zf_cached.{specs.State.{State}, specs.Touch.{touch_for_writing}, specs.Placing.{direct}}
+use Rattle.zf_cached.proofs.Caching.{touch_for_writing-dirty}
 use Rattle.zf_header.specs.declared.header.Header.{Header}
 use Rattle.zf_store.proofs.Kept.{blocks_is}
-use Rattle.zf_array.specs.Standing.{format, state}
-use Rattle.zf_cached.specs.Placing.{direct}
-use Rattle.zf_cached.proofs.Caching.{touch_for_writing-dirty}
-use Rattle.zf_array.proofs.Standing.{has_blocks, header_now, joined_after}
+use Rattle.zf_array.{specs.Standing.{format, state}, proofs.Standing.{has_blocks, header_now, joined_after}}
 use Rattle.zf_array.proofs.Steps.{step, header_step}
 use Rattle.zf_array.proofs.array.Array.touch_mut.Goals as goal
 

@@ -1,14 +1,10 @@
 use Rattle.std.proofs.Common.{◌≡◌, sym, ap, subst, ◌∙◌, ℕ, ◌<◌, ◌^◌, pos, Bool, true, List, get_or, lit<}
-use Rattle.std.proofs.lemmas.Bool.{OnTrue_at}
-use Rattle.std.specs.Vec.{vec_len}
+use Rattle.std.{proofs.lemmas.Bool.{OnTrue_at}, specs.Vec.{vec_len}}
 use Rattle.zf_base.specs.Places.{IsAt}
 use Rattle.zf_header.specs.declared.header.Header.{Header}
-use Rattle.zf_cached.specs.State.{State}
-use Rattle.zf_cached.specs.Touch.{touch}
-use Rattle.zf_cached.specs.Arrays.{array_format}
+use Rattle.zf_cached.{specs.State.{State}, specs.Touch.{touch}, specs.Arrays.{array_format}}
 use Rattle.zf_cache.specs.Standing.{state_at}
-use Rattle.zf_store.specs.Stored.{Stored, format_of}
-use Rattle.zf_store.proofs.Kept.{blocks_is}
+use Rattle.zf_store.{specs.Stored.{Stored, format_of}, proofs.Kept.{blocks_is}}
 use Rattle.zf_array.proofs.Standing.{header_now, has_blocks, joined_after, state_after}
 use Rattle.zf_array.proofs.Steps.{step, header_step}
 use Rattle.zf_array.proofs.array.Array.value_at.Goals as goal

@@ -2,13 +2,10 @@ use Rattle.std.proofs.Common.{length, refl, sym, ap, subst, ◌∙◌, ℕ, ◌+
 use Rattle.std.specs.Vec.{vec_len}
 use Rattle.zf_base.specs.Formats.{Format}
 use Rattle.zf_header.specs.declared.header.Header.{Header}
-use Rattle.zf_cached.specs.State.{State}
-use Rattle.zf_cached.specs.Touch.{touch_for_writing, with_values}
-use Rattle.zf_cached.specs.Placing.{direct}
-use Rattle.zf_cached.proofs.Caching.{touch_for_writing-dirty}
+use Rattle.zf_cached.{specs.State.{State}, specs.Touch.{touch_for_writing, with_values}}
+use Rattle.zf_cached.{specs.Placing.{direct}, proofs.Caching.{touch_for_writing-dirty}}
 use Rattle.zf_store.proofs.Kept.{blocks_is}
-use Rattle.zf_array.specs.Standing.{format, state, array_of, block_at}
-use Rattle.zf_array.specs.Parts.{held_by}
+use Rattle.zf_array.{specs.Standing.{format, state, array_of, block_at}, specs.Parts.{held_by}}
 use Rattle.zf_array.proofs.Standing.{has_blocks, format_now, joined_after}
 use Rattle.zf_array.proofs.Steps.{step, header_step, position_is, block_is, place_is, block_below, place_below, place_exists}
 use Rattle.zf_array.proofs.Lent.{joined_lent, ends_as, shown, part_of_one, state_spliced, value_there, value_ends, value_state, header_value}

@@ -1,6 +1,5 @@
-use Rattle.std.proofs.Common.{sym, ap, ◌∙◌, Bool, List}
+use Rattle.std.{proofs.Common.{sym, ap, ◌∙◌, Bool, List}, specs.List.{flat_map}}
 use Rattle.zf_store.specs.Stored.{Stored}
-use Rattle.std.specs.List.{flat_map}
 use Rattle.zf_spec.specs.Stream.{with_fill}
 use Rattle.zf_array.proofs.Standing.{stored_now}
 use Rattle.zf_array.proofs.array.Array.words.Goals as goal

@@ -1,8 +1,8 @@
 use Rattle.std.proofs.Common.{◌≡◌, sym, ap, ◌∙◌, ℤ, List, [], map, length, slice_index_or, slice_set}
 use Rattle.std.proofs.lemmas.List.{map-id}
 use Rattle.zf_array_tests.specs.EvenValues.{even_below, evens_format}
-use Rattle.zf_base.specs.Formats.{existing_of, encoded}
 use Rattle.zf_array_tests.proofs.RoundedDown.{existing_of-evens, with_block}
+use Rattle.zf_base.specs.Formats.{existing_of, encoded}
 use Rattle.zf_array_tests.proofs.evens.EvensBackingI32.store.Goals as goal
 
 pub returns-clause-codes : goal.returns-clause-codes

@@ -1,5 +1,4 @@
-use Rattle.std.proofs.Common.{ap, ◌∙◌, [], length}
-use Rattle.std.proofs.lemmas.List.{map-id, get_or_read}
+use Rattle.std.{proofs.Common.{ap, ◌∙◌, [], length}, proofs.lemmas.List.{map-id, get_or_read}}
 use Rattle.zf_array_tests.specs.EvenValues.{evens_format}
 use Rattle.zf_base.specs.Formats.{existing_of, meant}
 use Rattle.zf_array_tests.proofs.evens.EvensReadingI32.load.Goals as goal

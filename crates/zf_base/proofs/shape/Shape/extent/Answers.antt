@@ -1,8 +1,6 @@
 use Rattle.std.proofs.Common.{arith, ap, ◌∙◌}
-use Rattle.zf_base.specs.Positions.{with_unused}
-use Rattle.zf_base.specs.declared.position.Pos.{Pos}
-use Rattle.zf_base.proofs.Sizes.{grid_of_shape}
-use Rattle.zf_base.proofs.Extents.{IsExtent-of_block, used_size, extent_axes}
+use Rattle.zf_base.{specs.Positions.{with_unused}, specs.declared.position.Pos.{Pos}}
+use Rattle.zf_base.{proofs.Sizes.{grid_of_shape}, proofs.Extents.{IsExtent-of_block, used_size, extent_axes}}
 use Rattle.zf_base.proofs.shape.Shape.extent.Goals as goal
 
 pub coordinates-block-requires : goal.coordinates-block-requires

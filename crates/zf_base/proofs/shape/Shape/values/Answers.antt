@@ -1,6 +1,5 @@
 use Rattle.std.proofs.Common.{arith}
-use Rattle.zf_base.specs.Positions.{axes}
-use Rattle.zf_base.proofs.Sizes.{product_not_zero, sizes_not_zero}
+use Rattle.zf_base.{specs.Positions.{axes}, proofs.Sizes.{product_not_zero, sizes_not_zero}}
 use Rattle.zf_base.proofs.shape.Shape.values.Goals as goal
 
 pub returns-clause-not_zero : goal.returns-clause-not_zero

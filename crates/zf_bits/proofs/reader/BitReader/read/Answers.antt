@@ -1,7 +1,6 @@
 use Rattle.std.proofs.Common.{◌≡◌, ◌≤◌, length, take, arith, sym, ap, ◌∙◌, rules}
 use Rattle.std.proofs.lemmas.List.{length-take-le}
-use Rattle.zf_spec.specs.Numbers.{field}
-use Rattle.zf_spec.proofs.Fields.{field-number}
+use Rattle.zf_spec.{specs.Numbers.{field}, proofs.Fields.{field-number}}
 use Rattle.zf_bits.specs.Reader.{rest}
 use Rattle.zf_bits.proofs.Reading.{reader_of, take-rest, length-rest, Reads-take, Reads-same}
 use Rattle.zf_bits.proofs.reader.BitReader.read.Goals as goal

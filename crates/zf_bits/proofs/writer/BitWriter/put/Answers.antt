@@ -1,6 +1,5 @@
 use Rattle.std.proofs.Common.{◌≡◌, ℕ, ◌+◌, ◌/◌, List, get_or, ap, ◌∙◌, arith, rules}
-use Rattle.zf_bits.specs.Writer.{Writer, room}
-use Rattle.zf_bits.proofs.Written.{IsWritten-put, bits-put}
+use Rattle.zf_bits.{specs.Writer.{Writer, room}, proofs.Written.{IsWritten-put, bits-put}}
 use Rattle.zf_bits.proofs.writer.BitWriter.put.Goals as goal
 
 pub invariant_of-self : goal.invariant_of-self

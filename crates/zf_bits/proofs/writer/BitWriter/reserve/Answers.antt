@@ -1,6 +1,5 @@
 use Rattle.std.proofs.Common.{◌≡◌, ◌+◌, ap, arith, rules}
-use Rattle.zf_bits.specs.Writer.{Writer, room}
-use Rattle.zf_bits.proofs.Written.{IsWritten-resized, bits-resized}
+use Rattle.zf_bits.{specs.Writer.{Writer, room}, proofs.Written.{IsWritten-resized, bits-resized}}
 use Rattle.zf_bits.proofs.writer.BitWriter.reserve.Goals as goal
 
 pub invariant_of-self-2 : goal.invariant_of-self-2

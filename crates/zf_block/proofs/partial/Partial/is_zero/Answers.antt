@@ -1,7 +1,6 @@
 use Rattle.std.proofs.Common.{rules}
 use Rattle.zf_base.proofs.Extents.{length-used_axes}
-use Rattle.zf_block.proofs.Sizes.{rows_whole}
-use Rattle.zf_block.proofs.ZeroPlanes.{pad-zeros}
+use Rattle.zf_block.{proofs.Sizes.{rows_whole}, proofs.ZeroPlanes.{pad-zeros}}
 use Rattle.zf_block.proofs.partial.Partial.is_zero.Goals as goal
 
 pub is_all-requires : goal.is_all-requires

@@ -1,6 +1,5 @@
 use Rattle.std.proofs.Common.{◌^◌, ap, ◌∙◌}
-use Rattle.zf_block.specs.Block.{PartialBlock}
-use Rattle.zf_block.proofs.Sizes.{block_sizes}
+use Rattle.zf_block.{specs.Block.{PartialBlock}, proofs.Sizes.{block_sizes}}
 use Rattle.zf_block.proofs.partial.Partial.len.Goals as goal
 
 pub returns-clause-value : goal.returns-clause-value

@@ -1,13 +1,10 @@
 use Rattle.std.proofs.Common.{◌≡◌, ℕ, ◌-◌, ◌*◌, ◌%◌, ◌^◌, ◌∷◌, min, replicate, refl, ap, subst, ◌∙◌, arith}
 use mir.Val.{bits}
-use Rattle.zf_spec.specs.Planes.{planes_of}
-use Rattle.zf_spec.specs.ReadPlanes.{planes_in}
+use Rattle.zf_spec.{specs.Planes.{planes_of}, specs.ReadPlanes.{planes_in}}
 use Rattle.zf_coef.specs.HeldDigits.{digits_in}
 use Rattle.zf_bits.specs.Reader.{rest}
-use Rattle.zf_block.specs.Block.{AreAbove}
-use Rattle.zf_block.specs.Decoding.{PassesCode}
+use Rattle.zf_block.{specs.Block.{AreAbove}, specs.Decoding.{PassesCode}, proofs.Widths.{width_bounds}}
 use Rattle.zf_block.specs.ReadBlocks.{prec_planes, prec_len, uncut_len}
-use Rattle.zf_block.proofs.Widths.{width_bounds}
 use Rattle.zf_block.proofs.FirstAlone.{uncut_first, passes_first}
 use Rattle.zf_block.proofs.precision.PrecisionBlockCode.read_first.Goals as goal
 

@@ -1,5 +1,4 @@
-use Rattle.std.proofs.Common.{rules}
-use Rattle.std.proofs.lemmas.List.{take-replicate}
+use Rattle.std.{proofs.Common.{rules}, proofs.lemmas.List.{take-replicate}}
 use Rattle.zf_block.proofs.ZeroPlanes.{size_some, code-zero_planes}
 use Rattle.zf_block.proofs.precision.PrecisionBlockCode.write_zero_block.Goals as goal
 

@@ -1,12 +1,8 @@
-use Rattle.std.proofs.Common.{rules}
-use Rattle.std.proofs.Common.{ℕ, ◌-◌, ◌∷◌, take, replicate, subst, arith}
-use Rattle.zf_spec.specs.Planes.{planes_of}
-use Rattle.zf_spec.specs.Kept.{kept_planes}
-use Rattle.zf_spec.specs.ReadPlanes.{planes_in}
+use Rattle.std.proofs.Common.{rules, ℕ, ◌-◌, ◌∷◌, take, replicate, subst, arith}
+use Rattle.zf_spec.{specs.Planes.{planes_of}, specs.Kept.{kept_planes}, specs.ReadPlanes.{planes_in}}
 use Rattle.zf_coef.specs.HeldDigits.{digits_in}
 use Rattle.zf_bits.specs.Reader.{rest}
-use Rattle.zf_block.specs.Block.{AreAbove}
-use Rattle.zf_block.proofs.FirstAlone.{rate_first}
+use Rattle.zf_block.{specs.Block.{AreAbove}, proofs.FirstAlone.{rate_first}}
 use Rattle.zf_block.proofs.rate.RateBlockCode.read_first.Goals as goal
 
 pub returns-clause-reads : goal.returns-clause-reads

@@ -1,11 +1,8 @@
 use Rattle.std.proofs.Common.{ℕ, ◌-◌, take, subst, arith}
-use Rattle.zf_spec.specs.Planes.{planes_of}
-use Rattle.zf_spec.specs.Kept.{kept_planes}
-use Rattle.zf_spec.specs.ReadPlanes.{planes_in}
+use Rattle.zf_spec.{specs.Planes.{planes_of}, specs.Kept.{kept_planes}, specs.ReadPlanes.{planes_in}}
 use Rattle.zf_coef.specs.HeldDigits.{digits_in}
 use Rattle.zf_bits.specs.Reader.{rest, Reads}
-use Rattle.zf_block.specs.Block.{AreAbove}
-use Rattle.zf_block.proofs.ReadCodes.{passes_rest}
+use Rattle.zf_block.{specs.Block.{AreAbove}, proofs.ReadCodes.{passes_rest}}
 use Rattle.zf_block.proofs.rate.RateBlockCode.read_four.Goals as goal
 
 pub returns : goal.returns

@@ -1,12 +1,10 @@
-use Rattle.std.proofs.Common.{rules}
-use Rattle.std.proofs.Common.{◌≡◌, ◌-◌, map, length, take, arith}
+use Rattle.std.proofs.Common.{rules, ◌≡◌, ◌-◌, map, length, take, arith}
 use Rattle.std.proofs.lemmas.List.{take_all, length-map}
-use Rattle.zf_spec.specs.Planes.{code}
-use Rattle.zf_spec.specs.HeldPlanes.{planes_held}
+use Rattle.zf_spec.{specs.Planes.{code}, specs.HeldPlanes.{planes_held}}
+use Rattle.zf_spec.proofs.HeldPlanes.{length-planes_held}
 use Rattle.zf_bits.proofs.Appending.{Appends-append, Appends-same}
 use Rattle.zf_block.proofs.Zeros.{first_bits-take}
 use Rattle.zf_block.proofs.rate.RateBlockCode.write.Goals as goal
-use Rattle.zf_spec.proofs.HeldPlanes.{length-planes_held}
 
 pub returns : goal.returns
 returns g c =

@@ -1,8 +1,5 @@
-use Rattle.std.proofs.Common.{rules}
-use Rattle.std.proofs.Common.{◌≡◌, ◌-◌, length, take, arith}
-use Rattle.std.proofs.lemmas.List.{take_all}
-use Rattle.zf_spec.specs.Planes.{planes_of, code}
-use Rattle.zf_spec.proofs.PlaneDigits.{length-planes_of}
+use Rattle.std.{proofs.Common.{rules, ◌≡◌, ◌-◌, length, take, arith}, proofs.lemmas.List.{take_all}}
+use Rattle.zf_spec.{specs.Planes.{planes_of, code}, proofs.PlaneDigits.{length-planes_of}}
 use Rattle.zf_coef.specs.HeldDigits.{digits_in}
 use Rattle.zf_bits.proofs.Appending.{Appends-append, Appends-same}
 use Rattle.zf_block.proofs.Zeros.{first_bits-take}

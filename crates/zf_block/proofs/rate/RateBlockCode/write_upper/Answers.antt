@@ -1,8 +1,7 @@
 use Rattle.std.proofs.Common.{sym, ap, ◌∙◌}
 use Rattle.zf_spec.specs.ReadPlanes.{first_bits}
 use Rattle.zf_bits.proofs.Appending.{Appends-same}
-use Rattle.zf_block.specs.Held.{top_code}
-use Rattle.zf_block.proofs.UpperPlanes.{all_planes}
+use Rattle.zf_block.{specs.Held.{top_code}, proofs.UpperPlanes.{all_planes}}
 use Rattle.zf_block.proofs.rate.RateBlockCode.write_upper.Goals as goal
 
 pub returns-then-reaches_upper-clause-code : goal.returns-then-reaches_upper-clause-code

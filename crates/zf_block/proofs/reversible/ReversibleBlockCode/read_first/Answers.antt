@@ -1,14 +1,10 @@
 use Rattle.std.proofs.Common.{ℕ, ◌-◌, ◌*◌, ◌%◌, ◌^◌, List, Bool, ◌∷◌, replicate, refl, subst, arith}
-use Rattle.zf_spec.specs.Planes.{planes_of}
-use Rattle.zf_spec.specs.ReadPlanes.{planes_in}
+use Rattle.zf_spec.{specs.Planes.{planes_of}, specs.ReadPlanes.{planes_in}}
 use Rattle.zf_coef.specs.HeldDigits.{digits_in}
 use Rattle.zf_bits.specs.Reader.{Reader, rest}
-use Rattle.zf_block.specs.Block.{AreAbove}
-use Rattle.zf_block.specs.Decoding.{PassesCode}
-use Rattle.zf_block.specs.ReadBlocks.{rev_planes, rev_len}
+use Rattle.zf_block.{specs.Block.{AreAbove}, specs.Decoding.{PassesCode}, proofs.Widths.{width_bounds}}
+use Rattle.zf_block.{specs.ReadBlocks.{rev_planes, rev_len}, proofs.FirstAlone.{uncut_first, passes_first}}
 use Rattle.zf_block.proofs.ReadCodes.{planes-behind_count, passes-behind_count}
-use Rattle.zf_block.proofs.Widths.{width_bounds}
-use Rattle.zf_block.proofs.FirstAlone.{uncut_first, passes_first}
 use Rattle.zf_block.proofs.reversible.ReversibleBlockCode.read_first.Goals as goal
 
 pub returns-clause-reads : goal.returns-clause-reads

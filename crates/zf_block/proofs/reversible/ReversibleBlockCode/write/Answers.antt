@@ -1,9 +1,6 @@
-use Rattle.std.proofs.Common.{rules}
-use Rattle.std.proofs.Common.{◌≡◌, ◌-◌, max, ◌++◌, map, take, sym, ap, ◌∙◌}
+use Rattle.std.proofs.Common.{rules, ◌≡◌, ◌-◌, max, ◌++◌, map, take, sym, ap, ◌∙◌}
 use Rattle.std.proofs.Math.Nat.{mul-le-mul_left}
-use Rattle.zf_spec.specs.Numbers.{field}
-use Rattle.zf_spec.specs.Planes.{needed_planes, code}
-use Rattle.zf_spec.specs.HeldPlanes.{planes_held}
+use Rattle.zf_spec.{specs.Numbers.{field}, specs.Planes.{needed_planes, code}, specs.HeldPlanes.{planes_held}}
 use Rattle.zf_spec.specs.Codes.{count_bits, rev_of_planes}
 use Rattle.zf_bits.proofs.Appending.{Appends-append, Appends-same}
 use Rattle.zf_block.proofs.reversible.ReversibleBlockCode.write.Goals as goal

@@ -1,6 +1,5 @@
 use Rattle.std.proofs.Common.{◌-◌, ◌++◌, take, ap, ◌∙◌}
-use Rattle.zf_spec.specs.Numbers.{field}
-use Rattle.zf_spec.specs.Planes.{planes_of, code}
+use Rattle.zf_spec.{specs.Numbers.{field}, specs.Planes.{planes_of, code}}
 use Rattle.zf_spec.specs.Codes.{count_bits, rev_of_planes}
 use Rattle.zf_coef.specs.HeldDigits.{digits_in}
 use Rattle.zf_bits.proofs.Appending.{Appends-append, Appends-same}

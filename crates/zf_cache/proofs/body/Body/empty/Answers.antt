@@ -1,10 +1,7 @@
 use Rattle.std.proofs.Common.{◌≡◌, refl, sym, ap, subst, ◌∙◌, length, replicate, rules}
 use Rattle.std.proofs.lemmas.List.{length-replicate}
-use Rattle.zf_lines.specs.Rows.{HasSize}
-use Rattle.zf_lines.proofs.Sizes.{HasSize-replicate}
-use Rattle.zf_cache.specs.Bodies.{AreLines}
-use Rattle.zf_cache.specs.Kept.{tag_at}
-use Rattle.zf_cache.proofs.Touches.{no_tag}
+use Rattle.zf_lines.{specs.Rows.{HasSize}, proofs.Sizes.{HasSize-replicate}}
+use Rattle.zf_cache.{specs.Bodies.{AreLines}, specs.Kept.{tag_at}, proofs.Touches.{no_tag}}
 use Rattle.zf_cache.proofs.body.Body.empty.Goals as goal
 
 pub returns : goal.returns

@@ -1,13 +1,9 @@
 use Rattle.std.proofs.Common.{◌≡◌, refl, sym, ap, ◌∙◌, ℕ, map, length, set, Option, Some, None, arith}
-use Rattle.std.proofs.lemmas.List.{get_or_default}
+use Rattle.std.{proofs.lemmas.List.{get_or_default}, specs.Vec.{with_item}}
 use Rattle.zf_base.specs.Formats.{with_at, encoded}
-use Rattle.std.specs.Vec.{with_item}
-use Rattle.zf_cache.specs.declared.body.Body.{Body}
-use Rattle.zf_cache.specs.Bodies.{IsSound, counts_of, kept_of}
-use Rattle.zf_cache.specs.Standing.{state_at, evicted}
-use Rattle.zf_cache.specs.Kept.{dirty_of, tag_at}
-use Rattle.zf_cache.proofs.Sound.{row_there, evicts, evicts_below}
-use Rattle.zf_cache.proofs.Tags.{dirty_of-some}
+use Rattle.zf_cache.{specs.declared.body.Body.{Body}, specs.Bodies.{IsSound, counts_of, kept_of}}
+use Rattle.zf_cache.{specs.Standing.{state_at, evicted}, specs.Kept.{dirty_of, tag_at}}
+use Rattle.zf_cache.{proofs.Sound.{row_there, evicts, evicts_below}, proofs.Tags.{dirty_of-some}}
 use Rattle.zf_cache.proofs.body.Body.evict.Goals.{in-Some, in_default}
 use Rattle.zf_cache.proofs.body.Body.evict.Goals as goal
 

@@ -1,9 +1,6 @@
 use Rattle.std.proofs.Common.{◌≡◌, ◌≢◌, refl, sym, ap, ◌∙◌, ℕ, suc, ◌+◌, ◌<◌, length, set, inl, inr, rules, arith}
-use Rattle.std.proofs.lemmas.Bool.{cases_lt}
-use Rattle.std.proofs.lemmas.List.{length-set}
-use Rattle.zf_cache.specs.Kept.{tag_at}
-use Rattle.zf_cache.specs.Bodies.{kept_of}
-use Rattle.zf_cache.specs.Standing.{state_at, evicted}
+use Rattle.std.{proofs.lemmas.Bool.{cases_lt}, proofs.lemmas.List.{length-set}}
+use Rattle.zf_cache.{specs.Kept.{tag_at}, specs.Bodies.{kept_of}, specs.Standing.{state_at, evicted}}
 use Rattle.zf_cache.proofs.Tags.{same_or_not, tag-set_same, tag-set_other, zeros_of}
 use Rattle.zf_cache.proofs.Touches.{flushing, flush_begins, flush_goes_on, flush_ends, past_lines}
 use Rattle.zf_cache.proofs.body.Body.flush.Goals as goal

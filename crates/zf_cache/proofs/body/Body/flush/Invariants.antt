@@ -1,7 +1,5 @@
 use Rattle.std.proofs.Common.{◌≡◌, ◌<◌, ℕ, length}
-use Rattle.zf_cache.specs.Backed.{StepsTo}
-use Rattle.zf_cache.specs.Kept.{tag_at}
-use Rattle.zf_cache.specs.Bodies.{IsSound, state_in}
+use Rattle.zf_cache.{specs.Backed.{StepsTo}, specs.Kept.{tag_at}, specs.Bodies.{IsSound, state_in}}
 use Rattle.zf_cache.proofs.Touches.{flushing}
 use Rattle.zf_cache.proofs.body.Body.flush.Given as goal
 

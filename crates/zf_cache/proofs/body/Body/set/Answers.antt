@@ -1,12 +1,8 @@
 use Rattle.std.proofs.Common.{refl, sym, ap, subst, ◌∙◌, ℕ, ◌<◌, set}
 use Rattle.zf_lines.specs.Rows.{with_line}
 use Rattle.zf_cached.specs.Touch.{soiled}
-use Rattle.zf_cache.specs.declared.body.Body.{Body}
-use Rattle.zf_cache.specs.Bodies.{kept_of}
-use Rattle.zf_cache.specs.Kept.{line_by}
-use Rattle.zf_cache.specs.Standing.{state_at}
-use Rattle.zf_cache.specs.Steps.{touch_in}
-use Rattle.zf_cache.proofs.Sound.{line_below}
+use Rattle.zf_cache.{specs.declared.body.Body.{Body}, specs.Bodies.{kept_of}, specs.Kept.{line_by}}
+use Rattle.zf_cache.{specs.Standing.{state_at}, specs.Steps.{touch_in}, proofs.Sound.{line_below}}
 use Rattle.zf_cache.proofs.Puts.{puts, puts_sound}
 use Rattle.zf_cache.proofs.body.Body.set.Goals as goal
 

@@ -1,10 +1,7 @@
-use Rattle.std.proofs.Common.{refl, ap, ◌∙◌, ◌+◌, ◌*◌, length, map}
-use Rattle.std.specs.Vec.{with_item}
+use Rattle.std.{proofs.Common.{refl, ap, ◌∙◌, ◌+◌, ◌*◌, length, map}, specs.Vec.{with_item}}
 use Rattle.zf_base.specs.Formats.{existing_of}
-use Rattle.zf_lines.specs.Rows.{line_at, over, with_line}
-use Rattle.zf_lines.proofs.Sizes.{length-over, over_same}
-use Rattle.zf_cache.specs.declared.body.Body.{Body}
-use Rattle.zf_cache.proofs.Sound.{takes}
+use Rattle.zf_lines.{specs.Rows.{line_at, over, with_line}, proofs.Sizes.{length-over, over_same}}
+use Rattle.zf_cache.{specs.declared.body.Body.{Body}, proofs.Sound.{takes}}
 use Rattle.zf_cache.proofs.body.Body.take_in.Goals as goal
 
 pub returns-clause-step : goal.returns-clause-step

@@ -1,11 +1,9 @@
 use Rattle.std.proofs.Common.{◌≡◌, ◌<◌, refl, sym, ap, subst, ◌∙◌, ◌/◌, length, set, arith}
 use Rattle.std.proofs.lemmas.List.{get_or_default, length-set, set-set}
-use Rattle.zf_cache.specs.declared.body.Body.{Body}
-use Rattle.zf_cache.specs.Kept.{IsAway, clean_tag}
-use Rattle.zf_lines.specs.Rows.{line_at}
-use Rattle.zf_cache.specs.Bodies.{kept_of}
+use Rattle.zf_cache.{specs.declared.body.Body.{Body}, specs.Kept.{IsAway, clean_tag}, specs.Bodies.{kept_of}}
 use Rattle.zf_cache.specs.Standing.{state_at}
 use Rattle.zf_cache.proofs.Sound.{none_in, hits_block, misses_block, comes_hitting, comes_missing}
+use Rattle.zf_lines.specs.Rows.{line_at}
 use Rattle.zf_cache.proofs.body.Body.touch.Goals as goal
 
 pub returns-then-index-b-clause-step : goal.returns-then-index-b-clause-step

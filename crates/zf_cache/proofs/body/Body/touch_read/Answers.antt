@@ -1,11 +1,7 @@
 use Rattle.std.proofs.Common.{◌≡◌, ◌<◌, refl, sym, ap, subst, ◌∙◌, ◌/◌, length, set, None, arith}
-use Rattle.std.proofs.lemmas.List.{get_or_default, set-set, length-set}
-use Rattle.std.specs.Vec.{with_item}
-use Rattle.zf_cache.specs.declared.body.Body.{Body}
-use Rattle.zf_cache.specs.Kept.{tag_at, clean_tag}
-use Rattle.zf_cache.specs.Bodies.{kept_of}
-use Rattle.zf_cache.specs.Standing.{state_at}
-use Rattle.zf_cache.proofs.Tags.{undirty}
+use Rattle.std.{proofs.lemmas.List.{get_or_default, set-set, length-set}, specs.Vec.{with_item}}
+use Rattle.zf_cache.{specs.declared.body.Body.{Body}, specs.Kept.{tag_at, clean_tag}, specs.Bodies.{kept_of}}
+use Rattle.zf_cache.{specs.Standing.{state_at}, proofs.Tags.{undirty}}
 use Rattle.zf_cache.proofs.Sound.{none_in, stays_clean, evicts, hits_block, misses_block, comes_hitting, comes_missing}
 use Rattle.zf_cache.proofs.body.Body.touch_read.Goals as goal
 

@@ -1,12 +1,8 @@
 use Rattle.std.proofs.Common.{refl, sym, ap, subst, ◌∙◌, length}
 use Rattle.zf_cached.specs.Placing.{direct, IsDirect}
-use Rattle.zf_cache.specs.Bodies.{kept_of}
-use Rattle.zf_cache.specs.Kept.{Kept}
-use Rattle.zf_cache.specs.Loans.{LendsBlock, lent_block}
-use Rattle.zf_cache.specs.Rules.{one_line, one_line_rule, one_line_told}
-use Rattle.zf_cache.specs.Standing.{Fits}
-use Rattle.zf_cache.proofs.Lent.{lends, whole}
-use Rattle.zf_cache.proofs.Placed.{lent_is, loans}
+use Rattle.zf_cache.{specs.Bodies.{kept_of}, specs.Kept.{Kept}, specs.Loans.{LendsBlock, lent_block}}
+use Rattle.zf_cache.{specs.Rules.{one_line, one_line_rule, one_line_told}, specs.Standing.{Fits}}
+use Rattle.zf_cache.{proofs.Lent.{lends, whole}, proofs.Placed.{lent_is, loans}}
 use Rattle.zf_cache.proofs.cache.Cache.block_mut.Goals as goal
 
 pub returns : goal.returns

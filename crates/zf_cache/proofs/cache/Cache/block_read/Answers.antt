@@ -1,11 +1,7 @@
 use Rattle.std.proofs.Common.{refl, ap, ◌∙◌, length}
-use Rattle.zf_cached.specs.Touch.{touch}
-use Rattle.zf_cached.specs.Placing.{direct, IsDirect}
-use Rattle.zf_cache.specs.Bodies.{kept_of}
-use Rattle.zf_cache.specs.Standing.{state_of, Fits}
-use Rattle.zf_cache.specs.Rules.{one_line, one_line_rule, one_line_told}
-use Rattle.zf_cache.proofs.Lent.{shows, whole}
-use Rattle.zf_cache.proofs.Placed.{touches, stands}
+use Rattle.zf_cached.{specs.Touch.{touch}, specs.Placing.{direct, IsDirect}}
+use Rattle.zf_cache.{specs.Bodies.{kept_of}, specs.Standing.{state_of, Fits}, proofs.Lent.{shows, whole}}
+use Rattle.zf_cache.{specs.Rules.{one_line, one_line_rule, one_line_told}, proofs.Placed.{touches, stands}}
 use Rattle.zf_cache.proofs.cache.Cache.block_read.Goals as goal
 
 pub returns : goal.returns

@@ -1,8 +1,7 @@
 use Rattle.std.proofs.Common.{◌≡◌, sym, ap, subst, ◌∙◌, ℕ, ◌<◌, length, rules, arith}
 use Rattle.std.proofs.lemmas.List.{length-replicate}
 use Rattle.zf_cached.specs.Placing.{IsDirect}
-use Rattle.zf_cache.specs.Bodies.{AreLines, kept_of}
-use Rattle.zf_cache.specs.Rules.{one_line, one_line_rule}
+use Rattle.zf_cache.{specs.Bodies.{AreLines, kept_of}, specs.Rules.{one_line, one_line_rule}}
 use Rattle.zf_cache.proofs.Rooms.{room_for_blocks}
 use Rattle.zf_cache.proofs.cache.Cache.emptied_for.Goals as goal
 

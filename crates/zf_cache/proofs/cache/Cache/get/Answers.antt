@@ -1,9 +1,7 @@
 use Rattle.std.proofs.Common.{◌<◌, sym, ap, subst, ◌∙◌}
 use Rattle.zf_cached.specs.Placing.{direct, IsDirect}
-use Rattle.zf_cache.specs.Bodies.{kept_of}
-use Rattle.zf_cache.specs.Rules.{one_line, one_line_rule, one_line_told}
-use Rattle.zf_cache.proofs.Lent.{gets}
-use Rattle.zf_cache.proofs.Placed.{touches}
+use Rattle.zf_cache.{specs.Bodies.{kept_of}, specs.Rules.{one_line, one_line_rule, one_line_told}}
+use Rattle.zf_cache.{proofs.Lent.{gets}, proofs.Placed.{touches}}
 use Rattle.zf_cache.proofs.cache.Cache.get.Goals as goal
 
 pub returns-clause-step : goal.returns-clause-step

@@ -1,10 +1,7 @@
-use Rattle.std.proofs.Common.{ap, ◌∙◌, ℕ, length}
-use Rattle.std.proofs.lemmas.List.{length-replicate}
+use Rattle.std.{proofs.Common.{ap, ◌∙◌, ℕ, length}, proofs.lemmas.List.{length-replicate}}
 use Rattle.zf_cached.specs.Placing.{IsDirect}
-use Rattle.zf_cache.specs.Bodies.{kept_of}
-use Rattle.zf_cache.specs.Rules.{one_line, one_line_rule}
-use Rattle.zf_cache.proofs.Rooms.{room_for_all}
-use Rattle.zf_cache.proofs.Tags.{counts_lines}
+use Rattle.zf_cache.{specs.Bodies.{kept_of}, specs.Rules.{one_line, one_line_rule}}
+use Rattle.zf_cache.{proofs.Rooms.{room_for_all}, proofs.Tags.{counts_lines}}
 use Rattle.zf_cache.proofs.cache.Cache.new.Goals as goal
 
 pub returns-clause-room : goal.returns-clause-room

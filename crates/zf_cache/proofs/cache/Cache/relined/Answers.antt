@@ -1,16 +1,9 @@
-use Rattle.std.proofs.Common.{ap, ◌∙◌, ℕ, length, min, sym}
-use Rattle.std.proofs.lemmas.List.{length-replicate}
+use Rattle.std.{proofs.Common.{ap, ◌∙◌, ℕ, length, min, sym}, proofs.lemmas.List.{length-replicate}}
 use Rattle.zf_base.specs.Formats.{Format}
-use Rattle.zf_cached.specs.Changes.{relined}
-use Rattle.zf_cached.specs.Placing.{IsDirect}
-use Rattle.zf_cache.specs.Kept.{Kept}
-use Rattle.zf_cache.specs.Bodies.{kept_of, counts_of}
-use Rattle.zf_cache.specs.Standing.{state_at, state_of}
-use Rattle.zf_cache.specs.Rules.{one_line, one_line_rule}
-use Rattle.zf_cache.proofs.Lent.{reline}
-use Rattle.zf_cache.proofs.Rooms.{room_for_blocks}
-use Rattle.zf_cache.proofs.Steps.{empty_fits}
-use Rattle.zf_cache.proofs.Tags.{counts_lines}
+use Rattle.zf_cached.{specs.Changes.{relined}, specs.Placing.{IsDirect}}
+use Rattle.zf_cache.{specs.Kept.{Kept}, specs.Bodies.{kept_of, counts_of}, proofs.Lent.{reline}}
+use Rattle.zf_cache.{specs.Standing.{state_at, state_of}, specs.Rules.{one_line, one_line_rule}}
+use Rattle.zf_cache.{proofs.Rooms.{room_for_blocks}, proofs.Steps.{empty_fits}, proofs.Tags.{counts_lines}}
 use Rattle.zf_cache.proofs.cache.Cache.relined.Goals as goal
 
 pub returns-clause-keeps : goal.returns-clause-keeps

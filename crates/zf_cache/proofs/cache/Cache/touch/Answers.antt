@@ -1,6 +1,5 @@
 use Rattle.zf_cached.specs.Placing.{direct}
-use Rattle.zf_cache.specs.Rules.{one_line, one_line_told}
-use Rattle.zf_cache.proofs.Placed.{touches}
+use Rattle.zf_cache.{specs.Rules.{one_line, one_line_told}, proofs.Placed.{touches}}
 use Rattle.zf_cache.proofs.cache.Cache.touch.Goals as goal
 
 pub returns-clause-step : goal.returns-clause-step

@@ -2,13 +2,9 @@ use Rattle.std.proofs.Common.{◌≡◌, refl, sym, ap, subst, ◌∙◌, ℕ, �
 use Rattle.zf_spec.specs.Grid.{blocks}
 use Rattle.zf_base.specs.Formats.{Format, existing_of}
 use Rattle.zf_header.specs.declared.header.Header.{Header}
-use Rattle.zf_cached.specs.State.{State}
-use Rattle.zf_cached.specs.Touch.{touch}
-use Rattle.zf_cached.specs.Arrays.{array_format}
-use Rattle.zf_cache.specs.Kept.{line_of}
-use Rattle.zf_cache.proofs.Sound.{values_here}
-use Rattle.zf_const.specs.Standing.{state}
-use Rattle.zf_const.specs.Parts.{Coded, code_at, format_of}
+use Rattle.zf_cached.{specs.State.{State}, specs.Touch.{touch}, specs.Arrays.{array_format}}
+use Rattle.zf_cache.{specs.Kept.{line_of}, proofs.Sound.{values_here}}
+use Rattle.zf_const.{specs.Standing.{state}, specs.Parts.{Coded, code_at, format_of}}
 use Rattle.zf_const.proofs.Standing.{state_held, has_blocks, header_now, format_now, step, touched_is}
 use Rattle.zf_const.proofs.array.ConstArray.block.Goals as goal
 

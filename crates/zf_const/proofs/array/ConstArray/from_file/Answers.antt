@@ -1,20 +1,15 @@
 use Rattle.std.proofs.Common.{◌≡◌, sym, ap, subst, ◌∙◌, ℕ, ℤ, Bool, List, Ok, map, length}
-use Rattle.zf_spec.specs.Grid.{upto, blocks}
-use Rattle.zf_spec.specs.Stream.{to_bits}
+use Rattle.zf_spec.{specs.Grid.{upto, blocks}, specs.Stream.{to_bits}}
 use Rattle.zf_spec.proofs.Counting.{length-map-upto, map-upto_same}
 use Rattle.zf_base.specs.Widths.{width_of}
-use Rattle.zf_header.specs.declared.header.Header.{Header}
-use Rattle.zf_header.specs.HeaderBits.{IsHeader}
+use Rattle.zf_header.{specs.declared.header.Header.{Header}, specs.HeaderBits.{IsHeader}}
 use Rattle.zf_cached.specs.Changes.{opened}
 use Rattle.zf_cache.proofs.Steps.{empty_fits}
 use Rattle.zf_parse.specs.Parsing.{Said, values_of_blocks}
-use Rattle.zf_index.specs.Spans.{Index, code_in, codes_in}
+use Rattle.zf_index.{specs.Spans.{Index, code_in, codes_in}, proofs.Read.{is_header}}
 use Rattle.zf_index.specs.Files.{HasHeader, IsIndexOf, found, block_read, blocks_found}
-use Rattle.zf_index.proofs.Read.{is_header}
-use Rattle.zf_const.specs.Standing.{Held, values_at, open_stream}
-use Rattle.zf_const.specs.Files.{IsOpened}
-use Rattle.zf_const.specs.Parts.{Coded, seen, code_at, format_of, held_by}
-use Rattle.zf_const.proofs.Meaning.{found_meant}
+use Rattle.zf_const.{specs.Standing.{Held, values_at, open_stream}, specs.Files.{IsOpened}}
+use Rattle.zf_const.{specs.Parts.{Coded, seen, code_at, format_of, held_by}, proofs.Meaning.{found_meant}}
 use Rattle.zf_const.proofs.Standing.{clean_empty, opens, room_of}
 use Rattle.zf_const.proofs.array.ConstArray.from_file.Goals as goal
 

@@ -1,16 +1,12 @@
-use Rattle.std.proofs.Common.{◌≡◌, refl, sym, ap, subst, ◌∙◌, ℕ, ℤ, Result, Ok, Err}
-use Rattle.std.specs.Prelude.{OnOk, OnErr}
-use Rattle.std.specs.Int.{Width}
-use Rattle.std.proofs.lemmas.Result.{on_ok_weaker}
+use Rattle.std.{proofs.Common.{◌≡◌, refl, sym, ap, subst, ◌∙◌, ℕ, ℤ, Result, Ok, Err}, specs.Int.{Width}}
+use Rattle.std.{specs.Prelude.{OnOk, OnErr}, proofs.lemmas.Result.{on_ok_weaker}}
 use Rattle.zf_cached.specs.Changes.{relined}
-use Rattle.zf_cache.proofs.Steps.{empty_fits, relined_clean}
-use Rattle.zf_const.specs.Standing.{format, state}
-use Rattle.zf_cache.specs.Kept.{Kept, IsEmpty}
+use Rattle.zf_cache.{proofs.Steps.{empty_fits, relined_clean}, specs.Kept.{Kept, IsEmpty}}
 use Rattle.zf_cache.specs.Standing.{HasRoom}
+use Rattle.zf_const.{specs.Standing.{format, state}, specs.Parts.{Coded, code_at, format_of, IsJoined}}
+use Rattle.zf_const.proofs.Standing.{clean_empty, room_of, step}
 use Rattle.zf_header.specs.declared.header.Header.{Header}
 use Rattle.zf_spec.specs.Grid.{blocks}
-use Rattle.zf_const.specs.Parts.{Coded, code_at, format_of, IsJoined}
-use Rattle.zf_const.proofs.Standing.{clean_empty, room_of, step}
 use Rattle.zf_const.proofs.array.ConstArray.set_lines.Goals as goal
 
 -- what two facts of a result that is well give

@@ -2,9 +2,7 @@ use Rattle.std.proofs.Common.{◌≡◌, sym, ap, subst, ◌∙◌, ℕ, ◌<◌
 use Rattle.std.proofs.lemmas.Bool.{OnTrue_at}
 use Rattle.zf_base.specs.Places.{IsAt}
 use Rattle.zf_header.specs.declared.header.Header.{Header}
-use Rattle.zf_cached.specs.State.{State}
-use Rattle.zf_cached.specs.Touch.{touch}
-use Rattle.zf_cached.specs.Arrays.{array_format}
+use Rattle.zf_cached.{specs.State.{State}, specs.Touch.{touch}, specs.Arrays.{array_format}}
 use Rattle.zf_cache.specs.Standing.{state_at}
 use Rattle.zf_const.specs.Parts.{Coded, format_of}
 use Rattle.zf_const.proofs.Standing.{state_held, has_blocks, header_now, joined_after, header_after, codes_after, step}

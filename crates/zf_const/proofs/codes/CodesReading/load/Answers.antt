@@ -1,24 +1,16 @@
 use Rattle.std.proofs.Common.{◌≡◌, sym, ap, subst, ◌∙◌, ℕ, ◌-◌, ◌*◌, ◌%◌, ◌^◌, ◌<◌, ◌≤◌, ℤ, List, Option, Some, None, map, length, take, drop, arith}
 use Rattle.std.specs.Int.{Width}
-use Rattle.zf_spec.specs.Grid.{blocks, extent_of}
-use Rattle.zf_spec.specs.Stream.{to_bits}
-use Rattle.zf_base.specs.Widths.{width_of}
-use Rattle.zf_base.specs.Formats.{existing_of, meant}
+use Rattle.zf_spec.{specs.Grid.{blocks, extent_of}, specs.Stream.{to_bits}}
+use Rattle.zf_base.{specs.Widths.{width_of}, specs.Formats.{existing_of, meant}}
 use Rattle.zf_base.proofs.Extents.{length-extent_of}
 use Rattle.zf_bits.specs.Reader.{Reader, rest}
 use Rattle.zf_header.specs.declared.header.Header.{Header}
-use Rattle.zf_cached.specs.Arrays.{array_format}
-use Rattle.zf_cached.proofs.Arrays.{existing_of-array}
-use Rattle.zf_parse.specs.Parsing.{read_code}
-use Rattle.zf_parse.specs.ReadStreams.{ReadsCode, LacksCode}
+use Rattle.zf_cached.{specs.Arrays.{array_format}, proofs.Arrays.{existing_of-array}}
+use Rattle.zf_parse.{specs.Parsing.{read_code}, specs.ReadStreams.{ReadsCode, LacksCode}}
 use Rattle.zf_parse.proofs.Excerpts.{cut_told}
-use Rattle.zf_index.specs.Spans.{len_at, span_at}
-use Rattle.zf_index.specs.declared.span.Span.{Span}
-use Rattle.zf_index.specs.Files.{found, block_read}
-use Rattle.zf_index.proofs.Places.{place-le}
-use Rattle.zf_index.proofs.Read.{read_parts}
-use Rattle.zf_const.specs.declared.index.Index.{Index}
-use Rattle.zf_const.specs.Standing.{coding_of}
+use Rattle.zf_index.{specs.Spans.{len_at, span_at}, specs.declared.span.Span.{Span}, proofs.Places.{place-le}}
+use Rattle.zf_index.{specs.Files.{found, block_read}, proofs.Read.{read_parts}}
+use Rattle.zf_const.{specs.declared.index.Index.{Index}, specs.Standing.{coding_of}}
 use Rattle.zf_const.specs.Parts.{Coded, seen, format_of, code_at, coded_by, IsCoded}
 use Rattle.zf_const.proofs.Meaning.{found_meant}
 use Rattle.zf_const.proofs.codes.CodesReading.load.Goals as goal

@@ -1,5 +1,4 @@
-use Rattle.std.proofs.Common.{arith}
-use Rattle.std.proofs.lemmas.Grind.{common_steps}
+use Rattle.std.{proofs.Common.{arith}, proofs.lemmas.Grind.{common_steps}}
 use Rattle.zf_dev.proofs.buffer.Buffer.fill.Goals as goal
 
 pub returns-clause-held : goal.returns-clause-held

@@ -1,7 +1,6 @@
 use Rattle.std.proofs.Common.{◌≡◌, ◌-◌, ◌≤◌, ◌++◌, length, take, drop, ap, sym, ◌∙◌, arith}
 use Rattle.std.proofs.lemmas.List.{drop-drop}
-use Rattle.zf_dev.proofs.Held.{held_part}
-use Rattle.zf_dev.proofs.Pieces.{copied_prefix}
+use Rattle.zf_dev.{proofs.Held.{held_part}, proofs.Pieces.{copied_prefix}}
 use Rattle.zf_dev.proofs.buffer.Buffer.give.Goals as goal
 
 pub returns-clause-given : goal.returns-clause-given

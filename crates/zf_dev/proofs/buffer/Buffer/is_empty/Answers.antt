@@ -1,5 +1,4 @@
-use Rattle.std.proofs.Common.{sym, ◌∙◌, arith, eq-eqb}
-use Rattle.std.proofs.lemmas.Bool.{eqb-true}
+use Rattle.std.{proofs.Common.{sym, ◌∙◌, arith, eq-eqb}, proofs.lemmas.Bool.{eqb-true}}
 use Rattle.zf_dev.proofs.Held.{held_none}
 use Rattle.zf_dev.proofs.buffer.Buffer.is_empty.Goals as goal
 

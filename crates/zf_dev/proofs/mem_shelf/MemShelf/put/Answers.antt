@@ -1,5 +1,4 @@
-use Rattle.std.proofs.Common.{Some, string_bytes}
-use Rattle.std.specs.BTreeMap.{get_by_text}
+use Rattle.std.{proofs.Common.{Some, string_bytes}, specs.BTreeMap.{get_by_text}}
 use Rattle.std.proofs.lemmas.Map.Text.{btree_map_updates_text}
 use Rattle.zf_dev.proofs.Saving.{SavesFile-put}
 use Rattle.zf_dev.proofs.mem_shelf.MemShelf.put.Goals as goal

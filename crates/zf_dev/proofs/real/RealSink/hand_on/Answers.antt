@@ -1,5 +1,4 @@
-use Rattle.std.proofs.Common.{arith}
-use Rattle.std.proofs.lemmas.Grind.{common_steps}
+use Rattle.std.{proofs.Common.{arith}, proofs.lemmas.Grind.{common_steps}}
 use Rattle.zf_dev.proofs.real.RealSink.hand_on.Goals as goal
 
 pub loop-self-smaller : goal.loop-self-smaller

@@ -1,6 +1,5 @@
 use Rattle.std.proofs.Common.{◌≡◌, [], length}
-use Rattle.zf_dev.specs.Sink.{Appends}
-use Rattle.zf_dev.specs.Real.{sink_faults, sink_contents}
+use Rattle.zf_dev.{specs.Sink.{Appends}, specs.Real.{sink_faults, sink_contents}}
 use Rattle.zf_dev.proofs.real.RealSink.hand_on.Given as goal
 
 abbrev pub invariant-loop-self : goal.invariant-loop-self

@@ -1,8 +1,6 @@
 use Rattle.std.proofs.Common.{ap, sym, subst, ◌≡◌, ◌∙◌, ◌+◌, ◌*◌, ℕ, arith}
 use Rattle.zf_spec.specs.Grid.{blocks}
-use Rattle.zf_index.specs.Spans.{even_index}
-use Rattle.zf_index.specs.Files.{IsIndexOf}
-use Rattle.zf_index.proofs.Even.{even_end}
+use Rattle.zf_index.{specs.Spans.{even_index}, specs.Files.{IsIndexOf}, proofs.Even.{even_end}}
 use Rattle.zf_index.proofs.index.Spans.even.Goals as goal
 
 pub invariant_of-result : goal.invariant_of-result

@@ -1,6 +1,5 @@
 use Rattle.std.proofs.Common.{◌≡◌, sym, ap, subst, ◌∙◌, ℕ, ◌*◌, ◌<◌, ◌^◌, List, [], ◌∷◌, ◌≤◌, length, get_or, arith}
-use Rattle.zf_index.specs.Spans.{Index, index_of, place, ArePlaces}
-use Rattle.zf_index.specs.Files.{IsIndexOf}
+use Rattle.zf_index.{specs.Spans.{Index, index_of, place, ArePlaces}, specs.Files.{IsIndexOf}}
 use Rattle.zf_index.proofs.Read.{has_header, blocks_some}
 use Rattle.zf_index.proofs.index.Spans.listed.Goals as goal
 

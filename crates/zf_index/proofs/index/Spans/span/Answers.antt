@@ -1,8 +1,6 @@
 use Rattle.std.proofs.Common.{◌≡◌, sym, ap, ◌∙◌, ◌<◌, length, arith}
-use Rattle.zf_index.specs.Spans.{Index, even_index, index_in, place, span_at}
-use Rattle.zf_index.specs.declared.span.Span.{Span}
-use Rattle.zf_index.proofs.Places.{even_len, even_place}
-use Rattle.zf_index.proofs.Even.{even_count}
+use Rattle.zf_index.{specs.Spans.{Index, even_index, index_in, place, span_at}, proofs.Even.{even_count}}
+use Rattle.zf_index.{specs.declared.span.Span.{Span}, proofs.Places.{even_len, even_place}}
 use Rattle.zf_index.proofs.index.Spans.span.Goals as goal
 
 pub returns-in-Even : goal.returns-in-Even

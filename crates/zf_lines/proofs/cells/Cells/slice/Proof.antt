@@ -35,19 +35,15 @@ use denote.Triple.Entry.{on_entry}
 use denote.Triple.Spec.{Meets, triple_of}
 use denote.Triple.Table.{entered, run_framed}
 use denote.Triple.Walked.{says, needs, Stays, stay_dropped, walk_of, ends_at, Goes-dropped, walk_Meets}
-use Rattle.std_alloc.proofs.VecSteps.Shapes.{after}
-use Rattle.std_alloc.proofs.RcSteps.{word, word-Good}
+use Rattle.std_alloc.{proofs.VecSteps.Shapes.{after}, proofs.RcSteps.{word, word-Good}}
 use lib.ListN.{length, take, length-take, length-drop, drop as drop_l}
-use Rattle.std.specs.Prelude.{Some}
-use Rattle.std.proofs.lemmas.List.{length-map}
-use Rattle.core.proofs.mem.Param.{El, R, args, el_x}
-use Rattle.core.proofs.ptr.Rows.{times_below}
-use Rattle.zf_lines.specs.Places.{IsRun}
-use Rattle.zf_lines.specs.Ownership.{cells_lent}
-use Rattle.zf_lines.proofs.Memory.{Cr, Bs, sz, word_had, run_seen}
-use denote.Slice.{ShrSlice, slice_val, elements_shared}
+use Rattle.std.{specs.Prelude.{Some}, proofs.lemmas.List.{length-map}}
+use Rattle.core.{proofs.mem.Param.{El, R, args, el_x}, proofs.ptr.Rows.{times_below}}
 use Rattle.core.proofs.slots.Leases.{uncapped}
+use Rattle.zf_lines.{specs.Places.{IsRun}, specs.Ownership.{cells_lent}}
+use Rattle.zf_lines.proofs.Memory.{Cr, Bs, sz, word_had, run_seen}
 use Rattle.zf_lines.specs.contracts.cells.Cells.slice.Key.{name as #self}
+use denote.Slice.{ShrSlice, slice_val, elements_shared}
 use Rattle.zf_lines.proofs.cells.Cells.slice.Statement as stated
 use Rattle.zf_lines.proofs.cells.Cells.slice.Code as code
 

@@ -35,25 +35,20 @@ use denote.Triple.Entry.{on_entry}
 use denote.Triple.Spec.{Meets, triple_of}
 use denote.Triple.Table.{entered, run_framed}
 use denote.Triple.Walked.{says, needs, Stays, stay_dropped, walk_of, ends_at, Goes-dropped, Goes-spent_ref, walk_Meets}
-use Rattle.std_alloc.proofs.VecSteps.Shapes.{after}
-use Rattle.std_alloc.proofs.RcSteps.{word, word-Good}
+use Rattle.std_alloc.{proofs.VecSteps.Shapes.{after}, proofs.RcSteps.{word, word-Good}}
 use lib.ListN.{length, take, length-take, length-drop, length-append, drop as drop_l}
-use Rattle.std.specs.Prelude.{Some}
-use Rattle.std.proofs.lemmas.List.{length-map}
-use Rattle.core.proofs.mem.Param.{El, R, args, el_x}
-use Rattle.core.proofs.ptr.Rows.{times_below}
-use Rattle.zf_lines.specs.Places.{somes, IsRun}
-use Rattle.zf_lines.specs.Ownership.{slots, cells_own}
+use Rattle.std.{specs.Prelude.{Some}, proofs.lemmas.List.{length-map}, specs.List.{refill}}
+use Rattle.core.{proofs.mem.Param.{El, R, args, el_x}, proofs.ptr.Rows.{times_below}}
+use Rattle.core.proofs.slots.Leases.{uncapped}
+use Rattle.zf_lines.{specs.Places.{somes, IsRun}, specs.Ownership.{slots, cells_own}}
 use Rattle.zf_lines.proofs.Memory.{Cr, Bs, Mark, sz, Place, word_had, Around, run_out, run_in, to_cells, of_cells}
+use Rattle.zf_lines.specs.Lends.{with_slots, spliced}
+use Rattle.zf_lines.specs.contracts.cells.Cells.slice_mut.Key.{name as #self}
 use denote.Array.{Array}
 use denote.Slice.{MutSlice, slice_val}
 use denote.Follow.{follows}
 use denote.FollowSlice.{Elements, lends_Elements}
 use lib.Seq.{take_at as take_prefix}
-use Rattle.std.specs.List.{refill}
-use Rattle.zf_lines.specs.Lends.{with_slots, spliced}
-use Rattle.core.proofs.slots.Leases.{uncapped}
-use Rattle.zf_lines.specs.contracts.cells.Cells.slice_mut.Key.{name as #self}
 use Rattle.zf_lines.proofs.cells.Cells.slice_mut.Statement as stated
 use Rattle.zf_lines.proofs.cells.Cells.slice_mut.Code as code
 

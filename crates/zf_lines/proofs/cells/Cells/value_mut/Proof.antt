@@ -35,18 +35,14 @@ use denote.Triple.Entry.{on_entry}
 use denote.Triple.Spec.{Meets, triple_of}
 use denote.Triple.Table.{entered, run_framed}
 use denote.Triple.Walked.{says, needs, Stays, stay_dropped, walk_of, ends_at, Goes-dropped, Goes-spent_ref, walk_Meets}
-use Rattle.std_alloc.proofs.VecSteps.Shapes.{after}
-use Rattle.std_alloc.proofs.RcSteps.{word, word-Good}
+use Rattle.std_alloc.{proofs.VecSteps.Shapes.{after}, proofs.RcSteps.{word, word-Good}}
 use lib.ListN.{length, set, get_or, length-set}
 use Rattle.std.specs.Prelude.{Some, None}
-use Rattle.core.proofs.mem.Param.{El, R, args, el_x}
-use Rattle.core.proofs.ptr.Rows.{times_below, one_below}
-use Rattle.zf_lines.specs.Places.{IsHeld}
-use Rattle.zf_lines.specs.Ownership.{slot, slots, cells_own}
+use Rattle.core.{proofs.mem.Param.{El, R, args, el_x}, proofs.ptr.Rows.{times_below, one_below}}
+use Rattle.zf_lines.{specs.Places.{IsHeld}, specs.Ownership.{slot, slots, cells_own}}
 use Rattle.zf_lines.proofs.Memory.{Cr, Bs, Mark, sz, Place, word_had, held_within, Besides, slot_out, slot_in}
+use Rattle.zf_lines.{specs.Lends.{with_slots}, specs.contracts.cells.Cells.value_mut.Key.{name as #self}}
 use denote.Follow.{follows, Part, lends_Part}
-use Rattle.zf_lines.specs.Lends.{with_slots}
-use Rattle.zf_lines.specs.contracts.cells.Cells.value_mut.Key.{name as #self}
 use Rattle.zf_lines.proofs.cells.Cells.value_mut.Statement as stated
 use Rattle.zf_lines.proofs.cells.Cells.value_mut.Code as code
 

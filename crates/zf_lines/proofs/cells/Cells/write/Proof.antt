@@ -35,13 +35,11 @@ use denote.Triple.Entry.{on_entry}
 use denote.Triple.Spec.{Meets, triple_of}
 use denote.Triple.Table.{entered, run_framed}
 use denote.Triple.Walked.{says, needs, Stays, stay_dropped, stay_ref, walk_of, ends_at, Goes-dropped, Goes-ref, walk_Meets}
-use Rattle.std_alloc.proofs.VecSteps.Shapes.{after}
-use Rattle.std_alloc.proofs.RcSteps.{Good, word, word-Good}
+use Rattle.std_alloc.{proofs.VecSteps.Shapes.{after}, proofs.RcSteps.{Good, word, word-Good}}
+use Rattle.std_alloc.proofs.RawLayout.{as_written}
 use lib.ListN.{length, set, get_or, length-set}
 use Rattle.std.specs.Prelude.{Some, None}
-use Rattle.core.proofs.mem.Param.{El, R, args, elτ}
-use Rattle.core.proofs.ptr.Rows.{times_below, one_below}
-use Rattle.std_alloc.proofs.RawLayout.{as_written}
+use Rattle.core.{proofs.mem.Param.{El, R, args, elτ}, proofs.ptr.Rows.{times_below, one_below}}
 use Rattle.zf_lines.specs.Ownership.{slot, slots, cells_own}
 use Rattle.zf_lines.proofs.Memory.{Cr, Bs, sz, Place, word_had, value_in, tells, Besides, slot_out, slot_in}
 use Rattle.zf_lines.specs.contracts.cells.Cells.write.Key.{name as #self}

@@ -1,8 +1,6 @@
 use Rattle.std.proofs.Common.{◌≡◌, ◌*◌, map, replicate, Some, sym, ap, ◌∙◌, rules}
 use Rattle.std.proofs.lemmas.List.{length-replicate}
-use Rattle.zf_lines.specs.Places.{somes}
-use Rattle.zf_lines.specs.Rows.{rows}
-use Rattle.zf_lines.proofs.Blocks.{rows-replicate}
+use Rattle.zf_lines.{specs.Places.{somes}, specs.Rows.{rows}, proofs.Blocks.{rows-replicate}}
 use Rattle.zf_lines.proofs.Runs.{somes-map, map-replicate_lem}
 use Rattle.zf_lines.proofs.lines.Lines.new.Goals as goal
 

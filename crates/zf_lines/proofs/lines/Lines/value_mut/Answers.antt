@@ -1,7 +1,5 @@
 use Rattle.std.proofs.Common.{◌+◌, ◌*◌, ◌≤◌, ◌∷◌, [], length, refl, sym, ap, subst, ◌∙◌, arith}
-use Rattle.zf_lines.specs.Places.{somes}
-use Rattle.zf_lines.specs.Rows.{rows, line_at}
-use Rattle.zf_lines.specs.Filled.{IsFilled}
+use Rattle.zf_lines.{specs.Places.{somes}, specs.Rows.{rows, line_at}, specs.Filled.{IsFilled}}
 use Rattle.zf_lines.specs.declared.cells.Cells.{Cells}
 use Rattle.zf_lines.proofs.Lent.{place_held, place_now, stays_filled, part_ends, part_now, value_at}
 use Rattle.zf_lines.proofs.lines.Lines.value_mut.Goals as goal

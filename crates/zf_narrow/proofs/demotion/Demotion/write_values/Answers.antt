@@ -1,10 +1,8 @@
 use Rattle.std.proofs.Common.{◌≡◌, ◌%◌, ◌*◌, ◌≤◌, ◌++◌, length, sym, ap, ◌∙◌, ℕ, ◌+◌, ◌/◌, min, List, append-nil, arith}
-use Rattle.zf_narrow.specs.Values.{size_of}
-use Rattle.zf_narrow.specs.RawNarrow.{demoted_bytes}
-use Rattle.zf_narrow.specs.Promoting.{listed}
+use Rattle.zf_narrow.{specs.Values.{size_of}, specs.RawNarrow.{demoted_bytes}, specs.Promoting.{listed}}
 use Rattle.zf_narrow.proofs.Demoting.{begun_values, begun_values-bounds, owes_one, owes_none, within_prefix, written_is}
-use Rattle.zf_narrow.proofs.demotion.Demotion.write_values.Goals as goal
 use Rattle.zf_narrow.proofs.demotion.Demotion.write_values.Goals.{then-written-values, else-written-values}
+use Rattle.zf_narrow.proofs.demotion.Demotion.write_values.Goals as goal
 
 pub invariant_of-self-clause-written : goal.invariant_of-self-clause-written
 invariant_of-self-clause-written g c =

@@ -21,9 +21,8 @@ use denote.Triple.Entry.{on_entry}
 use denote.Triple.Spec.{Meets, triple_of}
 use denote.Triple.Table.{entered}
 use denote.Triple.Walked.{says, ends_at, walked, walk_Meets}
-use Rattle.zf_narrow.specs.declared.log.Log.{Log}
+use Rattle.zf_narrow.{specs.declared.log.Log.{Log}, specs.contracts.log.Log.new.Key.{name as #it}}
 use Rattle.zf_narrow.specs.contracts.log.Log as T
-use Rattle.zf_narrow.specs.contracts.log.Log.new.Key.{name as #it}
 use Rattle.zf_narrow.specs.contracts.log.Log.new as it
 use Rattle.zf_narrow.proofs.log.Log.new.Statement as stated
 use Rattle.zf_narrow.proofs.log.Log.new.Code as code

@@ -25,9 +25,8 @@ use denote.Triple.Entry.{on_entry}
 use denote.Triple.Spec.{Meets, triple_of}
 use denote.Triple.Table.{entered}
 use denote.Triple.Walked.{says, Stays, stay_ref, walk_of, AllGo, Goes-ref, Walks, ends_at, walked, walk_Meets, stay_none_slice, Goes-none_slice}
-use Rattle.zf_narrow.specs.declared.log.Log.{Log}
+use Rattle.zf_narrow.{specs.declared.log.Log.{Log}, specs.contracts.log.Log.push.Key.{name as #it}}
 use Rattle.zf_narrow.specs.contracts.log.Log as T
-use Rattle.zf_narrow.specs.contracts.log.Log.push.Key.{name as #it}
 use Rattle.zf_narrow.specs.contracts.log.Log.push as it
 use Rattle.zf_narrow.proofs.log.Log.push.Statement as stated
 use Rattle.zf_narrow.proofs.log.Log.push.Code as code

@@ -1,7 +1,5 @@
-use Rattle.std.proofs.Common.{ℕ, ◌≤◌, subst, sym}
-use Rattle.std.specs.Prelude.{IfOk}
-use Rattle.zf_narrow.specs.Promotions.{exposed}
-use Rattle.zf_narrow.proofs.Stepping.{IfOk-more, OnErr-more, ends_at}
+use Rattle.std.{proofs.Common.{ℕ, ◌≤◌, subst, sym}, specs.Prelude.{IfOk}}
+use Rattle.zf_narrow.{specs.Promotions.{exposed}, proofs.Stepping.{IfOk-more, OnErr-more, ends_at}}
 use Rattle.zf_narrow.proofs.promoted.PromotedSource.read.Goals as goal
 
 pub returns-clause-taken : goal.returns-clause-taken

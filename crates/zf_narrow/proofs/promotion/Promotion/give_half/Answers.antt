@@ -1,5 +1,4 @@
-use Rattle.std.proofs.Common.{rules}
-use Rattle.std.proofs.Common.{length, replicate, refl, sym, ap, ◌∙◌, arith}
+use Rattle.std.proofs.Common.{rules, length, replicate, refl, sym, ap, ◌∙◌, arith}
 use Rattle.std.proofs.lemmas.List.{take_more_set}
 use Rattle.zf_narrow.specs.Promoting.{listed}
 use Rattle.zf_narrow.proofs.promotion.Promotion.give_half.Goals as goal

@@ -1,8 +1,6 @@
-use Rattle.std.proofs.lemmas.Grind.{common_steps}
-use Rattle.std.proofs.Common.{rules, ◌≡◌, ap, length, take, arith}
+use Rattle.std.{proofs.lemmas.Grind.{common_steps}, proofs.Common.{rules, ◌≡◌, ap, length, take, arith}}
 use Rattle.zf_stream.proofs.OnErrors.{on_err}
-use Rattle.zf_narrow.specs.Promotions.{IsIdle}
-use Rattle.zf_narrow.proofs.Given.{gives_all, gives_half}
+use Rattle.zf_narrow.{specs.Promotions.{IsIdle}, proofs.Given.{gives_all, gives_half}}
 use Rattle.zf_narrow.proofs.promotion.Promotion.read.Goals as goal
 
 pub returns-in_err-count-clause-ungiven : goal.returns-in_err-count-clause-ungiven

@@ -1,9 +1,7 @@
-use Rattle.std.proofs.lemmas.Grind.{common_steps}
-use Rattle.std.proofs.Common.{rules, ◌≡◌, ◌∙◌, ap, length, take, arith}
+use Rattle.std.{proofs.lemmas.Grind.{common_steps}, proofs.Common.{rules, ◌≡◌, ◌∙◌, ap, length, take, arith}}
 use Rattle.std.proofs.lemmas.List.{take_all}
 use Rattle.zf_stream.proofs.OnErrors.{on_err}
-use Rattle.zf_narrow.proofs.Reading.{first_gone}
-use Rattle.zf_narrow.proofs.Given.{gives_all, gives_first, gives_half}
+use Rattle.zf_narrow.{proofs.Reading.{first_gone}, proofs.Given.{gives_all, gives_first, gives_half}}
 use Rattle.zf_narrow.proofs.promotion.Promotion.read_one.Goals as goal
 
 pub returns-in_err-count-clause-ungiven : goal.returns-in_err-count-clause-ungiven

@@ -1,5 +1,4 @@
-use Rattle.std.proofs.Common.{arith}
-use Rattle.std.proofs.lemmas.Grind.{common_steps}
+use Rattle.std.{proofs.Common.{arith}, proofs.lemmas.Grind.{common_steps}}
 use Rattle.zf_narrow.proofs.promotion.Promotion.read_values.Goals as goal
 
 pub slice_bounds-piece-end-2 : goal.slice_bounds-piece-end-2

@@ -1,8 +1,6 @@
-use Rattle.std.proofs.Common.{rules}
-use Rattle.std.proofs.Common.{◌-◌, ◌/◌, ◌^◌, Bool, List, sym, subst, arith}
+use Rattle.std.proofs.Common.{rules, ◌-◌, ◌/◌, ◌^◌, Bool, List, sym, subst, arith}
 use Rattle.zf_bits.specs.Reader.{rest}
-use Rattle.zf_planes.specs.Decoding.{IsWindow}
-use Rattle.zf_planes.proofs.Passing.{Takes-rest}
+use Rattle.zf_planes.{specs.Decoding.{IsWindow}, proofs.Passing.{Takes-rest}}
 use Rattle.zf_planes.proofs.Peeking.{window_long, window_passed, Takes-skip}
 use Rattle.zf_planes.proofs.cursor.Cursor.pass.Goals as goal
 

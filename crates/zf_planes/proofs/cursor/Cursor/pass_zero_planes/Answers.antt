@@ -1,7 +1,6 @@
 use Rattle.std.proofs.Common.{Bool, false, List, ◌++◌, replicate, ap, sym, ◌∙◌, arith}
 use Rattle.zf_bits.specs.Reader.{rest}
-use Rattle.zf_planes.proofs.Passing.{Takes-rest}
-use Rattle.zf_planes.proofs.Peeking.{zeros_ahead}
+use Rattle.zf_planes.{proofs.Passing.{Takes-rest}, proofs.Peeking.{zeros_ahead}}
 use Rattle.zf_planes.proofs.cursor.Cursor.pass_zero_planes.Goals as goal
 
 pub returns-then-count-gt0-clause-zeros : goal.returns-then-count-gt0-clause-zeros

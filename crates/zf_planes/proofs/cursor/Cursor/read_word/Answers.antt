@@ -1,11 +1,7 @@
-use Rattle.std.proofs.Common.{rules}
-use Rattle.std.proofs.Common.{◌≡◌, ℕ, ◌+◌, ◌-◌, ◌/◌, ◌%◌, ◌^◌, ◌≤◌, false, ◌++◌, replicate, ap, arith}
-use Rattle.std.proofs.lemmas.Nat.{mod_below, pow_pos}
-use Rattle.std.proofs.Math.Nat.{div-eq_of_lt}
-use Rattle.zf_spec.specs.Numbers.{field}
-use Rattle.zf_spec.proofs.Fields.{field-add, field-mod, field-zero}
-use Rattle.zf_planes.proofs.Digits.{masked}
-use Rattle.zf_planes.proofs.Peeking.{window_prefix}
+use Rattle.std.proofs.Common.{rules, ◌≡◌, ℕ, ◌+◌, ◌-◌, ◌/◌, ◌%◌, ◌^◌, ◌≤◌, false, ◌++◌, replicate, ap, arith}
+use Rattle.std.{proofs.lemmas.Nat.{mod_below, pow_pos}, proofs.Math.Nat.{div-eq_of_lt}}
+use Rattle.zf_spec.{specs.Numbers.{field}, proofs.Fields.{field-add, field-mod, field-zero}}
+use Rattle.zf_planes.{proofs.Digits.{masked}, proofs.Peeking.{window_prefix}}
 use Rattle.zf_planes.proofs.cursor.Cursor.read_word.Goals as goal
 
 -- the lowest bits as a word

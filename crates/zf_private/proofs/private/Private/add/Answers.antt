@@ -1,11 +1,9 @@
 use Rattle.std.proofs.Common.{sym, ap, subst, ◌∙◌, ◌<◌, [], ◌∷◌, lit<}
 use Rattle.zf_lines.specs.Rows.{with_part}
-use Rattle.zf_cache.specs.Kept.{HasRow, line_of}
+use Rattle.zf_cache.{specs.Kept.{HasRow, line_of}, specs.Standing.{state_of}}
 use Rattle.zf_cached.specs.Acts.{Act}
-use Rattle.zf_private.specs.Standing.{Held, block_at, place_at, state}
-use Rattle.zf_cache.specs.Standing.{state_of}
+use Rattle.zf_private.{specs.Standing.{Held, block_at, place_at, state}, proofs.Others.{acted-add}}
 use Rattle.zf_private.proofs.Calls.{backed_at, values_whole, has_blocks, place_below, exists_there, acts_at, added_fits, added_state, touched_whole, does}
-use Rattle.zf_private.proofs.Others.{acted-add}
 use Rattle.zf_private.proofs.private.Private.add.Goals as goal
 
 pub touch_mut-requires : goal.touch_mut-requires

@@ -1,8 +1,6 @@
 use Rattle.std.proofs.Common.{ap, ◌∙◌, lit<}
-use Rattle.zf_cached.specs.Changes.{flush}
-use Rattle.zf_cached.specs.Acts.{Act}
-use Rattle.zf_private.specs.Standing.{Held, state}
-use Rattle.zf_private.proofs.Calls.{has_blocks, fits_mine, does}
+use Rattle.zf_cached.{specs.Changes.{flush}, specs.Acts.{Act}}
+use Rattle.zf_private.{specs.Standing.{Held, state}, proofs.Calls.{has_blocks, fits_mine, does}}
 use Rattle.zf_private.proofs.Others.{acted-flush}
 use Rattle.zf_private.proofs.private.Private.flush.Goals as goal
 

@@ -1,9 +1,8 @@
 use Rattle.std.proofs.Common.{◌∙◌, lit<, rules}
 use Rattle.zf_cached.specs.Acts.{Act}
-use Rattle.zf_private.specs.Standing.{block_at, place_at}
-use Rattle.zf_cache.specs.Standing.{state_of}
+use Rattle.zf_private.{specs.Standing.{block_at, place_at}, proofs.Others.{acted-get}}
 use Rattle.zf_private.proofs.Calls.{backed_at, exists_there, answer_is, acts_at, does}
-use Rattle.zf_private.proofs.Others.{acted-get}
+use Rattle.zf_cache.specs.Standing.{state_of}
 use Rattle.zf_private.proofs.private.Private.get.Goals as goal
 
 pub get-requires : goal.get-requires

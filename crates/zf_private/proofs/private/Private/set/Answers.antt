@@ -1,9 +1,8 @@
 use Rattle.std.proofs.Common.{◌∙◌, lit<}
 use Rattle.zf_cached.specs.Acts.{Act}
-use Rattle.zf_private.specs.Standing.{Held, block_at, place_at, state}
-use Rattle.zf_cache.specs.Standing.{state_of}
+use Rattle.zf_private.{specs.Standing.{Held, block_at, place_at, state}, proofs.Others.{acted-set}}
 use Rattle.zf_private.proofs.Calls.{backed_at, values_whole, put-changed, exists_there, acts_at, does}
-use Rattle.zf_private.proofs.Others.{acted-set}
+use Rattle.zf_cache.specs.Standing.{state_of}
 use Rattle.zf_private.proofs.private.Private.set.Goals as goal
 
 pub set-requires : goal.set-requires

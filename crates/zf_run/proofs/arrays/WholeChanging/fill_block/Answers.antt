@@ -1,8 +1,7 @@
 use Rattle.std.proofs.Common.{sym, ap, ◌∙◌, Bool, List, replicate}
 use Rattle.zf_base.specs.Formats.{Format, existing_of}
 use Rattle.zf_cached.specs.Steps.{changed}
-use Rattle.zf_run.specs.Sessions.{setting_of, session_of}
-use Rattle.zf_run.proofs.Sessions.{format_is, same_whole}
+use Rattle.zf_run.{specs.Sessions.{setting_of, session_of}, proofs.Sessions.{format_is, same_whole}}
 use Rattle.zf_run.proofs.arrays.WholeChanging.fill_block.Goals as goal
 
 pub returns : goal.returns

@@ -1,5 +1,4 @@
-use Rattle.std.proofs.Common.{rules}
-use Rattle.std.proofs.Common.{lit≤}
+use Rattle.std.proofs.Common.{rules, lit≤}
 use Rattle.zf_run.proofs.Sessions.{touched_is, same_whole}
 use Rattle.zf_run.proofs.arrays.WholeTarget.value_at.Goals as goal
 

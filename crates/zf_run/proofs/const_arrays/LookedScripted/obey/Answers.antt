@@ -1,11 +1,8 @@
 use Rattle.std.proofs.Common.{refl, true, false, length}
-use Rattle.zf_cached.specs.Kinds.{is_reading}
-use Rattle.zf_cached.specs.Runs.{look_setting}
+use Rattle.zf_cached.{specs.Kinds.{is_reading}, specs.Runs.{look_setting}}
 use Rattle.zf_commands.specs.declared.kinds.Kind.TheVariants as kinds
-use Rattle.zf_commands.specs.Kinds.{read_cmd, window_cmd, cmd_of_kind}
-use Rattle.zf_commands.proofs.Commanding.{taken, not_taken}
-use Rattle.zf_commands.proofs.Lining.{unmoved, obeyed}
-use Rattle.zf_commands.proofs.Sorting.{by_kind, same_plain, not_reading}
+use Rattle.zf_commands.{specs.Kinds.{read_cmd, window_cmd, cmd_of_kind}, proofs.Commanding.{taken, not_taken}}
+use Rattle.zf_commands.{proofs.Lining.{unmoved, obeyed}, proofs.Sorting.{by_kind, same_plain, not_reading}}
 use Rattle.zf_run.specs.Sessions.{look_setting_of, look_session_of}
 use Rattle.zf_run.proofs.const_arrays.LookedScripted.obey.Goals as goal
 

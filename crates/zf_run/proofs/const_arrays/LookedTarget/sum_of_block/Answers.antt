@@ -1,8 +1,5 @@
-use Rattle.std.proofs.Common.{rules}
-use Rattle.std.proofs.Common.{length}
-use Rattle.std.proofs.lemmas.List.{length-map}
-use Rattle.zf_run.proofs.Looking.{stream_after, look_touched_is}
-use Rattle.zf_run.proofs.Sessions.{sum_is}
+use Rattle.std.{proofs.Common.{rules, length}, proofs.lemmas.List.{length-map}}
+use Rattle.zf_run.{proofs.Looking.{stream_after, look_touched_is}, proofs.Sessions.{sum_is}}
 use Rattle.zf_commands.proofs.Passing.{block_room}
 use Rattle.zf_run.proofs.const_arrays.LookedTarget.sum_of_block.Goals as goal
 

@@ -1,5 +1,4 @@
-use Rattle.std.proofs.Common.{rules}
-use Rattle.std.proofs.Common.{lit≤}
+use Rattle.std.proofs.Common.{rules, lit≤}
 use Rattle.zf_run.proofs.Looking.{look_touched_is, same_look}
 use Rattle.zf_run.proofs.const_arrays.LookedTarget.value_at.Goals as goal
 

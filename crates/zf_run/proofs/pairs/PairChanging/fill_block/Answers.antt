@@ -1,11 +1,8 @@
-use Rattle.std.proofs.Common.{rules}
-use Rattle.std.proofs.Common.{◌∙◌, sym, ap, subst, Bool, List, replicate}
+use Rattle.std.proofs.Common.{rules, ◌∙◌, sym, ap, subst, Bool, List, replicate}
 use Rattle.zf_base.specs.Formats.{Format, existing_of}
-use Rattle.zf_cached.specs.Touch.{with_values}
-use Rattle.zf_cached.specs.Steps.{changed}
+use Rattle.zf_cached.{specs.Touch.{with_values}, specs.Steps.{changed}}
 use Rattle.zf_store.specs.Stored.{Frame, format_of, code_at}
-use Rattle.zf_twoway.specs.Touch.{touch_for_writing}
-use Rattle.zf_twoway.specs.Standing.{state_of, Fits}
+use Rattle.zf_twoway.{specs.Touch.{touch_for_writing}, specs.Standing.{state_of, Fits}}
 use Rattle.zf_twoway.specs.Loans.{lent_block}
 use Rattle.zf_commands.specs.Sittings.{session}
 use Rattle.zf_run.specs.Pairs.{pair_state, two_setting_of}

@@ -1,11 +1,9 @@
-use Rattle.std.proofs.Common.{rules}
-use Rattle.std.proofs.Common.{◌∙◌, sym, ap, subst, ℤ, pos, ◌+ℤ◌, ◌<◌, Bool, List, get_or, set}
+use Rattle.std.proofs.Common.{rules, ◌∙◌, sym, ap, subst, ℤ, pos, ◌+ℤ◌, ◌<◌, Bool, List, get_or, set}
 use Rattle.zf_spec.specs.Numbers.{wrap}
 use Rattle.zf_base.specs.Formats.{Format}
 use Rattle.zf_cached.specs.Steps.{changed, changed_at}
 use Rattle.zf_store.specs.Stored.{Frame, format_of, code_at}
-use Rattle.zf_twoway.specs.Standing.{state_of, Fits}
-use Rattle.zf_twoway.specs.Loans.{lent_block}
+use Rattle.zf_twoway.{specs.Standing.{state_of, Fits}, specs.Loans.{lent_block}}
 use Rattle.zf_commands.specs.Sittings.{session}
 use Rattle.zf_run.specs.Pairs.{pair_state, two_setting_of}
 use Rattle.zf_run.proofs.Pairing.{two_blocks, block_below, place_below, place_exists, block_there, place_there, changed_two, increase_two, same_pair}

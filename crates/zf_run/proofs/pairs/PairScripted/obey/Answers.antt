@@ -1,12 +1,9 @@
-use Rattle.std.proofs.Common.{rules}
-use Rattle.std.proofs.Common.{refl, true, false, length}
+use Rattle.std.proofs.Common.{rules, refl, true, false, length}
 use Rattle.zf_cached.specs.Kinds.{is_windowless}
 use Rattle.zf_twoway.specs.Runs.{twoway_setting}
 use Rattle.zf_commands.specs.declared.kinds.Kind.TheVariants as kinds
-use Rattle.zf_commands.specs.Kinds.{read_cmd, write_cmd, cmd_of_kind}
-use Rattle.zf_commands.proofs.Commanding.{taken, not_taken}
-use Rattle.zf_commands.proofs.Lining.{unmoved, obeyed}
-use Rattle.zf_commands.proofs.Sorting.{by_kind, same_plain, not_windowless}
+use Rattle.zf_commands.{specs.Kinds.{read_cmd, write_cmd, cmd_of_kind}, proofs.Commanding.{taken, not_taken}}
+use Rattle.zf_commands.{proofs.Lining.{unmoved, obeyed}, proofs.Sorting.{by_kind, same_plain, not_windowless}}
 use Rattle.zf_run.specs.Pairs.{pair_session, two_setting_of}
 use Rattle.zf_run.proofs.pairs.PairScripted.obey.Goals as goal
 

@@ -1,12 +1,9 @@
-use Rattle.std.proofs.Common.{rules}
-use Rattle.std.proofs.Common.{sym, ap, subst, Bool, List}
-use Rattle.std.proofs.lemmas.List.{length-map}
+use Rattle.std.{proofs.Common.{rules, sym, ap, subst, Bool, List}, proofs.lemmas.List.{length-map}}
 use Rattle.zf_base.specs.Formats.{Format}
 use Rattle.zf_store.specs.Stored.{Frame, code_at}
 use Rattle.zf_twoway.specs.Standing.{Fits}
-use Rattle.zf_run.proofs.Sessions.{sum_is}
+use Rattle.zf_run.{proofs.Sessions.{sum_is}, proofs.Pairing.{two_blocks, two_below, touched_two, same_pair}}
 use Rattle.zf_commands.proofs.Passing.{block_room}
-use Rattle.zf_run.proofs.Pairing.{two_blocks, two_below, touched_two, same_pair}
 use Rattle.zf_run.proofs.pairs.PairTarget.sum_of_block.Goals as goal
 
 pub block-requires : goal.block-requires

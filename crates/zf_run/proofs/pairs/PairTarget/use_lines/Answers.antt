@@ -1,5 +1,4 @@
-use Rattle.std.proofs.Common.{rules}
-use Rattle.std.proofs.Common.{ap, ℕ, Bool, List}
+use Rattle.std.proofs.Common.{rules, ap, ℕ, Bool, List}
 use Rattle.zf_run.proofs.Pairing.{two_blocks, lined_two, on_ok, on_err, same_store, same_pair}
 use Rattle.zf_run.proofs.pairs.PairTarget.use_lines.Goals as goal
 

@@ -1,5 +1,4 @@
-use Rattle.std.proofs.Common.{rules}
-use Rattle.std.proofs.Common.{sym, ap, subst, ◌∙◌, ◌<◌, ◌^◌, ℤ, pos, List, get_or, lit<}
+use Rattle.std.proofs.Common.{rules, sym, ap, subst, ◌∙◌, ◌<◌, ◌^◌, ℤ, pos, List, get_or, lit<}
 use Rattle.std.proofs.lemmas.Bool.{OnTrue_at}
 use Rattle.zf_store.specs.Stored.{format_of, code_at}
 use Rattle.zf_twoway.proofs.Standing.{values_stand}

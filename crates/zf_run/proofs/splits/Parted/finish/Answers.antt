@@ -1,9 +1,7 @@
 use Rattle.std.proofs.Common.{ap, ◌∙◌}
-use Rattle.zf_base.specs.Widths.{width_of}
-use Rattle.zf_base.specs.declared.lane.Ty.{Ty}
+use Rattle.zf_base.{specs.Widths.{width_of}, specs.declared.lane.Ty.{Ty}}
 use Rattle.zf_header.specs.declared.header.Mode.{Mode}
-use Rattle.zf_run.specs.Splits.{parted_session}
-use Rattle.zf_run.proofs.Splitting.{ends}
+use Rattle.zf_run.{specs.Splits.{parted_session}, proofs.Splitting.{ends}}
 use Rattle.zf_run.proofs.splits.Parted.finish.Goals as goal
 
 pub returns-clause-ended : goal.returns-clause-ended

@@ -1,11 +1,7 @@
-use Rattle.std.proofs.Common.{rules}
-use Rattle.std.proofs.Common.{sym, ap, subst, ◌∙◌, None}
-use Rattle.zf_commands.specs.Kinds.{cmd_of_kind, asked}
-use Rattle.zf_commands.specs.Steps.{Does}
+use Rattle.std.proofs.Common.{rules, sym, ap, subst, ◌∙◌, None}
+use Rattle.zf_commands.{specs.Kinds.{cmd_of_kind, asked}, specs.Steps.{Does}, proofs.Stepping.{refused_split}}
 use Rattle.zf_commands.proofs.Sorting.{by_kind, not_of_split}
-use Rattle.zf_commands.proofs.Stepping.{refused_split}
-use Rattle.zf_run.specs.Sessions.{setting_of}
-use Rattle.zf_run.specs.Splits.{parted_session}
+use Rattle.zf_run.{specs.Sessions.{setting_of}, specs.Splits.{parted_session}}
 use Rattle.zf_run.proofs.Parting.{some_parted, has_joined, refuses_whole}
 use Rattle.zf_run.proofs.splits.Parted.obey_parted.Goals as goal
 

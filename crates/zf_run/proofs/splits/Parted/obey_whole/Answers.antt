@@ -1,6 +1,5 @@
 use Rattle.std.proofs.Common.{rules}
-use Rattle.zf_commands.proofs.Sorting.{sort_of, by_kind}
-use Rattle.zf_commands.proofs.Stepping.{refused_split}
+use Rattle.zf_commands.{proofs.Sorting.{sort_of, by_kind}, proofs.Stepping.{refused_split}}
 use Rattle.zf_run.proofs.splits.Parted.obey_whole.Goals as goal
 
 pub returns-in-Join-clause-does : goal.returns-in-Join-clause-does

@@ -1,14 +1,10 @@
-use Rattle.std.proofs.Common.{rules}
-use Rattle.std.proofs.Common.{◌≡◌, refl, sym, ap, subst, ◌∙◌, true, ◌&&◌, ltb, leb, ltb-true}
+use Rattle.std.proofs.Common.{rules, ◌≡◌, refl, sym, ap, subst, ◌∙◌, true, ◌&&◌, ltb, leb, ltb-true}
 use Rattle.std.proofs.lemmas.Bool.{and_parts}
 use Rattle.zf_spec.specs.Grid.{blocks}
 use Rattle.zf_header.specs.declared.header.Header.{Header}
-use Rattle.zf_cached.specs.Arrays.{array_format}
-use Rattle.zf_cached.specs.Splits.{is_view_count}
-use Rattle.zf_cached.specs.Steps.{is_line_count}
+use Rattle.zf_cached.{specs.Arrays.{array_format}, specs.Splits.{is_view_count}, specs.Steps.{is_line_count}}
 use Rattle.zf_array.specs.Standing.{Held, shape, state}
-use Rattle.zf_run.specs.Splits.{AreNewParts}
-use Rattle.zf_run.proofs.Splitting.{has_split, are_parts}
+use Rattle.zf_run.{specs.Splits.{AreNewParts}, proofs.Splitting.{has_split, are_parts}}
 use Rattle.zf_commands.proofs.Stepping.{refused_size, refused_memory}
 use Rattle.zf_run.proofs.splits.Parted.split.Goals as goal
 

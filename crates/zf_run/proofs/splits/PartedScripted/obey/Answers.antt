@@ -1,12 +1,8 @@
-use Rattle.std.proofs.Common.{rules}
-use Rattle.std.proofs.Common.{refl, sym, subst, ◌∙◌}
+use Rattle.std.proofs.Common.{rules, refl, sym, subst, ◌∙◌}
 use Rattle.zf_cached.specs.Runs.{array_setting}
-use Rattle.zf_commands.specs.Kinds.{cmd_of_kind, asked}
-use Rattle.zf_commands.specs.Steps.{Takes, said}
-use Rattle.zf_commands.proofs.Commanding.{taken}
-use Rattle.zf_commands.proofs.Sorting.{same_plain}
-use Rattle.zf_run.specs.Sessions.{session_of, setting_of}
-use Rattle.zf_run.specs.Splits.{parted_session}
+use Rattle.zf_commands.{specs.Kinds.{cmd_of_kind, asked}, specs.Steps.{Takes, said}}
+use Rattle.zf_commands.{proofs.Commanding.{taken}, proofs.Sorting.{same_plain}}
+use Rattle.zf_run.{specs.Sessions.{session_of, setting_of}, specs.Splits.{parted_session}}
 use Rattle.zf_run.proofs.Parting.{none_parted}
 use Rattle.zf_run.proofs.splits.PartedScripted.obey.Goals as goal
 

@@ -1,6 +1,5 @@
 use Rattle.std.proofs.Common.{subst}
-use Rattle.zf_store.specs.Stored.{Stored, IsStore}
-use Rattle.zf_store.proofs.Kept.{store_whole}
+use Rattle.zf_store.{specs.Stored.{Stored, IsStore}, proofs.Kept.{store_whole}}
 use Rattle.zf_store.proofs.store.Store.header.Goals as goal
 
 pub returns-clause-whole : goal.returns-clause-whole

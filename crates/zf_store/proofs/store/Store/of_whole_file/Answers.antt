@@ -1,15 +1,10 @@
 use Rattle.std.proofs.Common.{◌≡◌, sym, subst, ◌-◌, ◌*◌, ◌<◌, false, replicate, length, drop, lit<}
-use Rattle.std.proofs.lemmas.Result.{IfOk-weaker}
-use Rattle.std.proofs.lemmas.List.Elements.{All-from_get_or}
+use Rattle.std.{proofs.lemmas.Result.{IfOk-weaker}, proofs.lemmas.List.Elements.{All-from_get_or}}
 use Rattle.std.specs.Vec.{vec_len}
-use Rattle.zf_spec.specs.Numbers.{word_bits}
-use Rattle.zf_spec.specs.Stream.{to_bits}
+use Rattle.zf_spec.{specs.Numbers.{word_bits}, specs.Stream.{to_bits}}
 use Rattle.zf_header.specs.HeaderBits.{header_bits}
-use Rattle.zf_store.specs.Stored.{Stored}
-use Rattle.zf_store.specs.Files.{IsOpened}
-use Rattle.zf_store.specs.Words.{all_bits, with_codes}
-use Rattle.zf_store.proofs.Kept.{blank_behind}
-use Rattle.zf_store.proofs.Opened.{enough_bits, opened}
+use Rattle.zf_store.{specs.Stored.{Stored}, specs.Files.{IsOpened}, specs.Words.{all_bits, with_codes}}
+use Rattle.zf_store.{proofs.Kept.{blank_behind}, proofs.Opened.{enough_bits, opened}}
 use Rattle.zf_store.proofs.store.Store.of_whole_file.Goals as goal
 
 pub with_words-requires : goal.with_words-requires

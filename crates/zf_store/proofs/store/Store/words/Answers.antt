@@ -1,9 +1,6 @@
-use Rattle.std.proofs.Common.{subst, ap, ◌∙◌, List, Bool}
-use Rattle.std.specs.List.{flat_map}
-use Rattle.zf_spec.specs.Numbers.{word_bits}
-use Rattle.zf_spec.specs.Stream.{with_fill}
-use Rattle.zf_store.specs.Stored.{Stored, IsStore}
-use Rattle.zf_store.proofs.Kept.{store_whole, words_are}
+use Rattle.std.{proofs.Common.{subst, ap, ◌∙◌, List, Bool}, specs.List.{flat_map}}
+use Rattle.zf_spec.{specs.Numbers.{word_bits}, specs.Stream.{with_fill}}
+use Rattle.zf_store.{specs.Stored.{Stored, IsStore}, proofs.Kept.{store_whole, words_are}}
 use Rattle.zf_store.proofs.store.Store.words.Goals as goal
 
 pub returns-clause-bits : goal.returns-clause-bits

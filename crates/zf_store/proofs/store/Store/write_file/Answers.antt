@@ -1,8 +1,6 @@
 use Rattle.std.proofs.Common.{ap, ◌∙◌, ◌++◌, List, ℕ, take, arith}
-use Rattle.zf_spec.specs.Numbers.{word_bits}
-use Rattle.zf_spec.specs.Stream.{to_bytes, with_fill}
-use Rattle.zf_store.specs.Stored.{file_of}
-use Rattle.zf_store.proofs.Kept.{file_is, bits_most}
+use Rattle.zf_spec.{specs.Numbers.{word_bits}, specs.Stream.{to_bytes, with_fill}}
+use Rattle.zf_store.{specs.Stored.{file_of}, proofs.Kept.{file_is, bits_most}}
 use Rattle.zf_store.proofs.store.Store.write_file.Goals as goal
 
 pub write_bytes-requires-clause-small : goal.write_bytes-requires-clause-small

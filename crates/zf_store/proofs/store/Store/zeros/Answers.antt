@@ -1,15 +1,9 @@
 use Rattle.std.proofs.Common.{◌≡◌, sym, ap, ◌∙◌, ℕ, ◌-◌, ◌*◌, ◌≤◌, Bool, false, List, drop, replicate, lit<, arith}
-use Rattle.std.specs.Int.{div_ceil}
-use Rattle.std.specs.Vec.{vec_len}
-use Rattle.std.proofs.lemmas.Result.{IfOk-weaker}
-use Rattle.zf_base.specs.Widths.{width_of}
-use Rattle.zf_base.specs.declared.lane.Ty.{Ty}
-use Rattle.zf_spec.specs.Grid.{blocks}
-use Rattle.zf_spec.specs.Numbers.{word_bits}
+use Rattle.std.{specs.Int.{div_ceil}, specs.Vec.{vec_len}, proofs.lemmas.Result.{IfOk-weaker}}
+use Rattle.zf_base.{specs.Widths.{width_of}, specs.declared.lane.Ty.{Ty}}
+use Rattle.zf_spec.{specs.Grid.{blocks}, specs.Numbers.{word_bits}}
 use Rattle.zf_header.specs.declared.header.Mode.TheVariants.{Rate}
-use Rattle.zf_store.specs.Stored.{Stored, zeros}
-use Rattle.zf_store.specs.Words.{with_codes}
-use Rattle.zf_store.proofs.Cut.{codes_in-zeros}
+use Rattle.zf_store.{specs.Stored.{Stored, zeros}, specs.Words.{with_codes}, proofs.Cut.{codes_in-zeros}}
 use Rattle.zf_store.proofs.Kept.{blank_words}
 use Rattle.zf_store.proofs.store.Store.zeros.Goals as goal
 

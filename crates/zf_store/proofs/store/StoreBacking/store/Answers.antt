@@ -1,14 +1,10 @@
 use Rattle.std.proofs.Common.{◌≡◌, sym, ap, subst, ◌∙◌, ℕ, ◌++◌, Bool, List, [], length, map, arith}
 use Rattle.std.proofs.lemmas.List.{take_at}
-use Rattle.zf_spec.specs.Codes.{rate}
-use Rattle.zf_spec.specs.Grid.{extent_of}
-use Rattle.zf_spec.specs.Numbers.{word_bits}
+use Rattle.zf_spec.{specs.Codes.{rate}, specs.Grid.{extent_of}, specs.Numbers.{word_bits}}
 use Rattle.zf_spec.proofs.BlockReading.{length-rate}
-use Rattle.zf_base.specs.Formats.{encoded, with_at}
-use Rattle.zf_base.specs.Positions.{used_axes}
+use Rattle.zf_base.{specs.Formats.{encoded, with_at}, specs.Positions.{used_axes}}
 use Rattle.zf_header.specs.HeaderBits.{block_bits}
-use Rattle.zf_store.specs.Stored.{Stored, code_at, format_of}
-use Rattle.zf_store.specs.Words.{IsKept, with_codes}
+use Rattle.zf_store.{specs.Stored.{Stored, code_at, format_of}, specs.Words.{IsKept, with_codes}}
 use Rattle.zf_store.proofs.Kept.{below_blocks, line_size, put_is, kept_put, codes_put, code_is_encoded}
 use Rattle.zf_store.proofs.store.StoreBacking.store.Goals as goal
 

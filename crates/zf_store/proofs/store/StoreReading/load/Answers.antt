@@ -1,7 +1,6 @@
 use Rattle.std.proofs.Common.{◌≡◌, ap, subst, ◌∙◌, ℕ, ◌*◌, Bool, List, [], length, take, drop, map, arith}
 use Rattle.std.proofs.lemmas.List.{length-take-le}
-use Rattle.zf_spec.specs.Grid.{blocks}
-use Rattle.zf_spec.specs.Numbers.{word_bits}
+use Rattle.zf_spec.{specs.Grid.{blocks}, specs.Numbers.{word_bits}}
 use Rattle.zf_base.specs.Formats.{existing_of, meant}
 use Rattle.zf_bits.specs.Reader.{Reader, rest}
 use Rattle.zf_header.specs.HeaderBits.{block_bits}

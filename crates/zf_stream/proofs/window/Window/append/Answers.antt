@@ -1,14 +1,9 @@
-use Rattle.std.proofs.lemmas.Grind.{common_steps}
+use Rattle.std.{proofs.lemmas.Grind.{common_steps}, proofs.lemmas.Bool.{ltb-false}, specs.Vec.{with_items}}
 use Rattle.std.proofs.Common.{◌≡◌, ℕ, ◌+◌, ◌*◌, ◌/◌, ◌<◌, ◌≤◌, List, Bool, ◌++◌, length, take, drop, sym, ap, ◌∙◌, length-append, arith, rules}
-use Rattle.std.proofs.lemmas.Bool.{ltb-false}
 use Rattle.std.proofs.lemmas.List.{with_items_is, places, length-take-le, take-append-le}
-use Rattle.std.specs.Vec.{with_items}
-use Rattle.zf_spec.specs.Numbers.{word_bits}
-use Rattle.zf_spec.specs.Stream.{to_bits}
-use Rattle.zf_spec.proofs.Bytes.{length-to_bits}
+use Rattle.zf_spec.{specs.Numbers.{word_bits}, specs.Stream.{to_bits}, proofs.Bytes.{length-to_bits}}
 use Rattle.zf_bits.proofs.Reading.{length-reader_of}
-use Rattle.zf_stream.specs.Windows.{left_of}
-use Rattle.zf_stream.proofs.Windows.{Refills-put}
+use Rattle.zf_stream.{specs.Windows.{left_of}, proofs.Windows.{Refills-put}}
 use Rattle.zf_stream.proofs.window.Window.append.Goals as goal
 
 pub returns-clause-ok : goal.returns-clause-ok

@@ -1,5 +1,4 @@
-use Rattle.std.proofs.Common.{rules}
-use Rattle.std.proofs.Common.{length, ap, arith}
+use Rattle.std.proofs.Common.{rules, length, ap, arith}
 use Rattle.zf_bits.proofs.Reading.{length-rest, length-reader_of}
 use Rattle.zf_stream.proofs.window.Window.left.Goals as goal
 

@@ -1,9 +1,7 @@
 use Rattle.std.proofs.Common.{◌≡◌, ◌+◌, ◌-◌, ◌*◌, ◌/◌, take, drop, sym, ap, ◌∙◌, arith}
-use Rattle.std.proofs.lemmas.List.Edits.{take-paste}
-use Rattle.std.proofs.lemmas.List.{length-drop}
+use Rattle.std.{proofs.lemmas.List.Edits.{take-paste}, proofs.lemmas.List.{length-drop}}
 use Rattle.std.proofs.Math.Seq.{paste}
-use Rattle.zf_stream.specs.Windows.{left_of}
-use Rattle.zf_stream.proofs.Windows.{bits_moved}
+use Rattle.zf_stream.{specs.Windows.{left_of}, proofs.Windows.{bits_moved}}
 use Rattle.zf_stream.proofs.window.Window.move_down.Goals as goal
 
 pub returns-clause-bits : goal.returns-clause-bits

@@ -1,5 +1,4 @@
-use Rattle.std.proofs.lemmas.Grind.{common_steps}
-use Rattle.std.proofs.Common.{arith, rules}
+use Rattle.std.{proofs.lemmas.Grind.{common_steps}, proofs.Common.{arith, rules}}
 use Rattle.std.proofs.lemmas.List.{with_items_is, places}
 use Rattle.zf_stream.proofs.window.Window.new.Goals as goal
 

@@ -1,10 +1,6 @@
-use Rattle.std.proofs.Common.{rules}
-use Rattle.std.proofs.Common.{sym, ◌∙◌, arith}
-use Rattle.zf_dev.proofs.Taking.{Takes-append}
-use Rattle.zf_stream.proofs.OnErrors.{on_err}
-use Rattle.zf_stream.proofs.Windows.{Refills-next, Refills-moved}
-use Rattle.zf_dev.proofs.Devices.{Reads-none, Reads-more}
-use Rattle.std.proofs.lemmas.Result.{err_from_is_err_and}
+use Rattle.std.{proofs.Common.{rules, sym, ◌∙◌, arith}, proofs.lemmas.Result.{err_from_is_err_and}}
+use Rattle.zf_dev.{proofs.Taking.{Takes-append}, proofs.Devices.{Reads-none, Reads-more}}
+use Rattle.zf_stream.{proofs.OnErrors.{on_err}, proofs.Windows.{Refills-next, Refills-moved}}
 use Rattle.zf_stream.proofs.Failing.{ReadsOnly-ok}
 use Rattle.zf_stream.proofs.window.Window.refill.Goals as goal
 

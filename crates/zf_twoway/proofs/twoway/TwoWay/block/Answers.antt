@@ -1,10 +1,7 @@
 use Rattle.std.proofs.Common.{refl, ap, ◌∙◌, length}
-use Rattle.zf_cache.specs.Bodies.{kept_of}
-use Rattle.zf_cache.proofs.Lent.{shows, whole}
-use Rattle.zf_twoway.specs.Touch.{touch}
-use Rattle.zf_twoway.specs.Placing.{skewed, IsOneOfTwo, skewed_rule}
-use Rattle.zf_twoway.specs.Standing.{state_of}
-use Rattle.zf_twoway.proofs.Standing.{ready_of, touches, stands}
+use Rattle.zf_cache.{specs.Bodies.{kept_of}, proofs.Lent.{shows, whole}}
+use Rattle.zf_twoway.{specs.Touch.{touch}, specs.Placing.{skewed, IsOneOfTwo, skewed_rule}}
+use Rattle.zf_twoway.{specs.Standing.{state_of}, proofs.Standing.{ready_of, touches, stands}}
 use Rattle.zf_twoway.proofs.twoway.TwoWay.block.Goals as goal
 
 pub touch-l-requires : goal.touch-l-requires

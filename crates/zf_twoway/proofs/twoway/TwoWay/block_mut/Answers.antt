@@ -1,14 +1,9 @@
 use Rattle.std.proofs.Common.{◌^◌, refl, sym, ap, subst, ◌∙◌, length}
-use Rattle.zf_lines.specs.Rows.{line_at, over}
-use Rattle.zf_lines.proofs.Sizes.{length-over}
-use Rattle.zf_cache.specs.Kept.{Kept}
-use Rattle.zf_cache.specs.Bodies.{IsWhole, kept_of}
-use Rattle.zf_cache.proofs.Lent.{lends, whole}
+use Rattle.zf_lines.{specs.Rows.{line_at, over}, proofs.Sizes.{length-over}}
+use Rattle.zf_cache.{specs.Kept.{Kept}, specs.Bodies.{IsWhole, kept_of}, proofs.Lent.{lends, whole}}
 use Rattle.zf_cache.proofs.Sound.{whole_written}
-use Rattle.zf_twoway.specs.Placing.{skewed, IsOneOfTwo, skewed_rule}
-use Rattle.zf_twoway.specs.Standing.{Fits}
-use Rattle.zf_twoway.specs.Loans.{LendsBlock, lent_block}
-use Rattle.zf_twoway.proofs.Standing.{ready_of, lent_is, loans}
+use Rattle.zf_twoway.{specs.Placing.{skewed, IsOneOfTwo, skewed_rule}, specs.Standing.{Fits}}
+use Rattle.zf_twoway.{specs.Loans.{LendsBlock, lent_block}, proofs.Standing.{ready_of, lent_is, loans}}
 use Rattle.zf_twoway.proofs.twoway.TwoWay.block_mut.Goals as goal
 
 pub touch_for_writing-l-requires : goal.touch_for_writing-l-requires

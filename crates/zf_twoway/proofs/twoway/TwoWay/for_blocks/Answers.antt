@@ -1,9 +1,6 @@
-use Rattle.std.proofs.Common.{ap, ◌∙◌, ℕ, length}
-use Rattle.std.proofs.lemmas.List.{length-replicate}
-use Rattle.zf_cache.specs.Bodies.{kept_of}
+use Rattle.std.{proofs.Common.{ap, ◌∙◌, ℕ, length}, proofs.lemmas.List.{length-replicate}}
+use Rattle.zf_cache.{specs.Bodies.{kept_of}, proofs.Rooms.{room_for_blocks}, proofs.Tags.{counts_lines}}
 use Rattle.zf_twoway.specs.Placing.{skewed, IsOneOfTwo, skewed_rule}
-use Rattle.zf_cache.proofs.Rooms.{room_for_blocks}
-use Rattle.zf_cache.proofs.Tags.{counts_lines}
 use Rattle.zf_twoway.proofs.twoway.TwoWay.for_blocks.Goals as goal
 
 pub returns-clause-room : goal.returns-clause-room

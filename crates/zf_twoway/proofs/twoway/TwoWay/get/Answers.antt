@@ -1,8 +1,6 @@
 use Rattle.std.proofs.Common.{◌<◌, sym, ap, subst, ◌∙◌}
-use Rattle.zf_cache.specs.Bodies.{kept_of}
-use Rattle.zf_cache.proofs.Lent.{gets}
-use Rattle.zf_twoway.specs.Placing.{skewed, IsOneOfTwo, skewed_rule}
-use Rattle.zf_twoway.proofs.Standing.{ready_of, touches}
+use Rattle.zf_cache.{specs.Bodies.{kept_of}, proofs.Lent.{gets}}
+use Rattle.zf_twoway.{specs.Placing.{skewed, IsOneOfTwo, skewed_rule}, proofs.Standing.{ready_of, touches}}
 use Rattle.zf_twoway.proofs.twoway.TwoWay.get.Goals as goal
 
 pub touch-l-requires : goal.touch-l-requires

@@ -1,15 +1,9 @@
-use Rattle.std.proofs.Common.{sym, ap, ◌∙◌, ℕ, length, min}
-use Rattle.std.proofs.lemmas.List.{length-replicate}
+use Rattle.std.{proofs.Common.{sym, ap, ◌∙◌, ℕ, length, min}, proofs.lemmas.List.{length-replicate}}
 use Rattle.zf_base.specs.Formats.{Format}
-use Rattle.zf_cache.specs.Kept.{Kept}
-use Rattle.zf_cache.specs.Bodies.{kept_of, counts_of}
+use Rattle.zf_cache.{specs.Kept.{Kept}, specs.Bodies.{kept_of, counts_of}, proofs.Lent.{reline}}
+use Rattle.zf_cache.{proofs.Rooms.{room_for_blocks}, proofs.Steps.{empty_fits_at}, proofs.Tags.{counts_lines}}
 use Rattle.zf_cached.specs.Changes.{relined}
-use Rattle.zf_cache.proofs.Lent.{reline}
-use Rattle.zf_cache.proofs.Rooms.{room_for_blocks}
-use Rattle.zf_cache.proofs.Steps.{empty_fits_at}
-use Rattle.zf_cache.proofs.Tags.{counts_lines}
-use Rattle.zf_twoway.specs.Placing.{skewed, IsOneOfTwo, skewed_rule}
-use Rattle.zf_twoway.specs.Standing.{state_of}
+use Rattle.zf_twoway.{specs.Placing.{skewed, IsOneOfTwo, skewed_rule}, specs.Standing.{state_of}}
 use Rattle.zf_twoway.proofs.Standing.{sound_of, fits_of}
 use Rattle.zf_twoway.proofs.twoway.TwoWay.relined.Goals as goal
 

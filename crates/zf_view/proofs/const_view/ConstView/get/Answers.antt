@@ -3,8 +3,7 @@ use Rattle.zf_base.specs.Positions.{IsPosition}
 use Rattle.zf_cached.specs.State.{State}
 use Rattle.zf_const.specs.Standing.{state, format, shape, block_at}
 use Rattle.zf_window.proofs.Positions.{position_at-inside}
-use Rattle.zf_view.specs.Sums.{value_in}
-use Rattle.zf_view.proofs.Sums.{clean_unwritten, value_unwritten}
+use Rattle.zf_view.{specs.Sums.{value_in}, proofs.Sums.{clean_unwritten, value_unwritten}}
 use Rattle.zf_view.proofs.const_view.ConstView.get.Goals as goal
 
 pub get-requires : goal.get-requires

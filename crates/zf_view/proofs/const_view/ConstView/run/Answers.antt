@@ -1,14 +1,9 @@
 use Rattle.std.proofs.Common.{refl, ap, sym, subst, ◌∙◌, ◌^◌, length, arith}
-use Rattle.zf_base.specs.Positions.{used_axes, IsPosition}
-use Rattle.zf_base.specs.Places.{block_number, place_of}
-use Rattle.zf_cached.specs.Placing.{direct}
-use Rattle.zf_cached.specs.Touch.{touch}
-use Rattle.zf_cached.proofs.Caching.{touch-left}
+use Rattle.zf_base.{specs.Positions.{used_axes, IsPosition}, specs.Places.{block_number, place_of}}
+use Rattle.zf_cached.{specs.Placing.{direct}, specs.Touch.{touch}, proofs.Caching.{touch-left}}
 use Rattle.zf_const.specs.Standing.{state, format, shape, block_at, touched}
-use Rattle.zf_window.specs.Positions.{position_at}
-use Rattle.zf_window.proofs.Positions.{position_at-inside}
-use Rattle.zf_view.specs.ViewLoans.{const_view_of}
-use Rattle.zf_view.proofs.Runs.{run_within, run_shown, len_of, exists_of}
+use Rattle.zf_window.{specs.Positions.{position_at}, proofs.Positions.{position_at-inside}}
+use Rattle.zf_view.{specs.ViewLoans.{const_view_of}, proofs.Runs.{run_within, run_shown, len_of, exists_of}}
 use Rattle.zf_view.proofs.const_view.ConstView.run.Goals as goal
 
 pub place-b-requires : goal.place-b-requires

@@ -1,6 +1,5 @@
-use Rattle.std.proofs.Common.{refl, ◌∙◌}
+use Rattle.std.{proofs.Common.{refl, ◌∙◌}, proofs.Math.Facts.{to_z-of_z}}
 use mir.Syntax.{w128}
-use Rattle.std.proofs.Math.Facts.{to_z-of_z}
 use Rattle.zf_spec.specs.Grid.{product}
 use Rattle.zf_const.specs.Standing.{state, format, shape}
 use Rattle.zf_view.proofs.Sums.{clean_unwritten, sum_found-unwritten}

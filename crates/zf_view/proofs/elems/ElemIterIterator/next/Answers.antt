@@ -3,8 +3,7 @@ use Rattle.zf_spec.specs.Grid.{product}
 use Rattle.zf_base.specs.Positions.{IsPosition}
 use Rattle.zf_cached.specs.State.{State}
 use Rattle.zf_array.specs.Standing.{shape, block_at, place_at}
-use Rattle.zf_window.specs.Positions.{position_at, raster_at}
-use Rattle.zf_window.proofs.Raster.{raster_at-inside}
+use Rattle.zf_window.{specs.Positions.{position_at, raster_at}, proofs.Raster.{raster_at-inside}}
 use Rattle.zf_window.proofs.Walks.{numbered-inside, position_at-numbered}
 use Rattle.zf_view.specs.Touches.{touched_at, found_at}
 use Rattle.zf_view.proofs.elems.ElemIterIterator.next.Goals as goal

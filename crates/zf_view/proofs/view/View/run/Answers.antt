@@ -1,12 +1,9 @@
 use Rattle.std.proofs.Common.{refl, ap, sym, subst, ◌∙◌, ◌^◌, ℕ, length, arith}
-use Rattle.zf_base.specs.Positions.{used_axes, IsPosition}
-use Rattle.zf_base.specs.Places.{block_number, place_of}
+use Rattle.zf_base.{specs.Positions.{used_axes, IsPosition}, specs.Places.{block_number, place_of}}
 use Rattle.zf_cached.specs.Touch.{touch}
 use Rattle.zf_array.specs.Standing.{Held, state, format, shape, array_of}
-use Rattle.zf_window.specs.Positions.{position_at}
-use Rattle.zf_view.specs.ViewLoans.{view_of}
-use Rattle.zf_window.proofs.Positions.{position_at-inside}
-use Rattle.zf_view.specs.Runs.{block_found}
+use Rattle.zf_window.{specs.Positions.{position_at}, proofs.Positions.{position_at-inside}}
+use Rattle.zf_view.{specs.ViewLoans.{view_of}, specs.Runs.{block_found}}
 use Rattle.zf_view.proofs.Runs.{run_within, run_shown, len_of, exists_of, found_is}
 use Rattle.zf_view.proofs.view.View.run.Goals as goal
 

@@ -1,13 +1,10 @@
 use Rattle.std.proofs.Common.{refl, ap, sym, subst, ◌∙◌, ◌+◌, ◌≤◌, ◌^◌, map, length, lit<, arith}
 use Rattle.std.proofs.lemmas.List.{length-map}
-use Rattle.zf_base.specs.Positions.{used_axes, IsPosition}
-use Rattle.zf_base.specs.Places.{block_number, place_of}
-use Rattle.zf_lines.specs.Rows.{over}
-use Rattle.zf_lines.proofs.Sizes.{length-over}
+use Rattle.zf_base.{specs.Positions.{used_axes, IsPosition}, specs.Places.{block_number, place_of}}
+use Rattle.zf_lines.{specs.Rows.{over}, proofs.Sizes.{length-over}}
 use Rattle.zf_array.specs.Standing.{shape}
-use Rattle.zf_window.specs.Positions.{position_at}
+use Rattle.zf_window.{specs.Positions.{position_at}, proofs.Positions.{position_at-inside}}
 use Rattle.zf_view.specs.ViewLoans.{view_of}
-use Rattle.zf_window.proofs.Positions.{position_at-inside}
 use Rattle.zf_view.proofs.Runs.{beside, run_within, run_is, run_ends, run_state, header_run}
 use Rattle.zf_view.proofs.view.View.run_mut.Goals as goal
 

@@ -1,6 +1,5 @@
-use Rattle.std.proofs.Common.{sym, subst, ◌∙◌}
+use Rattle.std.{proofs.Common.{sym, subst, ◌∙◌}, proofs.Math.Facts.{to_z-of_z}}
 use mir.Syntax.{w128}
-use Rattle.std.proofs.Math.Facts.{to_z-of_z}
 use Rattle.zf_spec.specs.Grid.{product}
 use Rattle.zf_cached.specs.Unwritten.{IsUnwritten}
 use Rattle.zf_array.specs.Standing.{state, format, shape}

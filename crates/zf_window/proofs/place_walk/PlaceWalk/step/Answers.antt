@@ -1,8 +1,7 @@
 use Rattle.std.proofs.Common.{◌≡◌, ◌+◌, ◌-◌, ◌<◌, sym, ap, subst, ◌∙◌, arith}
 use Rattle.zf_spec.specs.Grid.{product}
 use Rattle.zf_cached.specs.Windows.{LiesIn}
-use Rattle.zf_window.specs.Places.{WalkingIn, IsThere, next_of}
-use Rattle.zf_window.proofs.Beside.{place_small}
+use Rattle.zf_window.{specs.Places.{WalkingIn, IsThere, next_of}, proofs.Beside.{place_small}}
 use Rattle.zf_window.proofs.place_walk.PlaceWalk.step.Goals as goal
 
 pub rest_or_next-run-requires : goal.rest_or_next-run-requires

@@ -2,11 +2,9 @@ use Rattle.std.proofs.Common.{◌≡◌, ◌+◌, ◌-◌, ◌<◌, sym, ap, sub
 use Rattle.zf_spec.specs.Grid.{product}
 use Rattle.zf_base.specs.Positions.{IsPosition}
 use Rattle.zf_cached.specs.Windows.{LiesIn}
-use Rattle.zf_window.specs.Positions.{Walking, numbered}
-use Rattle.zf_window.specs.Places.{IsRun}
+use Rattle.zf_window.{specs.Positions.{Walking, numbered}, specs.Places.{IsRun}}
 use Rattle.zf_window.proofs.Beside.{sided, few, along_is, along_inside, first_there}
-use Rattle.zf_window.proofs.Positions.{position_at-inside}
-use Rattle.zf_window.proofs.Walks.{walk_inside, walk_position}
+use Rattle.zf_window.{proofs.Positions.{position_at-inside}, proofs.Walks.{walk_inside, walk_position}}
 use Rattle.zf_window.proofs.walk.Walk.run.Goals as goal
 
 pub beside-count-requires : goal.beside-count-requires

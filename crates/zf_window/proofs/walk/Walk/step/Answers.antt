@@ -1,7 +1,6 @@
 use Rattle.std.proofs.Common.{◌<◌, sym, ap, subst, ◌∙◌}
 use Rattle.zf_spec.specs.Grid.{product}
-use Rattle.zf_window.specs.Positions.{Walking, raster_at}
-use Rattle.zf_window.proofs.Walks.{walk_inside, walk_position}
+use Rattle.zf_window.{specs.Positions.{Walking, raster_at}, proofs.Walks.{walk_inside, walk_position}}
 use Rattle.zf_window.proofs.walk.Walk.step.Goals as goal
 
 pub map-position-requires : goal.map-position-requires

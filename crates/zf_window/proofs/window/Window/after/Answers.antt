@@ -1,8 +1,6 @@
 use Rattle.std.proofs.Common.{◌≡◌, ℕ, ◌+◌, sym, subst}
 use Rattle.zf_base.specs.Positions.{IsPosition}
-use Rattle.zf_window.specs.Positions.{numbered}
-use Rattle.zf_window.proofs.Axes.{inside-IsPosition}
-use Rattle.zf_window.proofs.Walks.{after_is}
+use Rattle.zf_window.{specs.Positions.{numbered}, proofs.Axes.{inside-IsPosition}, proofs.Walks.{after_is}}
 use Rattle.zf_window.proofs.window.Window.after.Goals as goal
 
 pub following-requires : goal.following-requires

@@ -1,5 +1,4 @@
-use Rattle.std.proofs.Common.{sym, subst, ◌∙◌}
-use Rattle.std.specs.Prelude.{◌↔◌, IsTrue}
+use Rattle.std.{proofs.Common.{sym, subst, ◌∙◌}, specs.Prelude.{◌↔◌, IsTrue}}
 use Rattle.zf_base.specs.Positions.{IsPosition}
 use Rattle.zf_window.proofs.Axes.{IsPosition-inside, inside-IsPosition}
 use Rattle.zf_window.proofs.window.Window.contains.Goals as goal

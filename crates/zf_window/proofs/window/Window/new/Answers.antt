@@ -1,8 +1,7 @@
 use Rattle.std.proofs.Common.{◌≡◌, ◌-◌, List, ℕ, Bool, true, map, length, refl, sym, ap, subst, ◌∙◌}
 use Rattle.zf_spec.specs.Grid.{IsShape, is_inside}
 use Rattle.zf_cached.specs.Windows.{LiesIn, stepped, lies_in, none_zero}
-use Rattle.zf_base.specs.declared.position.Pos.{Pos}
-use Rattle.zf_base.specs.Positions.{axes, used_axes, with_unused}
+use Rattle.zf_base.{specs.declared.position.Pos.{Pos}, specs.Positions.{axes, used_axes, with_unused}}
 use Rattle.zf_window.specs.WindowFields.{window_of, AreUnused, IsWindowOf}
 use Rattle.zf_window.proofs.Axes.{none_zero-axes, none_zero-steps, lies_in-axes}
 use Rattle.zf_window.proofs.Parts.{IsWindowOf-lies, LiesIn-tests, last_long, view_fault-none, view_fault-outside}

@@ -1,7 +1,6 @@
 use Rattle.std.proofs.Common.{◌≡◌, length, ap, sym, subst, ◌∙◌, ◌<◌}
 use Rattle.zf_spec.specs.Grid.{product, coordinates}
-use Rattle.zf_base.specs.Positions.{used_axes, with_unused, IsPosition}
-use Rattle.zf_base.proofs.Extents.{length-used_axes}
+use Rattle.zf_base.{specs.Positions.{used_axes, with_unused, IsPosition}, proofs.Extents.{length-used_axes}}
 use Rattle.zf_cached.specs.Windows.{mapped}
 use Rattle.zf_window.proofs.Raster.{position_inside, used_is}
 use Rattle.zf_window.proofs.window.Window.raster_at.Goals as goal

@@ -1,6 +1,5 @@
-use Rattle.std.proofs.Common.{◌≡◌, ◌+◌, ◌*◌, ◌<◌, ap, ◌∙◌, arith}
+use Rattle.std.{proofs.Common.{◌≡◌, ◌+◌, ◌*◌, ◌<◌, ap, ◌∙◌, arith}, specs.Prelude.{slice_index_or, slice_set}}
 use Rattle.zf_base.specs.Positions.{axes}
-use Rattle.std.specs.Prelude.{slice_index_or, slice_set}
 use Rattle.zf_window.proofs.Places.{slice_small, IsWindowOf-slice}
 use Rattle.zf_window.proofs.window.Window.slice.Goals as goal
 

@@ -1,7 +1,6 @@
 use Rattle.std.proofs.Common.{length, sym, subst}
 use Rattle.zf_base.specs.Positions.{with_unused}
-use Rattle.zf_cached.specs.Windows.{LiesIn}
-use Rattle.zf_cached.proofs.Windows.{LiesIn-whole}
+use Rattle.zf_cached.{specs.Windows.{LiesIn}, proofs.Windows.{LiesIn-whole}}
 use Rattle.zf_window.specs.WindowFields.{window_of}
 use Rattle.zf_window.proofs.Parts.{IsWindowOf-lies, window_of-whole, AreUnused-whole}
 use Rattle.zf_window.proofs.window.Window.whole.Goals as goal

@@ -1,12 +1,7 @@
-use Rattle.std.proofs.Common.{rules}
-use Rattle.std.proofs.Common.{refl, sym, subst}
-use Rattle.zfpi.specs.declared.command.Command.TheVariants.{Bound}
-use Rattle.zfpi.specs.Opened.{array_in}
-use Rattle.zfpi.specs.Loaded.{HoldsFile}
-use Rattle.zfpi.proofs.Causes.{HasCauses-unloaded}
-use Rattle.zfpi.proofs.Stepping.{Steps-loaded}
-use Rattle.zfpi.proofs.Loading.{Behaves-unloaded}
-use Rattle.zfpi.proofs.Certifying.{IsLoading-bound}
+use Rattle.std.proofs.Common.{rules, refl, sym, subst}
+use Rattle.zfpi.{specs.declared.command.Command.TheVariants.{Bound}, specs.Opened.{array_in}}
+use Rattle.zfpi.{specs.Loaded.{HoldsFile}, proofs.Causes.{HasCauses-unloaded}, proofs.Stepping.{Steps-loaded}}
+use Rattle.zfpi.{proofs.Loading.{Behaves-unloaded}, proofs.Certifying.{IsLoading-bound}}
 use Rattle.zfpi.proofs.HandedOn.{unloaded_status}
 use Rattle.zfpi.proofs.commands.bound.bound.Goals as goal
 

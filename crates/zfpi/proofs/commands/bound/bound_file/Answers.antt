@@ -1,9 +1,7 @@
 use Rattle.std.proofs.Common.{sym}
-use Rattle.zfpi.specs.declared.command.Command.TheVariants.{Bound}
-use Rattle.zfpi.specs.declared.status.Status.TheVariants.{Header, NotRate}
-use Rattle.zfpi.specs.Opened.{array_in}
+use Rattle.zfpi.{specs.declared.command.Command.TheVariants.{Bound}, specs.Opened.{array_in}}
+use Rattle.zfpi.{specs.declared.status.Status.TheVariants.{Header, NotRate}, proofs.Loading.{Behaves-refused}}
 use Rattle.zfpi.proofs.Opening.{array_in-header, array_in-no_rate}
-use Rattle.zfpi.proofs.Loading.{Behaves-refused}
 use Rattle.zfpi.proofs.Certifying.{IsLoading-bound, Certifies-refused}
 use Rattle.zfpi.proofs.commands.bound.bound_file.Goals as goal
 

@@ -1,11 +1,9 @@
 use Rattle.std.proofs.Common.{◌≡◌, IfOk, subst, refl, ◌∙◌}
 use Rattle.zf_bound.specs.Bounds.{certified_of}
 use Rattle.zf_parse.specs.Parsing.{parse}
-use Rattle.zfpi.specs.declared.command.Command.TheVariants.{Bound}
+use Rattle.zfpi.{specs.declared.command.Command.TheVariants.{Bound}, specs.Faults.{index_status}}
 use Rattle.zfpi.specs.declared.status.Status.TheVariants.{Done, ReadFault, WriteFault, LoadFault, SaveFault}
-use Rattle.zfpi.specs.Faults.{index_status}
-use Rattle.zfpi.proofs.Causes.{HasCauses-wrote}
-use Rattle.zfpi.proofs.Subjects.{RefusesFile-index}
+use Rattle.zfpi.{proofs.Causes.{HasCauses-wrote}, proofs.Subjects.{RefusesFile-index}}
 use Rattle.zfpi.proofs.Statuses.{differ}
 use Rattle.zfpi.proofs.Certifying.{said_good, Certifies-refused, Behaves-certified, Behaves-cut_certified, Behaves-no_codes}
 use Rattle.zfpi.proofs.commands.bound.bound_stream.Goals as goal

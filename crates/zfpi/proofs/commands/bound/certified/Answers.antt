@@ -1,5 +1,4 @@
-use Rattle.std.proofs.Common.{ap, sym}
-use Rattle.std.specs.Int.{w32, w64}
+use Rattle.std.{proofs.Common.{ap, sym}, specs.Int.{w32, w64}}
 use Rattle.zf_base.specs.Widths.{width_of}
 use Rattle.zf_parse.specs.Parsing.{parse}
 use Rattle.zfpi.proofs.Certifying.{certified_all}

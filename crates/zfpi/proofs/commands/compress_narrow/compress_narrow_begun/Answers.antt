@@ -1,8 +1,7 @@
 use Rattle.std.proofs.Common.{[], Err, ap, sym, refl}
 use Rattle.zf_narrow.specs.Texts.{compress_narrow_answer, narrow_text}
 use Rattle.zfpi.specs.declared.command.Command.TheVariants.{CompressNarrow}
-use Rattle.zfpi.specs.declared.status.Status.TheVariants.{Done}
-use Rattle.zfpi.specs.Faults.{status_of, fault_status}
+use Rattle.zfpi.{specs.declared.status.Status.TheVariants.{Done}, specs.Faults.{status_of, fault_status}}
 use Rattle.zfpi.proofs.Streaming.{IsStreaming-compress_narrow, Streams-begun, Behaves-done, Behaves-fault, compress_prefix, read_named, write_named}
 use Rattle.zfpi.proofs.commands.compress_narrow.compress_narrow_begun.Goals as goal
 

@@ -1,8 +1,7 @@
 use Rattle.std.proofs.Common.{refl, ◌∙◌, ap, subst, Err, arith}
 use Rattle.zf_stream.specs.Headed.{LacksHeader}
-use Rattle.zfpi.specs.declared.command.Command.TheVariants.{Info}
+use Rattle.zfpi.{specs.declared.command.Command.TheVariants.{Info}, specs.Faults.{fault_status}}
 use Rattle.zfpi.specs.declared.status.Status.TheVariants.{Done, WriteFault}
-use Rattle.zfpi.specs.Faults.{fault_status}
 use Rattle.zfpi.proofs.Streaming.{Streams-begun, read_named, write_named}
 use Rattle.zfpi.proofs.Heading.{Behaves-line, Behaves-cut_line, Behaves-lacks}
 use Rattle.zfpi.proofs.commands.info.info.Goals as goal

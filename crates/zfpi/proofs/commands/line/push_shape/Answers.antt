@@ -1,7 +1,5 @@
-use Rattle.std.proofs.Common.{rules}
-use Rattle.std.proofs.Common.{◌++◌, ◌∷◌, [], decimal, take, ap, ◌∙◌, append_assoc}
-use Rattle.zfpi.specs.Words.{shape_word}
-use Rattle.zfpi.proofs.ShapeWords.{shape_word_more}
+use Rattle.std.proofs.Common.{rules, ◌++◌, ◌∷◌, [], decimal, take, ap, ◌∙◌, append_assoc}
+use Rattle.zfpi.{specs.Words.{shape_word}, proofs.ShapeWords.{shape_word_more}}
 use Rattle.zfpi.proofs.commands.line.push_shape.Goals as goal
 
 pub loop-axis-preserved : goal.loop-axis-preserved

@@ -1,5 +1,4 @@
-use Rattle.std.proofs.Common.{arith}
-use Rattle.std.proofs.lemmas.Grind.{common_steps}
+use Rattle.std.{proofs.Common.{arith}, proofs.lemmas.Grind.{common_steps}}
 use Rattle.zfpi.proofs.commands.new.file_from.Goals as goal
 
 pub returns : goal.returns

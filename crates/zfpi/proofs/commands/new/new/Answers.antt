@@ -1,8 +1,6 @@
-use Rattle.std.proofs.Common.{rules}
-use Rattle.std.proofs.Common.{refl, ◌∙◌}
+use Rattle.std.proofs.Common.{rules, refl, ◌∙◌}
 use Rattle.zfpi.specs.declared.status.Status.TheVariants.{LoadFault, SaveFault, Memory}
-use Rattle.zfpi.proofs.Statuses.{differ}
-use Rattle.zfpi.proofs.Making.{Behaves-saved, Behaves-unsaved, Behaves-starved}
+use Rattle.zfpi.{proofs.Statuses.{differ}, proofs.Making.{Behaves-saved, Behaves-unsaved, Behaves-starved}}
 use Rattle.zfpi.proofs.commands.new.new.Goals as goal
 
 pub returns-in-Ok-save-clause-behaves : goal.returns-in-Ok-save-clause-behaves

@@ -1,9 +1,7 @@
 use Rattle.std.proofs.Common.{Err, ap, sym, refl, subst}
-use Rattle.zf_parse.specs.Parsing.{restore_answer, restored_text}
-use Rattle.zf_parse.specs.ReadStreams.{HasGoodHeader}
-use Rattle.zfpi.specs.declared.command.Command.TheVariants.{Restore}
+use Rattle.zf_parse.{specs.Parsing.{restore_answer, restored_text}, specs.ReadStreams.{HasGoodHeader}}
+use Rattle.zfpi.{specs.declared.command.Command.TheVariants.{Restore}, specs.Faults.{status_of, fault_status}}
 use Rattle.zfpi.specs.declared.status.Status.TheVariants.{Done}
-use Rattle.zfpi.specs.Faults.{status_of, fault_status}
 use Rattle.zfpi.proofs.Streaming.{IsStreaming-restore, Streams-begun, Behaves-done, Behaves-fault, restore_prefix, nothing_written, one_stream, one_stream-good, read_named, write_named}
 use Rattle.zfpi.proofs.commands.restore.restore_begun.Goals as goal
 

@@ -1,5 +1,4 @@
-use Rattle.std.proofs.Common.{rules}
-use Rattle.std.proofs.Common.{sym, ◌∙◌}
+use Rattle.std.proofs.Common.{rules, sym, ◌∙◌}
 use Rattle.zfpi.specs.declared.status.Status.TheVariants.{Header, NotRate}
 use Rattle.zfpi.proofs.Rungs.{IsRefused-header, IsRefused-mode, WorksOn-refused}
 use Rattle.zfpi.proofs.commands.script.on_file.Goals as goal

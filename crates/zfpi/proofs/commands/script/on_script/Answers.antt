@@ -1,8 +1,6 @@
 use Rattle.std.proofs.Common.{refl}
-use Rattle.zfpi.specs.declared.status.Status.TheVariants.{Done, Lines}
-use Rattle.zfpi.specs.Subjects.{subject, filed_now}
-use Rattle.zfpi.proofs.Scripting.{lines_status-some}
-use Rattle.zfpi.proofs.Rungs.{Answers-closed, Answers-cut}
+use Rattle.zfpi.{specs.declared.status.Status.TheVariants.{Done, Lines}, specs.Subjects.{subject, filed_now}}
+use Rattle.zfpi.{proofs.Scripting.{lines_status-some}, proofs.Rungs.{Answers-closed, Answers-cut}}
 use Rattle.zfpi.proofs.commands.script.on_script.Goals as goal
 
 pub returns-in-Done : goal.returns-in-Done

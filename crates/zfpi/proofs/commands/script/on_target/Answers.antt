@@ -1,7 +1,6 @@
 use Rattle.std.proofs.Common.{◌≤◌, length, Err, ap, sym, subst}
 use Rattle.zf_dev.specs.Source.{Takes}
-use Rattle.zfpi.specs.Subjects.{subject}
-use Rattle.zfpi.proofs.Rungs.{WorksOn-taken, WorksOn-untaken}
+use Rattle.zfpi.{specs.Subjects.{subject}, proofs.Rungs.{WorksOn-taken, WorksOn-untaken}}
 use Rattle.zfpi.proofs.commands.script.on_target.Goals as goal
 
 pub returns-in-Ok : goal.returns-in-Ok

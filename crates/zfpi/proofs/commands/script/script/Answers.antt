@@ -1,11 +1,7 @@
-use Rattle.std.proofs.Common.{rules}
-use Rattle.std.proofs.Common.{ap, Err}
-use Rattle.zfpi.specs.Accesses.{command_on, reading_of}
-use Rattle.zfpi.proofs.Causes.{HasCauses-unloaded}
-use Rattle.zfpi.proofs.Stopping.{StopsAtEnd-same}
-use Rattle.zfpi.proofs.Stepping.{Steps-unloaded}
-use Rattle.zfpi.proofs.Loading.{Behaves-unloaded}
-use Rattle.zfpi.proofs.Scripting.{IsScripted-on, loads-on}
+use Rattle.std.proofs.Common.{rules, ap, Err}
+use Rattle.zfpi.{specs.Accesses.{command_on, reading_of}, proofs.Causes.{HasCauses-unloaded}}
+use Rattle.zfpi.{proofs.Stopping.{StopsAtEnd-same}, proofs.Stepping.{Steps-unloaded}}
+use Rattle.zfpi.{proofs.Loading.{Behaves-unloaded}, proofs.Scripting.{IsScripted-on, loads-on}}
 use Rattle.zfpi.proofs.HandedOn.{unloaded_status}
 use Rattle.zfpi.proofs.commands.script.script.Goals as goal
 

@@ -1,5 +1,4 @@
-use Rattle.std.proofs.Common.{arith}
-use Rattle.std.proofs.lemmas.Grind.{common_steps}
+use Rattle.std.{proofs.Common.{arith}, proofs.lemmas.Grind.{common_steps}}
 use Rattle.zfpi.proofs.commands.twoway.save_store.Goals as goal
 
 pub returns-clause-closes : goal.returns-clause-closes

@@ -1,7 +1,5 @@
-use Rattle.std.proofs.Common.{rules}
-use Rattle.std.proofs.Common.{◌≡◌, ◌++◌, ◌∷◌, [], None, ap, sym, subst, ◌∙◌}
-use Rattle.zfpi.specs.Stages.{script_word, LeadsTo}
-use Rattle.zfpi.proofs.Completed.{IsSpelled-script}
+use Rattle.std.proofs.Common.{rules, ◌≡◌, ◌++◌, ◌∷◌, [], None, ap, sym, subst, ◌∙◌}
+use Rattle.zfpi.{specs.Stages.{script_word, LeadsTo}, proofs.Completed.{IsSpelled-script}}
 use Rattle.zfpi.proofs.CommandWords.{IsRateWord-begun, IsRateWord-begun_new}
 use Rattle.zfpi.proofs.words.Stage.next.Goals as goal
 

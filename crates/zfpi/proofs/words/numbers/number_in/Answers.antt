@@ -1,6 +1,4 @@
-use Rattle.std.proofs.Common.{rules}
-use Rattle.std.proofs.Common.{◌≢◌, get_or, lit<}
-use Rattle.std.proofs.lemmas.Str.Pattern.{starts_char}
+use Rattle.std.{proofs.Common.{rules, ◌≢◌, get_or, lit<}, proofs.lemmas.Str.Pattern.{starts_char}}
 use Rattle.zfpi.proofs.Decimals.{decimal_no_plus, decimal_no_zero, parsed_some, parsed_none, zero_alone}
 use Rattle.zfpi.proofs.words.numbers.number_in.Goals as goal
 

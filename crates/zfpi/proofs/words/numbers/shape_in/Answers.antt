@@ -1,10 +1,8 @@
-use Rattle.std.proofs.Common.{rules}
-use Rattle.std.proofs.Common.{◌≡◌, ◌<◌, ◌^◌, ◌↔◌, ◌∷◌, [], get_or, take, map, IsOk, IfOk, ap, sym, subst, ◌∙◌, arith, length-append, length-set, decimal}
+use Rattle.std.proofs.Common.{rules, ◌≡◌, ◌<◌, ◌^◌, ◌↔◌, ◌∷◌, [], get_or, take, map, IsOk, IfOk, ap, sym, subst, ◌∙◌, arith, length-append, length-set, decimal}
 use Rattle.std.proofs.lemmas.Iterator.Consumers.{YieldsList-turn, YieldsList-end}
-use Rattle.zf_spec.specs.Grid.{IsShape}
+use Rattle.zf_spec.{specs.Grid.{IsShape}, proofs.Counting.{four_elements}}
 use Rattle.zfpi.proofs.ShapeWords.{parts_of, YieldsList-parts, four_parts, some_part, part_is_number, sizes_more, texts_more, shape_some, shape_none}
 use Rattle.zfpi.proofs.words.numbers.shape_in.Goals as goal
-use Rattle.zf_spec.proofs.Counting.{four_elements}
 
 pub returns-then-dims-eq4-clause-none : goal.returns-then-dims-eq4-clause-none
 returns-then-dims-eq4-clause-none c =

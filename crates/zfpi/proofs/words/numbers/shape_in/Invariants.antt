@@ -1,5 +1,4 @@
-use Rattle.std.proofs.Common.{◌≡◌, ◌<◌, ◌≤◌, ◌^◌, length, map, take, decimal}
-use Rattle.std.specs.List.{AllByRecursion}
+use Rattle.std.{proofs.Common.{◌≡◌, ◌<◌, ◌≤◌, ◌^◌, length, map, take, decimal}, specs.List.{AllByRecursion}}
 use Rattle.zfpi.proofs.words.numbers.shape_in.Given as goal
 
 -- the parts so far are the texts of the sizes so far

@@ -1,5 +1,4 @@
-use Rattle.std.proofs.lemmas.Grind.{common_steps}
-use Rattle.std.proofs.Common.{refl, arith}
+use Rattle.std.{proofs.lemmas.Grind.{common_steps}, proofs.Common.{refl, arith}}
 use Rattle.zf_array.specs.Standing.{stored, state}
 use Rattle.zf_run.specs.Pairs.{pair_state}
 use Rattle.zfpi.specs.declared.command.Caching.TheVariants.{Direct, TwoWay}
