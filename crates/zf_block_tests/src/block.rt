@@ -112,13 +112,12 @@ fn read<T: Lane>(d: u8, code: &Code, bits: &BitWriter, s: &mut Scratch<T>, block
     found && reader.left() == 0
 }
 
-/// Writes a block and reads it again, as `both_ways` says.
+/// Writes a block and reads it again, as `both_ways` says. `known` is the length and the digest of its code.
 fn there_and_back<T: Lane>(
     d: u8,
     e: &Extent,
     code: &Code,
-    len: u64,
-    sum: u64,
+    known: (u64, u64),
     block: &mut [T],
     s: &mut Scratch<T>,
     out: &mut BitWriter,
@@ -130,7 +129,7 @@ fn there_and_back<T: Lane>(
 {
     write(d, e, code, block, s, out)?;
     clear(block);
-    Ok(read(d, code, out, s, block) && out.len() == len && digest(out.words()) == sum)
+    Ok(read(d, code, out, s, block) && out.len() == known.0 && digest(out.words()) == known.1)
 }
 
 /// Writes a block of which this part exists, and reads it again. The answer is whether the code has this
@@ -150,7 +149,7 @@ fn both_ways<T: Lane>(
 {
     let mut s = Scratch::new(alloc, d)?;
     let mut out = BitWriter::new(alloc);
-    let same = there_and_back(d, e, code, len, sum, block, &mut s, &mut out);
+    let same = there_and_back(d, e, code, (len, sum), block, &mut s, &mut out);
     drop(out);
     drop(s);
     same
