@@ -1,20 +1,18 @@
 -- How a run over an array ends.
-use Rattle.std.proofs.Common.{rules, ◌≡◌, refl, sym, ap, subst, ◌∙◌, ℕ, Bool, List, Option, ℤ, None}
+use Rattle.std.proofs.Common.{rules, ◌≡◌, ℕ, Bool, List, Option, ℤ, None}
 use Rattle.std.specs.Int.{Width}
-use Rattle.zf_base.specs.declared.lane.Ty.{Ty}
-use Rattle.zf_header.{specs.declared.header.Mode.{Mode}, specs.HeaderBits.{block_bits}}
 use Rattle.zf_cached.{specs.Windows.{Window, whole}, specs.Commands.{Command}}
 use Rattle.zf_cached.specs.Steps.{Setting, Session, flushed_views, joined, done}
-use Rattle.zf_cached.specs.Runs.{array_setting, run_lines, lines_of, run_script, ended, run, look}
+use Rattle.zf_cached.specs.Runs.{run_script, ended, run, look}
 use Rattle.zf_array.specs.Standing.{Held, shape, state}
 use Rattle.zf_run.{specs.declared.end.RunEnd.{RunEnd}, specs.declared.end.RunEnd.TheVariants.{Write}}
 use Rattle.zf_run.specs.Pairs.{pair_state, PairFits, two_setting_of}
-use Rattle.zf_run.specs.Sessions.{setting_of, session_of, kind, look_setting_of, look_start_of, stream_of}
-use Rattle.zf_run.specs.Ends.{RunsTwo, FinishesTwo, two_start_of, Finishes, IsEnd, end_of, Runs, FinishesLook, Looks}
+use Rattle.zf_run.specs.Sessions.{setting_of, session_of, kind, look_setting_of, stream_of}
+use Rattle.zf_run.specs.Ends.{RunsTwo, IsEnd, end_of, Runs, Looks}
 use Rattle.zf_const.specs.Standing as read
 use Rattle.zf_cache.specs.Kept.{Kept}
 use Rattle.zf_store.specs.Stored.{Stored}
-use Rattle.zf_commands.{specs.Sittings.{session}, specs.Runs.{RunsAll, AllRun, HasStopped}}
+use Rattle.zf_commands.{specs.Sittings.{session}, specs.Runs.{AllRun, HasStopped}}
 
 -- an end says that all lines were run
 pub ends_all : (all : ℕ → Type 0) (stopped : Type 0) (n : ℕ) (end : RunEnd) → end ≡ end_of n → all n → IsEnd all stopped end
@@ -24,18 +22,9 @@ ends_all all stopped n end is h = search rules
 
 module _ (w : Width) (a mid : Held) (s : Session (List Bool)) (v : Window) (script : List ℕ) (old new : Option (List ℕ)) (from : v ≡ whole (shape a)) (kept : kind mid ≡ kind a) where
   module _ (b : Held) (u : Window) (n : ℕ) (all : AllRun (setting_of w a) script (session_of a v) s old new n) (ends : ended (setting_of w mid) s ≡ session_of b u) (still : kind b ≡ kind mid) where
-    ran : RunsAll (setting_of w a) all.0 script (session_of a (whole (shape a))) s old new n
-    ran = subst (λ x. RunsAll (setting_of w a) all.0 script (session_of a x) s old new n) from all.1
-
-    at_end : session_of b u ≡ ended (setting_of w a) (run_lines (setting_of w a) all.0 0 (lines_of script) (session_of a (whole (shape a)))).0
-    at_end = sym ends ∙ ap (λ (k : Ty × Mode). ended (array_setting w (block_bits k.1)) s) kept ∙ ap (ended (setting_of w a)) ran.session
-
-    finished : Finishes w a b script all.0 old new n
-    unfolding run run_script
-    finished = search (rules, at_end)
-
     pub runs_all : (end : RunEnd) → end ≡ end_of n → Runs w a b script old new end
-    runs_all end is = search (rules, ends_all, finished)
+    unfolding run run_script
+    runs_all end is = search (rules, ends_all)
 
   -- a line was the last one: the array is as it is then, and views, if there are some, are dropped
   pub runs_stopped : HasStopped (setting_of w a) script (session_of a v) s old new → s.shape ≡ shape mid → s.state ≡ state mid → Runs w a mid script old new Write
@@ -45,15 +34,9 @@ module _ (w : Width) (a mid : Held) (s : Session (List Bool)) (v : Window) (scri
 
 module _ (w : Width) (a b : read.Held) (v u : Window) (script : List ℕ) (old new : Option (List ℕ)) (from : v ≡ whole (read.shape a)) (kept : stream_of b ≡ stream_of a) where
   module _ (n : ℕ) (all : AllRun (look_setting_of w a.header) script (session (read.shape a) (read.state a) v) (session (read.shape b) (read.state b) u) old new n) where
-    looked : RunsAll (look_setting_of w a.header) all.0 script (look_start_of a) (session (read.shape b) (read.state b) u) old new n
-    looked = subst (λ x. RunsAll (look_setting_of w a.header) all.0 script (session (read.shape a) (read.state a) x) (session (read.shape b) (read.state b) u) old new n) from all.1
-
-    completed : FinishesLook w a b script all.0 old new n
-    unfolding look run_script
-    completed = search rules
-
     pub looks_all : (end : RunEnd) → end ≡ end_of n → Looks w a b script old new end
-    looks_all end is = search (rules, ends_all, completed)
+    unfolding look run_script
+    looks_all end is = search (rules, ends_all)
 
   pub looks_stopped : HasStopped (look_setting_of w a.header) script (session (read.shape a) (read.state a) v) (session (read.shape b) (read.state b) u) old new → Looks w a b script old new Write
   looks_stopped stopped = search rules
@@ -69,19 +52,9 @@ module _ {X : Type 0} (value : X → ℤ) (w : Width) (s mid t : Stored) (c e d 
 
   module _ (n : ℕ) (all : AllRun S script (session s.header.shape (pair_state value s c) v) final old new n)
       (flushes : done (two_setting_of w mid.header) final Command.flush ≡ (session t.header.shape (pair_state value t d) z, None)) (head : t.header ≡ mid.header) (fits : PairFits value t d) where
-    at_two_end : (run S all.0 s.header.shape (pair_state value s c) script).0 ≡ session t.header.shape (pair_state value t d) z
-    unfolding run run_script ended joined flushed_views done
-    at_two_end = search rules
-
-    same_replies : (run S all.0 s.header.shape (pair_state value s c) script).1 ≡ (run_lines S all.0 0 (lines_of script) (two_start_of value w s t c d script all.0 old new)).1
-    unfolding run run_script
-    same_replies = refl
-
-    finished_two : FinishesTwo value w s t c d script all.0 old new n
-    finished_two = search (rules, at_two_end, same_replies)
-
     pub two_all : (end : RunEnd) → end ≡ end_of n → RunsTwo value w s t c d script old new end
-    two_all end is = search (rules, ends_all, finished_two)
+    unfolding run run_script ended joined flushed_views done
+    two_all end is = search (rules, ends_all)
 
   pub two_stopped : HasStopped S script (session s.header.shape (pair_state value s c) v) final old new → PairFits value mid e → RunsTwo value w s mid c e script old new Write
   two_stopped stopped fits = search rules

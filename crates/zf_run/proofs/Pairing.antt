@@ -1,24 +1,24 @@
 -- A store and a two-way cache after a call, as a session.
-use Rattle.std.proofs.Common.{rules, ◌≡◌, sym, ap, subst, ◌∙◌, ℕ, ◌^◌, ◌<◌, ℤ, pos, ◌+ℤ◌, Bool, true, false, List, map, length, get_or, set, replicate, None, [], Result, Ok, Err, ext_get_or, arith}
-use Rattle.std.{specs.Int.{Width}, specs.Result.{OnOk, OnErr}}
+use Rattle.std.proofs.Common.{rules, ◌≡◌, sym, ap, subst, ◌∙◌, ℕ, ◌^◌, ◌<◌, ℤ, pos, ◌+ℤ◌, Bool, true, false, List, map, length, get_or, set, replicate, None, ext_get_or}
+use Rattle.std.specs.Int.{Width}
 use Rattle.std.proofs.lemmas.List.{length-set, length-map, length-replicate, map-set, get_or-map}
 use Rattle.zf_spec.{specs.Numbers.{wrap}, specs.Grid.{blocks}}
 use Rattle.zf_base.{specs.Widths.{width_of}, specs.Places.{block_number, place_of, IsAt}}
 use Rattle.zf_base.{specs.Positions.{used_axes}, specs.declared.position.Pos.{Pos}, proofs.Sizes.{blocks_le}}
-use Rattle.zf_base.specs.Formats.{Format, existing_of, meant}
+use Rattle.zf_base.specs.Formats.{Format, existing_of}
 use Rattle.zf_base.proofs.Formats as formats
 use Rattle.zf_header.{specs.declared.header.Header.{Header}, specs.HeaderBits.{block_bits}}
-use Rattle.zf_cached.{specs.State.{State, is_block}, specs.Touch.{soiled, with_values, touch_for_writing_at}}
+use Rattle.zf_cached.{specs.State.{State}, specs.Touch.{soiled, with_values, touch_for_writing_at}}
 use Rattle.zf_cached.{specs.Changes.{flush, discard, raised, relined}, specs.Windows.{Window}}
 use Rattle.zf_cached.{specs.Arrays.{rate_coding, array_format}, specs.Commands.{Command}}
 use Rattle.zf_cached.specs.Steps.{Setting, Session, format_of as format_in, touched, changed, done}
 use Rattle.zf_cached.proofs.Caching.{touch-left}
 use Rattle.zf_lines.{specs.Rows.{over}, proofs.Sizes.{over_same}}
-use Rattle.zf_cache.{specs.Kept.{Kept, HasBlocks, tag_at, block_in, line_by}, specs.Standing.{state_at}}
+use Rattle.zf_cache.{specs.Kept.{Kept, HasBlocks}, specs.Standing.{state_at}}
 use Rattle.zf_cache.{specs.Steps.{with_value, put_at}, proofs.Sound.{existing_of-set}}
 use Rattle.zf_store.specs.Stored.{Stored, Frame, IsStore, frame_of, rate_of, format_of, code_at}
 use Rattle.zf_store.proofs.Kept.{blocks_is, block_len_is}
-use Rattle.zf_twoway.{specs.Touch.{touch, touch_for_writing, put}, specs.Placing.{skewed, two_lines}}
+use Rattle.zf_twoway.{specs.Touch.{touch, touch_for_writing, put}, specs.Placing.{two_lines}}
 use Rattle.zf_twoway.{specs.Standing.{state_of}, specs.Runs.{twoway_setting}}
 use Rattle.zf_commands.{specs.Sittings.{session}, proofs.Passing.{map-replicate}}
 use Rattle.zf_run.{specs.Pairs.{pair_state, two_setting_of}, proofs.Sessions.{with_names}}
@@ -102,12 +102,7 @@ module _ {X Code : Type 0} (value : X → ℤ) (f : Format Code) (c : Kept X) (k
   -- a block has values at the places that exist alone
   whole_now : existing_of f b ((state_of value c f k).values b) ≡ (state_of value c f k).values b
   unfolding state_at
-  whole_now = by (is_block (block_in (tag_at c.tags (line_by skewed c b))) b)
-    where
-      by : (t : Bool) → existing_of f b (elim t [ true ↦ existing_of f b (map value (get_or c.lines (line_by skewed c b) [])) | false ↦ meant f b (k b) ])
-          ≡ elim t [ true ↦ existing_of f b (map value (get_or c.lines (line_by skewed c b) [])) | false ↦ meant f b (k b) ]
-      by true = formats.existing_of-existing_of f b (map value (get_or c.lines (line_by skewed c b) []))
-      by false = formats.existing_of-meant f b (k b)
+  whole_now = search (rules, formats.existing_of-existing_of, formats.existing_of-meant)
 
   abbrev written : State Code
   written = touch_for_writing f (state_of value c f k) b
@@ -127,36 +122,17 @@ module _ {X Code : Type 0} (value : X → ℤ) (f : Format Code) (c : Kept X) (k
       → with_values written b (existing_of f b (map value (over row (set row p y)))) ≡ with_values written b (set (written.values b) p (wrap w (get_or (written.values b) p (pos 0) +ℤ value x)))
   unfolding touch_for_writing_at soiled
   increase_two row p r y x w exists long below held read sum =
-      let vs = (touch f (state_of value c f k) b).values b in
-      let inside : p < length row = omega (arith, long, below) in
-      let found : value r ≡ get_or vs p (pos 0) =
-      ap value read ∙ sym (get_or-map value row p r (pos 0) inside) ∙ sym (formats.get_or-existing_of_exists f b (map value row) p below exists) ∙ ap (λ xs. get_or xs p (pos 0)) held in
-      ap (with_values written b)
-      (ap (λ xs. existing_of f b (map value xs)) (over_same row (set row p y) (length-set row p y))
-      ∙ ap (existing_of f b) (map-set value row p y)
-      ∙ existing_of-set f b (map value row) p (value y) (length-map row value ∙ long) below
-      ∙ ap (λ xs. existing_of f b (set xs p (value y))) held
-      ∙ formats.existing_of-set f b vs p (value y) exists whole_written
-      ∙ ap (set vs p) (sum ∙ ap (λ z. wrap w (z +ℤ value x)) found))
+      search (rules, over_same, length-set, map-set, existing_of-set, length-map, formats.existing_of-set, whole_written, formats.get_or-existing_of_exists, get_or-map)
 
 -- a line that was filled
 pub filled_two : {X : Type 0} (value : X → ℤ) (row ws : List X) (v : X) (n : ℕ) → ws ≡ replicate (length row) v → length row ≡ n → map value (over row ws) ≡ replicate n (value v)
-filled_two value row ws v n is long =
-    ap (map value) (over_same row ws (ap length is ∙ length-replicate (length row) v) ∙ is) ∙ map-replicate value (length row) v ∙ ap (λ m. replicate m (value v)) long
+filled_two value row ws v n is long = search (rules, over_same, length-replicate, map-replicate)
 
 -- ---- answers
 
 -- a store with the same header, and two references that are the same
 pub same_pair : {N : Type 0} (m n : N) (s t : Stored) → t.header ≡ s.header → with_names m n t.header ≡ with_names m n s.header
 same_pair m n s t head = ap (with_names m n) head
-
-pub on_ok : {A B : Type 0} (r : Result A B) {P Q : Type 0} → (P → Q) → OnOk r P → OnOk r Q
-on_ok (Ok a) f h = f h
-on_ok (Err e) f h = h
-
-pub on_err : {A B : Type 0} (r : Result A B) {P Q : Type 0} → (P → Q) → OnErr r P → OnErr r Q
-on_err (Ok a) f h = h
-on_err (Err e) f h = f h
 
 -- a store with the same header and the same codes
 pub same_store : (s t : Stored) → frame_of t ≡ frame_of s → ((b : ℕ) → code_at t b ≡ code_at s b) → t ≡ s

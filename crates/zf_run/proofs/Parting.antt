@@ -29,12 +29,8 @@ unfolding flushed_views by_view with_view
 flushed_window setting s zero lies = lies
 flushed_window setting s (suc n) lies = flushed_window setting s n lies
 
-joined_window : {Code : Type 0} (setting : Setting Code) (s : Session Code) → HasWindow s → HasWindow (joined setting s)
-unfolding joined
-joined_window setting s lies = flushed_window setting s (length (views_of s)) lies
-
 pub has_joined : {Code : Type 0} (setting : Setting Code) (s t : Session Code) → HasWindow s → is_split s ≡ true → joined setting s ≡ t → Does setting Command.join s t None
-unfolding done
+unfolding done joined
 has_joined setting s t lies split joins =
     accepted setting Command.join s lies (ap (λ p. elim p as (λ x. Bool) [ true ↦ false | false ↦ true ]) split) refl refl refl t None refl
-    (ap (λ x. (x, None)) joins) (subst HasWindow joins (joined_window setting s lies))
+    (ap (λ x. (x, None)) joins) (subst HasWindow joins (flushed_window setting s (length (views_of s)) lies))

@@ -1,8 +1,7 @@
 -- Shapes that an array may be resized to, and the array of another shape.
-use Rattle.std.proofs.Common.{rules, ◌≡◌, refl, sym, ap, subst, ◌∙◌, ℕ, ◌+◌, ◌*◌, ◌<◌, ◌≤◌, Bool, true, false, not, ◌&&◌, eq-eqb, ne_eqb, List, length, replicate, None, is_none, arith}
+use Rattle.std.proofs.Common.{rules, ◌≡◌, refl, sym, ap, subst, ◌∙◌, ℕ, ◌<◌, ◌≤◌, true, false, not, ◌&&◌, eq-eqb, ne_eqb, List, length, replicate, None, is_none, arith}
 use Rattle.std.{proofs.Math.Bool.{and-false}, proofs.lemmas.Bool.{and_from, le-leb, lt-leb}}
-use Rattle.std.specs.Int.{Width, div_ceil}
-use Rattle.zf_spec.{specs.Grid.{blocks}, specs.Stream.{header, fixed_rate}}
+use Rattle.std.specs.Int.{Width}
 use Rattle.zf_base.{specs.Widths.{width_of}, specs.Shapes.{shape_fault}, specs.declared.lane.Ty.{Ty}}
 use Rattle.zf_header.{specs.declared.header.Header.{Header}, specs.declared.header.Mode.TheVariants.{Rate}}
 use Rattle.zf_header.specs.HeaderBits.{header_bits, rate_bytes_of, block_bits}
@@ -25,13 +24,10 @@ module _ {Code : Type 0} (setting : Setting Code) (s : Session Code) (ns : List 
   is_new many good room = search (rules, and_from, eq-eqb)
 
 -- the file of an array is as long as its header says
-pub file_is : (w : Width) (ty : Ty) (ns : List ℕ) (b : ℕ) → w ≡ width_of ty → rate_bytes_of (record { ty = ty; shape = ns; mode = Rate b }) ≡ file_bytes w b ns
-unfolding file_bytes header_bits
-file_is w ty ns b same = ap (λ u. 8 * div_ceil (length (header u ns (fixed_rate b)) + blocks ns * b) 64) (sym same)
-
 module _ (w : Width) (a : Held) (ty : Ty) (ms ns : List ℕ) (b : ℕ) (same : ms ≡ ns) (of_type : w ≡ width_of ty) (rate : b ≡ block_bits a.header.mode) where
   bytes : rate_bytes_of (record { ty = ty; shape = ms; mode = Rate b }) ≡ file_bytes w (block_bits a.header.mode) ns
-  bytes = file_is w ty ms b of_type ∙ (λ i. file_bytes w (rate i) (same i))
+  unfolding file_bytes header_bits
+  bytes = search rules
 
   pub has_room_is : rate_bytes_of (record { ty = ty; shape = ms; mode = Rate b }) ≤ 1200000000 → (setting_of w a).has_room ns ≡ true
   unfolding array_setting
@@ -54,8 +50,6 @@ module _ (w : Width) (a : Held) (dim : ℕ) (is : IsArray w dim a) (v : Window) 
       let sizes : ns ≡ b.header.shape = sym same ∙ sym (ap (λ (h : Header). h.shape) head) in
       let there : resized (array_format (rate_coding w (block_bits a.header.mode)) ns) zero (state a) ≡ state b = ap (λ f. resized f zero (state a)) coded ∙ sym now in
       let view : whole ns ≡ u = ap whole (sym same) ∙ sym whole_is in
-      let end : record { shape = ns; state = resized (array_format (rate_coding w (block_bits a.header.mode)) ns) zero (state a); window = whole ns; split = None } ≡ session_of b u =
-      λ i. record { shape = sizes i; state = there i; window = view i; split = None } in
       accepted (setting_of w a) (Command.resize ns) (session_of a v) lies refl (ap not new) refl refl (session_of b u) None refl
-      (ap (λ (t : Session (List Bool)). (t, None)) end)
+      (λ i. (record { shape = sizes i; state = there i; window = view i; split = None }, None))
       (subst (λ ks. LiesIn ks u) (sym (ap (λ (h : Header). h.shape) head)) inside)

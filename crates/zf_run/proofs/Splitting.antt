@@ -1,16 +1,16 @@
 -- An array that is split into views, and the end of a split.
-use Rattle.std.proofs.Common.{rules, ◌≡◌, refl, sym, ap, subst, ◌∙◌, ◌⊎◌, inl, inr, ℕ, zero, suc, ◌+◌, ◌^◌, ◌<◌, ◌≤◌, ℤ, Bool, true, not, List, [], ◌∷◌, ◌++◌, map, length, length-append, get_or, Some, None, arith}
+use Rattle.std.proofs.Common.{rules, ◌≡◌, refl, sym, ap, subst, ◌∙◌, ◌⊎◌, inl, inr, ℕ, zero, suc, ◌+◌, ◌<◌, ◌≤◌, ℤ, Bool, true, not, List, [], ◌∷◌, ◌++◌, length, length-append, get_or, Some, None, arith}
 use Rattle.std.{specs.Int.{Width}, proofs.Math.Path.{fun_ext}}
 use Rattle.std.proofs.lemmas.Bool.{and_from, ne_eqb, cases_lt}
-use Rattle.std.proofs.lemmas.List.{length-map, length-replicate, ext_get_or, get_or_append_left, get_or_push}
-use Rattle.zf_spec.specs.Grid.{upto, blocks, is_inside, indices, extent_of}
-use Rattle.zf_spec.proofs.Counting.{get_or-map-upto, length-upto}
+use Rattle.std.proofs.lemmas.List.{length-map, length-replicate, get_or_append_left, get_or_push}
+use Rattle.zf_spec.specs.Grid.{blocks}
+use Rattle.zf_spec.proofs.Counting.{from_places}
 use Rattle.zf_base.{specs.Widths.{width_of}, specs.Formats.{Format}, specs.declared.lane.Ty.{Ty}}
 use Rattle.zf_header.{specs.declared.header.Header.{Header}, specs.declared.header.Mode.{Mode}}
 use Rattle.zf_header.specs.HeaderBits.{block_bits}
 use Rattle.zf_cached.{specs.State.{State, no_counts}, specs.Changes.{flush, opened, raised}, specs.Acts.{Act}}
-use Rattle.zf_cached.{specs.Arrays.{rate_coding, array_format}, specs.Windows.{Window}, specs.Views.{View}}
-use Rattle.zf_cached.{specs.Commands.{Command}, specs.Ownership.{first_of, count_of}}
+use Rattle.zf_cached.{specs.Arrays.{rate_coding, array_format}, specs.Windows.{Window}}
+use Rattle.zf_cached.{specs.Commands.{Command}}
 use Rattle.zf_cached.specs.Splits.{is_view_count, is_owner, opened_view, opened_views, no_view}
 use Rattle.zf_cached.specs.Steps.{Setting, Session, format_of, by_view, split_into, flushed_views, joined, is_line_count, done}
 use Rattle.zf_cached.{specs.Runs.{array_setting, ended}, proofs.States.{same_state}}
@@ -31,9 +31,9 @@ item_at (y ∷ ys) (suc i) lt = item_at ys i (omega arith)
 
 -- ---- views as they are made
 
-pub one_made : {X : Type 0} (d : ℕ) (ns : List ℕ) (n lines k : ℕ) (views : List (private.Held X)) (x : private.Held X) → AreNewParts d ns n lines k views → IsNewPart d ns n lines k x
-    → AreNewParts d ns n lines (k + 1) (views ++ x ∷ [])
-one_made {X} d ns n lines k views x made new = record { many = many; each = λ i v lt at. by i v at lt (cases_lt i k) }
+pub one_made : {X : Type 0} (d : ℕ) (ns : List ℕ) (n lines k : ℕ) (views more : List (private.Held X)) (x : private.Held X) → AreNewParts d ns n lines k views → IsNewPart d ns n lines k x
+    → more ≡ views ++ x ∷ [] → AreNewParts d ns n lines (k + 1) more
+one_made {X} d ns n lines k views more x made new is = subst (AreNewParts d ns n lines (k + 1)) (sym is) (record { many = many; each = λ i v lt at. by i v at lt (cases_lt i k) })
   where
     many : length (views ++ x ∷ []) ≡ k + 1
     many = length-append views (x ∷ []) ∙ ap (λ m. m + 1) made.many
@@ -60,15 +60,9 @@ module _ {X : Type 0} (value : X → ℤ) where
     pub new_views : (views : List (private.Held X)) → AreNewParts d (shape a) n lines n views → views_seen value a views ≡ opened_views (format a) (state a).codes lines n
     unfolding opened_views array_format
     new_views views new =
-        let made : ℕ → View = λ i. opened_view (format a) (state a).codes lines (is_owner (blocks (shape a)) n i) in
-        let long : length (views_seen value a views) ≡ length (map made (upto n)) = length-map views (view_of value a) ∙ new.many ∙ sym (length-map (upto n) made ∙ length-upto n) in
-        ext_get_or no_view (views_seen value a views) (map made (upto n)) long (λ i below. at_place i (subst (λ m. i < m) (length-map views (view_of value a)) below))
-      where
-        at_place : (i : ℕ) → i < length views → get_or (views_seen value a views) i no_view ≡ get_or (map (λ k. opened_view (format a) (state a).codes lines (is_owner (blocks (shape a)) n k)) (upto n)) i no_view
-        at_place i lt =
-            let v = item_at views i lt in
-            let made : ℕ → View = λ k. opened_view (format a) (state a).codes lines (is_owner (blocks (shape a)) n k) in
-            seen_at value a views i v.0 lt v.1 ∙ new_view i v.0 (new.each i v.0 lt v.1) ∙ sym (get_or-map-upto made n i no_view (omega (arith, lt, new.many)))
+        sym (from_places (λ i. opened_view (format a) (state a).codes lines (is_owner (blocks (shape a)) n i)) n no_view (views_seen value a views) (length-map views (view_of value a) ∙ new.many)
+        (λ i below. let lt : i < length views = omega (arith, below, new.many) in let v = item_at views i lt in
+        seen_at value a views i v.0 lt v.1 ∙ new_view i v.0 (new.each i v.0 lt v.1)))
 
   -- ---- a split
 
@@ -93,15 +87,11 @@ module _ {X : Type 0} (value : X → ℤ) where
         ∙ (λ i. made (sym formats i) (sym flushes i) lines)
         ∙ (λ i. record { shape = sym same_shape i; state = state b; window = u; split = Some (sym there i) })
 
-    stays : (u : Window) → HasWindow (session_of a u) → HasWindow (split_into S (session_of a u) n (raised l))
-    unfolding split_into
-    stays u lies = lies
-
     pub has_split : (u : Window) → HasWindow (session_of a u) → Does S (Command.split n l) (session_of a u) (split_session value b views u) None
-    unfolding done array_format
+    unfolding done array_format split_into
     has_split u lies =
         accepted S (Command.split n l) (session_of a u) lies refl (ap not (and_from (is_view_count (blocks (shape a)) n) (is_line_count l) number counts)) refl refl (split_session value b views u) None refl
-        (ap (λ (s : Session (List Bool)). (s, None)) (splits u)) (subst HasWindow (splits u) (stays u lies))
+        (ap (λ (s : Session (List Bool)). (s, None)) (splits u)) (subst HasWindow (splits u) lies)
 
     pub are_parts : AreParts value d b views
     unfolding array_format
@@ -114,17 +104,7 @@ module _ {X : Type 0} (value : X → ℤ) where
         part : (i : ℕ) (v : private.Held X) → IsNewPart d (shape a) n lines i v → IsPart value d b n i v
         part i v is =
             let shapes : v.shape ≡ shape b = is.shape ∙ sym same_shape in
-            record {
-              ready = record {
-                whole = is.whole;
-                fits = empty_fits value (format b) (state b).codes v.cache lines is.empty (subst (λ (ns : List ℕ). HasRoom v.cache (blocks ns)) (sym same_shape) is.room);
-                over = (ap blocks (sym shapes), ap (λ (ns : List ℕ). 4 ^ length ns) (sym shapes));
-                places = λ k p own below. ap (λ (ns : List ℕ). is_inside (extent_of ns k) (indices (length ns) p)) (sym shapes);
-              };
-              shape_is = shapes;
-              first = is.first ∙ ap (λ ns. first_of (blocks ns) n i) (sym same_shape);
-              count = is.count ∙ ap (λ ns. count_of (blocks ns) n i) (sym same_shape);
-            }
+            let fits = empty_fits value (format b) (state b).codes v.cache lines is.empty (subst (λ (ns : List ℕ). HasRoom v.cache (blocks ns)) (sym same_shape) is.room) in search rules
 
   -- ---- the end of a split
 

@@ -1,16 +1,17 @@
 -- What a call of a view makes of an array that is split.
-use Rattle.std.proofs.Common.{rules, ◌≡◌, ◌≢◌, ◌↔◌, refl, sym, ap, subst, ◌∙◌, ◌⊎◌, inl, inr, ℕ, ◌+◌, ◌<◌, ◌≤◌, ℤ, Bool, true, false, not, ◌&&◌, ltb, leb, List, [], length, get_or, set, Option, Some, None, if◌then◌else◌, arith}
+use Rattle.std.proofs.Common.{rules, ◌≡◌, ◌≢◌, ◌↔◌, refl, sym, ap, subst, ◌∙◌, ◌⊎◌, inl, inr, ℕ, ◌+◌, ◌<◌, ◌≤◌, ℤ, Bool, true, false, not, ◌&&◌, ltb, leb, List, length, get_or, set, Option, Some, None, arith}
 use Rattle.std.{specs.Int.{Width}, specs.Option.{option_map}, proofs.Math.Path.{fun_ext}}
 use Rattle.std.proofs.Math.Bool.{and-false}
 use Rattle.std.proofs.lemmas.Bool.{false≢true, and_from, and_parts, lt-ltb, ltb-true, le-ltb, le-leb, leb-true, cases_lt, cases_eq}
 use Rattle.std.proofs.lemmas.List.{get_or-map, get_or_default, map-set, length-map, length-set, get_or-set_other, get_or-set_same, ext_get_or}
+use Rattle.std.proofs.lemmas.Grind.{get_or-set_at}
 use Rattle.zf_spec.specs.Grid.{blocks, is_inside}
 use Rattle.zf_base.{specs.Widths.{width_of}, specs.Places.{block_number}, specs.declared.position.Pos.{Pos}}
 use Rattle.zf_base.{specs.Positions.{used_axes, with_unused, IsPosition}, specs.Formats.{Format, meant}}
 use Rattle.zf_header.{specs.declared.header.Header.{Header}, specs.HeaderBits.{block_bits}}
 use Rattle.zf_cached.{specs.State.{Counts, State, empty_line, none_dirty}, specs.Windows.{Window, LiesIn}}
 use Rattle.zf_cached.{specs.Arrays.{rate_coding, array_format}, specs.Commands.{Command}, specs.Acts.{Act}}
-use Rattle.zf_cached.{specs.Replies.{Reply}, specs.Ownership.{Owns, first_of, count_of}}
+use Rattle.zf_cached.{specs.Replies.{Reply}, specs.Ownership.{first_of, count_of}}
 use Rattle.zf_cached.specs.Views.{View, with_codes, without_codes, acted, answered, IsWithin, HasOwn, AreAlike}
 use Rattle.zf_cached.specs.Splits.{is_view_count, is_owner, no_view, view_at, coded}
 use Rattle.zf_cached.specs.Steps.{Setting, Session, format_of, state_of_view, with_view, by_view, has_view, view_has, refuses_split, tests, done}
@@ -21,7 +22,7 @@ use Rattle.zf_private.{specs.Standing.{Own, IsSameView, IsWhole}, proofs.Calls.{
 use Rattle.zf_private.proofs.Alike.{stay-acted, quiet-acted, alike-acted, alike-answered}
 use Rattle.zf_private.{proofs.Others.{other_codes_alike}, proofs.Ready.{ready_after, ready_beside}}
 use Rattle.zf_array.{specs.Standing.{Held, shape, state, format}, specs.Coded.{IsCoded}}
-use Rattle.zf_run.{specs.Sessions.{setting_of}, proofs.Sessions.{format_is}}
+use Rattle.zf_run.{specs.Sessions.{setting_of, kind}, proofs.Sessions.{format_is}}
 use Rattle.zf_run.specs.Splits.{owns_block, view_state, view_of, views_seen, split_session, IsPart, AreParts}
 use Rattle.zf_commands.{specs.Steps.{Does, HasWindow, starves}, proofs.Stepping.{accepted}}
 
@@ -69,12 +70,37 @@ module _ {X : Type 0} (value : X → ℤ) where
 
 -- ---- a call of view i: the act
 
+-- what no act of a view changes of an array
+abbrev pub FrameOf : Held → Header × ℕ × Counts
+FrameOf a = (a.header, (state a).lines, (state a).counts)
+
+-- what the clauses of a call say: view v becomes n, and the array a becomes b
+pub record HasActed {X : Type 0} (value : X → ℤ) (w : Width) (d : ℕ) (v n : private.Held X) (a b : Held) (act : Act) : Type 0 where
+  pub is_coded : IsCoded b
+  pub step : view_state value b n ≡ acted w (format a) (view_state value a v) act
+  pub others : (k : ℕ) → (Own v k → ⊥) → (state b).codes k ≡ (state a).codes k
+  pub kept : IsSameView v n
+  pub whole : IsWhole d n
+  pub fits : Fits value n.cache (format b) (state b).codes
+
+-- what is known of an array and its views after a call of view v, which becomes n
+pub record HasTaken {X : Type 0} (value : X → ℤ) (w : Width) (d : ℕ) (a b : Held) (views : List (private.Held X)) (i : ℕ) (n : private.Held X) (act : Act) (answer : Option Reply) : Type 0 where
+  pub parts : AreParts value d b (set views i n)
+  pub kind_is : kind b ≡ kind a
+  pub acts : (u : Window) → (by_view (setting_of w a) (split_session value a views u) i act).0 ≡ split_session value b (set views i n) u
+  -- a command that asks for the act, and passes all tests
+  pub takes : (u : Window) (c : Command) (reply : Option Reply) → HasWindow (split_session value a views u) → refuses_split (split_session value a views u) c ≡ false
+      → (tests (setting_of w a) (split_session value a views u) c).size ≡ false → (tests (setting_of w a) (split_session value a views u) c).range ≡ false → (tests (setting_of w a) (split_session value a views u) c).value ≡ false
+      → answer ≡ reply → starves reply ≡ false
+      → done (setting_of w a) (split_session value a views u) c ≡ by_view (setting_of w a) (split_session value a views u) i act
+      → Does (setting_of w a) c (split_session value a views u) (split_session value b (set views i n) u) reply
+
 module _ {X : Type 0} (value : X → ℤ) (w : Width) (d : ℕ) (a b : Held) (views : List (private.Held X)) (i : ℕ) (v n : private.Held X) (act : Act)
     (same : w ≡ width_of a.header.ty) (parts : AreParts value d a views) (lt : i < length views) (at : v ≡ get_or views i v)
-    (head : b.header ≡ a.header) (lines : (state b).lines ≡ (state a).lines) (counts : (state b).counts ≡ (state a).counts) (is_coded : IsCoded b)
-    (step : view_state value b n ≡ acted w (format a) (view_state value a v) act) (within : IsWithin (Own v) act)
-    (others : (k : ℕ) → (Own v k → ⊥) → (state b).codes k ≡ (state a).codes k)
-    (kept : IsSameView v n) (whole : IsWhole d n) (fits : Fits value n.cache (format b) (state b).codes) where
+    (frame : FrameOf b ≡ FrameOf a) (has : HasActed value w d v n a b act) (within : IsWithin (Own v) act) where
+  head : b.header ≡ a.header
+  head = ap (λ (q : Header × ℕ × Counts). q.0) frame
+
   abbrev f : Format (List Bool)
   f = format a
 
@@ -83,9 +109,6 @@ module _ {X : Type 0} (value : X → ℤ) (w : Width) (d : ℕ) (a b : Held) (vi
 
   formats : format b ≡ format a
   formats = ap (λ (h : Header). array_format (rate_coding (width_of h.ty) (block_bits h.mode)) h.shape) head
-
-  some : 0 < length views
-  some = omega (arith, lt)
 
   -- the state of the view as the language has it, before
   abbrev seen : State (List Bool)
@@ -99,24 +122,14 @@ module _ {X : Type 0} (value : X → ℤ) (w : Width) (d : ℕ) (a b : Held) (vi
   after = acted w f seen act
 
   after_alike : AreAlike (Own v) after (view_state value b n)
-  after_alike = subst (AreAlike (Own v) after) (sym step) (alike-acted f (Own v) w seen (view_state value a v) act within seen_is_own (seen_alike value a v))
+  after_alike = subst (AreAlike (Own v) after) (sym has.step) (alike-acted f (Own v) w seen (view_state value a v) act within seen_is_own (seen_alike value a v))
 
   codes_are : (k : ℕ) → after.codes k ≡ (state b).codes k
   unfolding state_at
-  codes_are k = by (own-or-not v k)
-    where
-      by : Own v k ⊎ (Own v k → ⊥) → after.codes k ≡ (state b).codes k
-      by (inl own) = after_alike.codes k own
-      by (inr not) = stay-acted f (Own v) w seen act k seen_is_own not ∙ sym (others k not)
+  codes_are k = search (rules, own-or-not, after_alike, stay-acted, seen_is_own)
 
   values_are : (k : ℕ) → after.values k ≡ (view_of value b n).values k
-  values_are k = by (own-or-not v k)
-    where
-      by : Own v k ⊎ (Own v k → ⊥) → after.values k ≡ (view_of value b n).values k
-      by (inl own) = after_alike.values k own ∙ sym (ap (λ t. if t then (view_state value b n).values k else []) (same_owned v n kept k ∙ owned-true v k own))
-      by (inr not) =
-          quiet-acted f (Own v) w seen act k within seen_is_own not ∙ ap (λ t. if t then (view_state value a v).values k else []) (owned-false v k not)
-          ∙ sym (ap (λ t. if t then (view_state value b n).values k else []) (same_owned v n kept k ∙ owned-false v k not))
+  values_are k = search (rules, own-or-not, same_owned, owned-true, owned-false, quiet-acted, after_alike, seen_is_own)
 
   view_is : without_codes after ≡ view_of value b n
   view_is = λ j. record {
@@ -131,39 +144,38 @@ module _ {X : Type 0} (value : X → ℤ) (w : Width) (d : ℕ) (a b : Held) (vi
   state_is : coded f (state a) after.codes ≡ state b
   unfolding coded
   state_is =
-      let made : Format (List Bool) → ℕ → Counts → (ℕ → List Bool) → State (List Bool) =
-      λ g m c codes. record { lines = m; held = empty_line; dirty = none_dirty; values = λ k. meant g k (codes k); codes = codes; counts = c } in
-      (λ j. made (sym formats j) (sym lines j) (sym counts j) (fun_ext codes_are j)) ∙ sym is_coded
+      let codes = fun_ext codes_are in
+      (λ j. record { lines = (sym frame j).1; held = empty_line; dirty = none_dirty; values = λ k. meant (sym formats j) k (codes j k); codes = codes j; counts = (sym frame j).2 })
+      ∙ sym has.is_coded
 
-  -- the other views are as they were
-  other_is : (k : ℕ) (o : private.Held X) → k < length views → o ≡ get_or views k o → k ≢ i → view_of value b o ≡ view_of value a o
-  other_is k o below there ne =
-      let p : IsPart value d a (length views) k o = parts.each k o below there in
-      seen_same value d a b o p.ready.whole formats (λ m own. others m (λ mine. parts_apart (blocks (shape a)) (length views) some k i m ne
-      (subst (λ x. Owns x (count_of (blocks (shape a)) (length views) k) m) p.first (subst (λ x. Owns o.first x m) p.count own))
-      (subst (λ x. Owns x (count_of (blocks (shape a)) (length views) i) m) part.first (subst (λ x. Owns v.first x m) part.count mine))))
+  -- another view owns none of its blocks
+  apart : (k : ℕ) (o : private.Held X) → k < length views → o ≡ get_or views k o → k ≢ i → (m : ℕ) → Own v m → Own o m → ⊥
+  apart k o below there ne m mine own =
+      let p = parts.each k o below there in
+      parts_apart (blocks (shape a)) (length views) (omega (arith, lt)) k i m ne (rw (← p.count, ← p.first) own) (rw (← part.count, ← part.first) mine)
 
   views_are : set (views_seen value a views) i (without_codes after) ≡ views_seen value b (set views i n)
   views_are =
-      let xs = views_seen value a views in
-      let ys = views_seen value b views in
-      let many : length xs ≡ length ys = length-map views (view_of value a) ∙ sym (length-map views (view_of value b)) in
-      let long : length (set xs i (view_of value b n)) ≡ length (set ys i (view_of value b n)) = length-set xs i (view_of value b n) ∙ many ∙ sym (length-set ys i (view_of value b n)) in
-      ap (set xs i) view_is
-      ∙ ext_get_or no_view (set xs i (view_of value b n)) (set ys i (view_of value b n)) long (λ k below. at_place k (subst (λ m. k < m) (length-set xs i (view_of value b n) ∙ length-map views (view_of value a)) below) (cases_eq k i))
+      ap (set (views_seen value a views) i) view_is
+      ∙ ext_get_or no_view (seen_in a) (seen_in b) (long a ∙ sym (long b)) (λ k below. at_place k (subst (λ m. k < m) (long a) below) (cases_eq k i))
       ∙ sym (map-set (view_of value b) views i n)
     where
-      at_place : (k : ℕ) → k < length views → (k ≡ i) ⊎ (k ≡ i → ⊥) → get_or (set (views_seen value a views) i (view_of value b n)) k no_view ≡ get_or (set (views_seen value b views) i (view_of value b n)) k no_view
-      at_place k below (inl e) =
-          let x = view_of value b n in
-          let first : get_or (set (views_seen value a views) i x) i no_view ≡ x = get_or-set_same (views_seen value a views) i x no_view (omega (arith, lt, length-map views (view_of value a))) in
-          let second : get_or (set (views_seen value b views) i x) i no_view ≡ x = get_or-set_same (views_seen value b views) i x no_view (omega (arith, lt, length-map views (view_of value b))) in
-          ap (λ m. get_or (set (views_seen value a views) i x) m no_view) e ∙ first ∙ sym second ∙ sym (ap (λ m. get_or (set (views_seen value b views) i x) m no_view) e)
+      seen_in : Held → List View
+      seen_in c = set (views_seen value c views) i (view_of value b n)
+
+      long : (c : Held) → length (seen_in c) ≡ length views
+      long c = length-set (views_seen value c views) i (view_of value b n) ∙ length-map views (view_of value c)
+
+      here : (c : Held) (k : ℕ) → k ≡ i → get_or (seen_in c) k no_view ≡ view_of value b n
+      here c k e = get_or-set_at (views_seen value c views) i k (view_of value b n) no_view e (omega (arith, lt, length-map views (view_of value c)))
+
+      at_place : (k : ℕ) → k < length views → (k ≡ i) ⊎ (k ≡ i → ⊥) → get_or (seen_in a) k no_view ≡ get_or (seen_in b) k no_view
+      at_place k below (inl e) = here a k e ∙ sym (here b k e)
       at_place k below (inr ne) =
-          let o = get_or views k v in
-          let there : o ≡ get_or views k o = get_or_default views k v o below in
-          get_or-set_other (views_seen value a views) i k _ no_view ne ∙ seen_at value a views k o below there ∙ sym (other_is k o below there ne) ∙ sym (seen_at value b views k o below there)
-          ∙ sym (get_or-set_other (views_seen value b views) i k _ no_view ne)
+          let o = get_or views k v in let there : o ≡ get_or views k o = get_or_default views k v o below in
+          let x = view_of value b n in let p = parts.each k o below there in
+          let other = seen_same value d a b o p.ready.whole formats (λ m own. has.others m (λ mine. apart k o below there ne m mine own)) in
+          cc (get_or-set_other (views_seen value a views) i k x no_view ne, get_or-set_other (views_seen value b views) i k x no_view ne, seen_at value a views k o below there, seen_at value b views k o below there)
 
   -- the array and its views are what the act makes of them
   module _ (u : Window) where
@@ -177,28 +189,21 @@ module _ {X : Type 0} (value : X → ℤ) (w : Width) (d : ℕ) (a b : Held) (vi
     unfolding array_setting
     acts_alike = λ j. acted w (format_is w a same u j) (with_codes (seen_at value a views i v lt at j) (state a).codes) act
 
-    pub acts : (by_view S before i act).0 ≡ split_session value b (set views i n) u
+    acts : (by_view S before i act).0 ≡ split_session value b (set views i n) u
     unfolding by_view with_view
     acts =
         let come : State (List Bool) → Session (List Bool) = λ t. record before { state = coded (format_of S before) (state a) t.codes; split = Some (set (views_seen value a views) i (without_codes t)) } in
         ap come acts_alike
         ∙ (λ j. record { shape = (sym head j).shape; state = (ap (λ g. coded g (state a) after.codes) (format_is w a same u) ∙ state_is) j; window = u; split = Some (views_are j) })
 
-    pub answers : (by_view S before i act).1 ≡ option_map Reply.number (answered (view_state value b n) act)
+    answers : (by_view S before i act).1 ≡ option_map Reply.number (answered (view_state value b n) act)
     unfolding by_view
     answers = ap (λ t. option_map Reply.number (answered t act)) acts_alike ∙ ap (option_map Reply.number) (alike-answered f (Own v) after (view_state value b n) act within after_alike)
 
-    -- a command that asks for the act, and passes all tests
-    pub takes : (c : Command) (reply : Option Reply) → HasWindow before → refuses_split before c ≡ false → (tests S before c).size ≡ false → (tests S before c).range ≡ false → (tests S before c).value ≡ false
-        → option_map Reply.number (answered (view_state value b n) act) ≡ reply → starves reply ≡ false → done S before c ≡ by_view S before i act → Does S c before (split_session value b (set views i n) u) reply
-    takes c reply lies split size range value_is replies none asks =
-        accepted S c before lies split size range value_is (split_session value b (set views i n) u) reply none
-        (asks ∙ (λ j. (acts j, (answers ∙ replies) j))) (subst (λ (h : Header). LiesIn h.shape u) (sym head) lies)
-
   -- they are parts as before
-  pub still_parts : AreParts value d b (set views i n)
+  still_parts : AreParts value d b (set views i n)
   still_parts = record {
-    is_coded = is_coded;
+    is_coded = has.is_coded;
     number = subst (λ m. is_view_count (blocks (shape b)) m ≡ true) (sym (length-set views i n)) (subst (λ (h : Header). is_view_count (blocks h.shape) (length views) ≡ true) (sym head) parts.number);
     each = λ k o below there. subst (λ m. IsPart value d b m k o) (sym (length-set views i n)) (part_at k o (subst (λ m. k < m) (length-set views i n) below) there (cases_eq k i));
   }
@@ -207,20 +212,20 @@ module _ {X : Type 0} (value : X → ℤ) (w : Width) (d : ℕ) (a b : Held) (vi
       same_shape = ap (λ (h : Header). h.shape) head
 
       part_at : (k : ℕ) (o : private.Held X) → k < length views → o ≡ get_or (set views i n) k o → (k ≡ i) ⊎ (k ≡ i → ⊥) → IsPart value d b (length views) k o
-      part_at k o below there (inl e) =
-          let is : o ≡ n = there ∙ ap (λ m. get_or (set views i n) m o) e ∙ get_or-set_same views i n o lt in
-          subst (λ (x : private.Held X). IsPart value d b (length views) k x) (sym is) (subst (λ m. IsPart value d b (length views) m n) (sym e) (search (rules, ready_after, formats)))
+      part_at k o below there (inl e) = search (rules, ready_after, formats, get_or-set_same, part)
       part_at k o below there (inr ne) =
-          let here : o ≡ get_or views k o = there ∙ get_or-set_other views i k n o ne in
-          let p : IsPart value d a (length views) k o = parts.each k o below here in record {
-            ready = ready_beside value d f (format b) (state a).codes (state b).codes formats v o p.ready others
-                (λ m mine own. parts_apart (blocks (shape a)) (length views) some k i m ne
-                (subst (λ x. Owns x (count_of (blocks (shape a)) (length views) k) m) p.first (subst (λ x. Owns o.first x m) p.count own))
-                (subst (λ x. Owns x (count_of (blocks (shape a)) (length views) i) m) part.first (subst (λ x. Owns v.first x m) part.count mine)));
-            shape_is = p.shape_is ∙ sym same_shape;
-            first = p.first ∙ ap (λ m. first_of (blocks m) (length views) k) (sym same_shape);
-            count = p.count ∙ ap (λ m. count_of (blocks m) (length views) k) (sym same_shape);
-          }
+          let here : o ≡ get_or views k o = there ∙ get_or-set_other views i k n o ne in let p : IsPart value d a (length views) k o = parts.each k o below here in
+          let ready = ready_beside value d f (format b) (state a).codes (state b).codes formats v o p.ready has.others (apart k o below here ne) in search rules
+
+  pub taken : HasTaken value w d a b views i n act (option_map Reply.number (answered (view_state value b n) act))
+  taken = record {
+    parts = still_parts;
+    kind_is = ap (λ (h : Header). (h.ty, h.mode)) head;
+    acts = acts;
+    takes = λ u c reply lies split size range value_is replies none asks.
+        accepted (setting_of w a) c (split_session value a views u) lies split size range value_is (split_session value b (set views i n) u) reply none
+        (asks ∙ (λ j. (acts u j, (answers u ∙ replies) j))) (subst (λ (h : Header). LiesIn h.shape u) (sym head) lies);
+  }
 
 -- ---- which view has a position
 

@@ -1,11 +1,8 @@
 use Rattle.std.proofs.Common.{rules, sym, ap, subst, ◌∙◌}
-use Rattle.zf_cached.specs.Windows.{whole, LiesIn}
+use Rattle.zf_cached.specs.Windows.{whole}
 use Rattle.zf_const.specs.Standing.{Held}
 use Rattle.zf_run.{specs.Ends.{Looks}, proofs.Ending.{looks_all, looks_stopped}}
 use Rattle.zf_run.proofs.looks.look.Goals as goal
-
-pub run_lines-requires : goal.run_lines-requires
-run_lines-requires g c = record { sound = tt; window = subst (λ ns. LiesIn ns c.whole-window.result) c.shape.ensures.value c.whole-window.ensures.inside }
 
 pub returns-in-Ok-clause-looks : goal.returns-in-Ok-clause-looks
 returns-in-Ok-clause-looks g c =

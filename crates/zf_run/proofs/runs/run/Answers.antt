@@ -1,11 +1,8 @@
 use Rattle.std.proofs.Common.{rules, sym, ap, subst, ◌∙◌}
-use Rattle.zf_cached.specs.Windows.{whole, LiesIn}
+use Rattle.zf_cached.specs.Windows.{whole}
 use Rattle.zf_array.specs.Standing.{Held}
 use Rattle.zf_run.{specs.Ends.{Runs}, specs.Splits.{parted_session}, proofs.Ending.{runs_all, runs_stopped}}
 use Rattle.zf_run.proofs.runs.run.Goals as goal
-
-pub run_lines-requires : goal.run_lines-requires
-run_lines-requires g c = record { sound = tt; window = subst (λ ns. LiesIn ns c.whole-window.result) c.shape.ensures.value c.whole-window.ensures.inside }
 
 pub returns-in-Ok-clause-runs : goal.returns-in-Ok-clause-runs
 returns-in-Ok-clause-runs g c =

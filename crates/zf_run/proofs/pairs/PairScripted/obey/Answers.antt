@@ -13,32 +13,26 @@ read-requires-clause-plain g c = search (rules, same_plain)
 pub write-requires-clause-plain : goal.write-requires-clause-plain
 write-requires-clause-plain g c = search (rules, same_plain)
 
-pub returns-in-Read-clause-step : goal.returns-in-Read-clause-step
+pub returns-in-Read : goal.returns-in-Read
 unfolding twoway_setting
-returns-in-Read-clause-step g c =
+returns-in-Read g c =
     let p = c.args.self.now in
     let s = pair_session g.T.Lane.value p.store.now p.cache.now p.window in
-    taken (two_setting_of g.T.Lane.width p.store.now.header) c.args.cmd (read_cmd c.in-Read.asked) c.in-Read.ensures s _ _ (by_kind s (kinds.Read c.in-Read.asked) is_windowless true refl) c.read.ensures.does
+    let step = taken (two_setting_of g.T.Lane.width p.store.now.header) c.args.cmd (read_cmd c.in-Read.asked) c.in-Read.ensures s _ _ (by_kind s (kinds.Read c.in-Read.asked) is_windowless true refl) c.read.ensures.does in
+    record { step = step; stays = obeyed c.read.ensures }
 
-pub returns-in-Write-clause-step : goal.returns-in-Write-clause-step
+pub returns-in-Write : goal.returns-in-Write
 unfolding twoway_setting
-returns-in-Write-clause-step g c =
+returns-in-Write g c =
     let p = c.args.self.now in
     let s = pair_session g.T.Lane.value p.store.now p.cache.now p.window in
-    taken (two_setting_of g.T.Lane.width p.store.now.header) c.args.cmd (write_cmd c.in-Write.asked) c.in-Write.ensures s _ _ (by_kind s (kinds.Write c.in-Write.asked) is_windowless true refl) c.write.ensures.does
+    let step = taken (two_setting_of g.T.Lane.width p.store.now.header) c.args.cmd (write_cmd c.in-Write.asked) c.in-Write.ensures s _ _ (by_kind s (kinds.Write c.in-Write.asked) is_windowless true refl) c.write.ensures.does in
+    record { step = step; stays = obeyed c.write.ensures }
 
-pub returns-in_default-clause-step : goal.returns-in_default-clause-step
+pub returns-in_default : goal.returns-in_default
 unfolding twoway_setting
-returns-in_default-clause-step g c =
+returns-in_default g c =
     let p = c.args.self.now in
     let s = pair_session g.T.Lane.value p.store.now p.cache.now p.window in
-    not_taken (two_setting_of g.T.Lane.width p.store.now.header) c.args.cmd (cmd_of_kind _) c.kind_of.ensures s (by_kind s _ is_windowless false (not_windowless (length s.shape) _ c.in_default.not-Read c.in_default.not-Write))
-
-pub returns-in-Read-clause-stays : goal.returns-in-Read-clause-stays
-returns-in-Read-clause-stays g c = obeyed c.read.ensures
-
-pub returns-in-Write-clause-stays : goal.returns-in-Write-clause-stays
-returns-in-Write-clause-stays g c = obeyed c.write.ensures
-
-pub returns-in_default-clause-stays : goal.returns-in_default-clause-stays
-returns-in_default-clause-stays g c = unmoved c.requires.ready
+    let step = not_taken (two_setting_of g.T.Lane.width p.store.now.header) c.args.cmd (cmd_of_kind _) c.kind_of.ensures s (by_kind s _ is_windowless false (not_windowless (length s.shape) _ c.in_default.not-Read c.in_default.not-Write)) in
+    record { step = step; stays = unmoved c.requires.ready }

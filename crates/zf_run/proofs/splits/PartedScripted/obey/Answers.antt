@@ -27,9 +27,3 @@ returns-else-is_some-clause-step g c =
     subst (λ o. let s = parted_session value p.array.now o p.window in Takes S s (asked s c.args.cmd) t (said c.obey_whole.result))
     (sym (none_parted p.views.now (sym c.is_some.ensures ∙ c.if-is_some.false)))
     (taken S c.args.cmd (cmd_of_kind c.kind_of-asked.result) c.kind_of-asked.ensures (session_of p.array.now p.window) t _ refl c.obey_whole.ensures.does)
-
-pub returns-then-is_some-clause-stays : goal.returns-then-is_some-clause-stays
-returns-then-is_some-clause-stays g c = search rules
-
-pub returns-else-is_some-clause-stays : goal.returns-else-is_some-clause-stays
-returns-else-is_some-clause-stays g c = search rules
