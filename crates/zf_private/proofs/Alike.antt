@@ -1,10 +1,10 @@
 -- What an act on owned blocks needs and leaves: states that are alike in the owned blocks stay alike, and the codes of all other blocks stay.
-use Rattle.std.proofs.Common.{◌≡◌, ◌≢◌, refl, sym, ap, subst, ◌∙◌, ℕ, zero, suc, ℤ, pos, ◌+ℤ◌, Bool, true, false, Option, Some, None, get_or, rules}
+use Rattle.std.proofs.Common.{◌≡◌, ◌≢◌, refl, sym, ap, subst, ◌∙◌, ℕ, zero, suc, ℤ, pos, ◌+ℤ◌, Bool, true, false, Option, Some, get_or, rules}
 use Rattle.std.{proofs.lemmas.Bool.{cases_eq}, specs.Int.{Width}}
 use Rattle.zf_spec.specs.Numbers.{wrap}
 use Rattle.zf_base.{specs.Formats.{Format, with_at}, proofs.Formats.{with_at-same, with_at-other}}
 use Rattle.zf_cached.{specs.State.{State, own_line}, specs.Placing.{direct}, specs.Acts.{Act}}
-use Rattle.zf_cached.specs.Touch.{write_back, write_back_dirty, write_back_line, hit, miss, touch, soiled, with_values, touch_for_writing_at, touch_at}
+use Rattle.zf_cached.specs.Touch.{write_back, write_back_line, hit, miss, touch, soiled, with_values, touch_for_writing_at, touch_at}
 use Rattle.zf_cached.specs.Changes.{write_back_lines, emptied, flush, discard}
 use Rattle.zf_cached.proofs.Caching.{at_change, write_back_line_by, write_back_line-other, touch_by, touch-left_away}
 use Rattle.zf_cached.specs.Views.{changed, acted, answered, IsWithin, HasOwn, AreAlike}
@@ -64,41 +64,29 @@ module _ {Code : Type 0} (f : Format Code) (owned : ℕ → Type 0) where
   own-acted w s Act.flush own h = own-flush s h
   own-acted w s Act.discard own h = own-discard s
 
-  -- ---- the codes of blocks that are not owned stay
+  -- ---- the codes of blocks that are not owned stay, and so do the values that a view has of them, if it has any
 
-  stay-touch : (s : State Code) (a b : ℕ) → HasOwn owned s → (owned b → ⊥) → (touch f s a).codes b ≡ s.codes b
-  stay-touch s a b h not = let left = touch-left_away direct f s a b (λ e. not (h.held (own_line s a) b e)) in left.code
+  left-touch : (s : State Code) (a b : ℕ) → HasOwn owned s → (owned b → ⊥) → ((touch f s a).values b ≡ s.values b) × ((touch f s a).codes b ≡ s.codes b)
+  left-touch s a b h not = let left = touch-left_away direct f s a b (λ e. not (h.held (own_line s a) b e)) in (left.values, left.code)
 
-  stay-write_back_lines : (s : State Code) (n b : ℕ) → HasOwn owned s → (owned b → ⊥) → (write_back_lines f s n).codes b ≡ s.codes b
+  left-write_back_lines : (s : State Code) (n b : ℕ) → HasOwn owned s → (owned b → ⊥) → ((write_back_lines f s n).values b ≡ s.values b) × ((write_back_lines f s n).codes b ≡ s.codes b)
   unfolding write_back_lines
-  stay-write_back_lines s zero b h not = refl
-  stay-write_back_lines s (suc n) b h not =
-      let k = own-write_back_lines s n h in
-      (write_back_line-other f (write_back_lines f s n) n b (λ e. not (k.held n b e))).2 ∙ stay-write_back_lines s n b h not
+  left-write_back_lines s zero b h not = (refl, refl)
+  left-write_back_lines s (suc n) b h not =
+      let one = write_back_line-other f (write_back_lines f s n) n b (λ e. not ((own-write_back_lines s n h).held n b e)) in
+      let rest = left-write_back_lines s n b h not in (one.1 ∙ rest.0, one.2 ∙ rest.1)
 
   pub stay-acted : (w : Width) (s : State Code) (a : Act) (b : ℕ) → HasOwn owned s → (owned b → ⊥) → (acted w f s a).codes b ≡ s.codes b
   unfolding acted touch_for_writing_at soiled with_values flush emptied discard
-  stay-acted w s (Act.get a p) b h not = stay-touch s a b h not
-  stay-acted w s (Act.set a p v) b h not = stay-touch s a b h not
-  stay-acted w s (Act.add a p v) b h not = stay-touch s a b h not
-  stay-acted w s Act.flush b h not = stay-write_back_lines s s.lines b h not
+  stay-acted w s (Act.get a p) b h not = (left-touch s a b h not).1
+  stay-acted w s (Act.set a p v) b h not = (left-touch s a b h not).1
+  stay-acted w s (Act.add a p v) b h not = (left-touch s a b h not).1
+  stay-acted w s Act.flush b h not = (left-write_back_lines s s.lines b h not).1
   stay-acted w s Act.discard b h not = refl
-
-  -- ---- and so do the values that a view has of them, if it has any
-
-  quiet-touch : (s : State Code) (a b : ℕ) → HasOwn owned s → (owned b → ⊥) → (touch f s a).values b ≡ s.values b
-  quiet-touch s a b h not = let left = touch-left_away direct f s a b (λ e. not (h.held (own_line s a) b e)) in left.values
-
-  quiet-write_back_lines : (s : State Code) (n b : ℕ) → HasOwn owned s → (owned b → ⊥) → (write_back_lines f s n).values b ≡ s.values b
-  unfolding write_back_lines
-  quiet-write_back_lines s zero b h not = refl
-  quiet-write_back_lines s (suc n) b h not =
-      let k = own-write_back_lines s n h in
-      (write_back_line-other f (write_back_lines f s n) n b (λ e. not (k.held n b e))).1 ∙ quiet-write_back_lines s n b h not
 
   quiet-changed : (s : State Code) (a p b : ℕ) (change : ℤ → ℤ) → owned a → HasOwn owned s → (owned b → ⊥) → (changed f s a p change).values b ≡ s.values b
   unfolding touch_for_writing_at soiled with_values
-  quiet-changed s a p b change own h not = with_at-other (touch f s a).values a _ b (λ e. not (subst owned (sym e) own)) ∙ quiet-touch s a b h not
+  quiet-changed s a p b change own h not = with_at-other (touch f s a).values a _ b (λ e. not (subst owned (sym e) own)) ∙ (left-touch s a b h not).0
 
   quiet-discard : (s : State Code) (b : ℕ) → HasOwn owned s → (owned b → ⊥) → (discard f s).values b ≡ s.values b
   unfolding discard
@@ -106,10 +94,10 @@ module _ {Code : Type 0} (f : Format Code) (owned : ℕ → Type 0) where
 
   pub quiet-acted : (w : Width) (s : State Code) (a : Act) (b : ℕ) → IsWithin owned a → HasOwn owned s → (owned b → ⊥) → (acted w f s a).values b ≡ s.values b
   unfolding acted flush emptied
-  quiet-acted w s (Act.get a p) b own h not = quiet-touch s a b h not
+  quiet-acted w s (Act.get a p) b own h not = (left-touch s a b h not).0
   quiet-acted w s (Act.set a p v) b own h not = quiet-changed s a p b (λ old. v) own h not
   quiet-acted w s (Act.add a p v) b own h not = quiet-changed s a p b (λ old. wrap w (old +ℤ v)) own h not
-  quiet-acted w s Act.flush b own h not = quiet-write_back_lines s s.lines b h not
+  quiet-acted w s Act.flush b own h not = (left-write_back_lines s s.lines b h not).0
   quiet-acted w s Act.discard b own h not = quiet-discard s b h not
 
   -- ---- states that are alike stay alike
@@ -122,19 +110,13 @@ module _ {Code : Type 0} (f : Format Code) (owned : ℕ → Type 0) where
   alike-write_back s t a own h = search (rules, with_at-alike)
 
   alike-write_back_line : (s t : State Code) (l : ℕ) → HasOwn owned s → AreAlike owned s t → AreAlike owned (write_back_line f s l) (write_back_line f t l)
-  alike-write_back_line s t l own h = by (s.held l) refl
-    where
-      dirty_by : (b : ℕ) → owned b → (d : Bool) → s.dirty b ≡ d → AreAlike owned (write_back_dirty f s b) (write_back_dirty f t b)
-      dirty_by b o true e = alike-same (write_back f s b) (write_back_dirty f s b) (write_back f t b) (write_back_dirty f t b)
-          (write_back_dirty-true f s b e) (write_back_dirty-true f t b (sym (ap (λ (d : ℕ → Bool). d b) h.dirty) ∙ e)) (alike-write_back s t b o h)
-      dirty_by b o false e = alike-same s (write_back_dirty f s b) t (write_back_dirty f t b)
-          (write_back_dirty-false f s b e) (write_back_dirty-false f t b (sym (ap (λ (d : ℕ → Bool). d b) h.dirty) ∙ e)) h
-
-      by : (o : Option ℕ) → s.held l ≡ o → AreAlike owned (write_back_line f s l) (write_back_line f t l)
-      by None e = alike-same s (write_back_line f s l) t (write_back_line f t l)
-          (write_back_line-none f s l e) (write_back_line-none f t l (sym (ap (λ (g : ℕ → Option ℕ). g l) h.held) ∙ e)) h
-      by (Some b) e = alike-same (write_back_dirty f s b) (write_back_line f s l) (write_back_dirty f t b) (write_back_line f t l)
-          (write_back_line-some f s l b e) (write_back_line-some f t l b (sym (ap (λ (g : ℕ → Option ℕ). g l) h.held) ∙ e)) (dirty_by b (own.held l b e) (s.dirty b) refl)
+  alike-write_back_line s t l own h =
+      let held : t.held l ≡ s.held l = sym (ap (λ (g : ℕ → Option ℕ). g l) h.held) in
+      let dirty : (b : ℕ) → t.dirty b ≡ s.dirty b = λ b. sym (ap (λ (g : ℕ → Bool). g b) h.dirty) in
+      write_back_line_by f s l (λ r. AreAlike owned r (write_back_line f t l))
+      (λ b e d. subst (AreAlike owned (write_back f s b)) (sym (write_back_line-some f t l b (held ∙ e) ∙ write_back_dirty-true f t b (dirty b ∙ d))) (alike-write_back s t b (own.held l b e) h))
+      (λ b e d. subst (AreAlike owned s) (sym (write_back_line-some f t l b (held ∙ e) ∙ write_back_dirty-false f t b (dirty b ∙ d))) h)
+      (λ e. subst (AreAlike owned s) (sym (write_back_line-none f t l (held ∙ e))) h)
 
   alike-write_back_lines : (s t : State Code) (n : ℕ) → HasOwn owned s → AreAlike owned s t → AreAlike owned (write_back_lines f s n) (write_back_lines f t n)
   unfolding write_back_lines

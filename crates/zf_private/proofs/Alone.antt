@@ -1,5 +1,5 @@
 -- However the steps of several views are mixed, each view goes as it goes alone.
-use Rattle.std.proofs.Common.{◌≡◌, ◌≢◌, refl, sym, ap, subst, ◌∙◌, ℕ, ◌==◌, ℤ, Bool, true, false, eqb-true, eq-eqb, Option, List, [], ◌∷◌, rules}
+use Rattle.std.proofs.Common.{◌≡◌, ◌≢◌, refl, ap, subst, ◌∙◌, ℕ, ◌==◌, ℤ, Bool, true, false, eqb-true, eq-eqb, Option, List, [], ◌∷◌, rules}
 use Rattle.std.specs.Int.{Width}
 use Rattle.zf_base.{specs.Formats.{Format}, proofs.Formats.{with_at-same, with_at-other}}
 use Rattle.zf_cached.proofs.Caching.{at_change}
@@ -54,43 +54,36 @@ module _ {Code : Type 0} (w : Width) (f : Format Code) (owns : ℕ → ℕ → T
     unfolding stepped
     alike-other s s' st not own h = search (rules, with_at-other, stays)
 
-    pub alike-ran : (s s' : Views Code) (steps : List Step) → AreWithin owns steps → AllOwn s → Alike s s' → Alike (ran w f s steps) (ran w f s' (steps_of i steps))
-    unfolding ran steps_of
-    alike-ran s s' [] within own h = h
-    alike-ran s s' (st ∷ steps) within own h =
+    -- what holds of no steps, behind a step of view i in both, and behind one of another view in one of the two, holds of the steps of view i
+    by_steps : (P : Views Code → Views Code → List Step → List Step → Type 0) → ((s s' : Views Code) → Alike s s' → P s s' [] [])
+        → ((s s' : Views Code) (st : Step) (steps rest : List Step) → IsWithin (owns i) st.act → Alike (stepped w f s st) (stepped w f s' st) → P (stepped w f s st) (stepped w f s' st) steps rest → P s s' (st ∷ steps) (st ∷ rest))
+        → ((s s' : Views Code) (st : Step) (steps rest : List Step) → (st.view == i) ≡ false → P (stepped w f s st) s' steps rest → P s s' (st ∷ steps) rest)
+        → (s s' : Views Code) (steps : List Step) → AreWithin owns steps → AllOwn s → Alike s s' → P s s' steps (steps_of i steps)
+    unfolding steps_of
+    by_steps P none both one s s' [] within own h = none s s' h
+    by_steps P none both one s s' (st ∷ steps) within own h =
         let next = own-stepped s st within.0 own in
-        by (st.view == i) refl (alike-ran (stepped w f s st) (stepped w f s' st) steps within.1 next) (alike-ran (stepped w f s st) s' steps within.1 next)
+        by (st.view == i) refl (by_steps P none both one (stepped w f s st) (stepped w f s' st) steps within.1 next) (by_steps P none both one (stepped w f s st) s' steps within.1 next)
       where
-        by : (t : Bool) → (st.view == i) ≡ t
-            → (Alike (stepped w f s st) (stepped w f s' st) → Alike (ran w f (stepped w f s st) steps) (ran w f (stepped w f s' st) (steps_of i steps)))
-            → (Alike (stepped w f s st) s' → Alike (ran w f (stepped w f s st) steps) (ran w f s' (steps_of i steps)))
-            → Alike (ran w f (stepped w f s st) steps) (ran w f s' (elim t [ true ↦ st ∷ steps_of i steps | false ↦ steps_of i steps ]))
-        by true e both one = both (alike-step s s' st (eqb-true st.view i e) within.0 own h)
-        by false e both one = one (alike-other s s' st (λ same. let t = eq-eqb st.view i same in cc) own h)
+        by : (t : Bool) → (st.view == i) ≡ t → (Alike (stepped w f s st) (stepped w f s' st) → P (stepped w f s st) (stepped w f s' st) steps (steps_of i steps))
+            → (Alike (stepped w f s st) s' → P (stepped w f s st) s' steps (steps_of i steps)) → P s s' (st ∷ steps) (elim t [ true ↦ st ∷ steps_of i steps | false ↦ steps_of i steps ])
+        by true e rest other =
+            let is = eqb-true st.view i e in let k = alike-step s s' st is within.0 own h in
+            both s s' st steps (steps_of i steps) (subst (λ j. IsWithin (owns j) st.act) is within.0) k (rest k)
+        by false e rest other = one s s' st steps (steps_of i steps) e (other (alike-other s s' st (λ same. let t = eq-eqb st.view i same in cc) own h))
+
+    pub alike-ran : (s s' : Views Code) (steps : List Step) → AreWithin owns steps → AllOwn s → Alike s s' → Alike (ran w f s steps) (ran w f s' (steps_of i steps))
+    unfolding ran
+    alike-ran = by_steps (λ s s' xs ys. Alike (ran w f s xs) (ran w f s' ys)) (λ s s' h. h) (λ s s' st xs ys o k rest. rest) (λ s s' st xs ys e rest. rest)
 
     pub same-answers : (s s' : Views Code) (steps : List Step) → AreWithin owns steps → AllOwn s → Alike s s' → answers w f i s steps ≡ answers w f i s' (steps_of i steps)
-    unfolding answers steps_of
-    same-answers s s' [] within own h = refl
-    same-answers s s' (st ∷ steps) within own h =
-        let next = own-stepped s st within.0 own in
-        by (st.view == i) refl (same-answers (stepped w f s st) (stepped w f s' st) steps within.1 next) (same-answers (stepped w f s st) s' steps within.1 next)
+    unfolding answers
+    same-answers = by_steps (λ s s' xs ys. answers w f i s xs ≡ answers w f i s' ys) (λ s s' h. refl)
+        (λ s s' st xs ys o k rest.
+        let first = alike-answered f (owns i) (state_of_view (stepped w f s st) i) (state_of_view (stepped w f s' st) i) st.act o k in
+        λ n. begun (st.view == i) (first n) (rest n))
+        (λ s s' st xs ys e rest. ap (λ t. begun t (answered (state_of_view (stepped w f s st) i) st.act) (answers w f i (stepped w f s st) xs)) e ∙ rest)
       where
         -- the answers from a step on
-        begun : Bool → Views Code → List (Option ℤ) → List (Option ℤ)
-        begun t u rest = elim t [ true ↦ answered (state_of_view u i) st.act ∷ rest | false ↦ rest ]
-
-        by : (t : Bool) → (st.view == i) ≡ t
-            → (Alike (stepped w f s st) (stepped w f s' st) → answers w f i (stepped w f s st) steps ≡ answers w f i (stepped w f s' st) (steps_of i steps))
-            → (Alike (stepped w f s st) s' → answers w f i (stepped w f s st) steps ≡ answers w f i s' (steps_of i steps))
-            → begun (st.view == i) (stepped w f s st) (answers w f i (stepped w f s st) steps) ≡ answers w f i s' (elim t [ true ↦ st ∷ steps_of i steps | false ↦ steps_of i steps ])
-        by true e both one =
-            let is = eqb-true st.view i e in
-            let k = alike-step s s' st is within.0 own h in
-            let first = alike-answered f (owns i) (state_of_view (stepped w f s st) i) (state_of_view (stepped w f s' st) i) st.act (subst (λ j. IsWithin (owns j) st.act) is within.0) k in
-            let rest = both k in
-            ap (λ t. begun t (stepped w f s st) (answers w f i (stepped w f s st) steps)) e
-            ∙ (λ n. first n ∷ rest n)
-            ∙ sym (ap (λ t. begun t (stepped w f s' st) (answers w f i (stepped w f s' st) (steps_of i steps))) e)
-        by false e both one =
-            ap (λ t. begun t (stepped w f s st) (answers w f i (stepped w f s st) steps)) e
-            ∙ one (alike-other s s' st (λ same. let t = eq-eqb st.view i same in cc) own h)
+        begun : Bool → Option ℤ → List (Option ℤ) → List (Option ℤ)
+        begun t answer rest = elim t [ true ↦ answer ∷ rest | false ↦ rest ]

@@ -1,17 +1,9 @@
 -- What a call of one view leaves of it, and of another over the same backing.
-use Rattle.std.proofs.Common.{◌≡◌, sym, subst, ℕ, ◌^◌, ◌<◌, ◌≤◌, ℤ, List, length, arith, rules}
-use Rattle.zf_spec.specs.Grid.{blocks, is_inside, indices, extent_of}
+use Rattle.std.proofs.Common.{◌≡◌, sym, subst, ℕ, ◌≤◌, ℤ, arith, rules}
 use Rattle.zf_base.specs.Formats.{Format}
 use Rattle.zf_cache.specs.Standing.{Fits}
-use Rattle.zf_cached.specs.Ownership.{Owns}
 use Rattle.zf_private.specs.Standing.{Held, Own, IsOver, HasPlaces, IsSameView, IsWhole}
 use Rattle.zf_private.{specs.Several.{IsReady}, proofs.Others.{other_codes_fit}}
-
--- the format of an array of these sizes, as far as a view of some blocks looks at it
-abbrev HasBlocksOf : {Code : Type 0} → Format Code → List ℕ × (ℕ × ℕ) → Type 0
-HasBlocksOf format t =
-    (format.blocks ≡ blocks t.0) × (format.block_len ≡ 4 ^ length t.0)
-    × ((b p : ℕ) → Owns t.1.0 t.1.1 b → p < 4 ^ length t.0 → format.exists b p ≡ is_inside (extent_of t.0 b) (indices (length t.0) p))
 
 module _ {X Code : Type 0} (value : X → ℤ) (d : ℕ) (f g : Format Code) (k j : ℕ → Code) (same : g ≡ f) where
   -- a view that was called

@@ -1,5 +1,5 @@
 -- The lines of one split: what a view answers does not depend on the lines on other views.
-use Rattle.std.proofs.Common.{◌≡◌, ◌≢◌, refl, sym, ap, subst, ◌∙◌, ◌⊎◌, inl, inr, ℕ, suc, ◌<◌, ℤ, Bool, true, false, not, ◌&&◌, cond, ltb, eqb, eq-eqb, ne_eqb, List, [], ◌∷◌, ◌++◌, map, length, set, Option, Some, None, is_some, arith, rules}
+use Rattle.std.proofs.Common.{◌≡◌, ◌≢◌, refl, sym, ap, subst, ◌∙◌, ◌⊎◌, inl, inr, ⊎_elim, ℕ, suc, ◌<◌, ℤ, Bool, true, false, not, ◌&&◌, cond, ltb, eqb, eq-eqb, ne_eqb, List, [], ◌∷◌, ◌++◌, map, length, set, Option, Some, None, is_some, arith, rules}
 use Rattle.std.{specs.Int.{Width}, specs.List.{AllByRecursion, list_any, flat_map, filter}}
 use Rattle.std.specs.Option.{option_map, option_to_list}
 use Rattle.std.proofs.lemmas.Bool.{and_parts, not-false, ltb-true, cases_eq, cond-true, cond-false}
@@ -11,7 +11,7 @@ use Rattle.zf_cached.{specs.Replies.{Refusal, Reply}, specs.Changes.{raised}, sp
 use Rattle.zf_cached.{specs.Grammar.{line_of, read_line}, proofs.ReadLines.{read_line-None}}
 use Rattle.zf_cached.specs.Views.{View, with_codes, without_codes, acted, answered, IsWithin, HasOwn, AreAlike}
 use Rattle.zf_cached.specs.Splits.{is_view_count, is_owner, no_view, view_at, coded, opened_view, opened_views}
-use Rattle.zf_cached.specs.Steps.{Setting, Session, format_of, is_split, views_of, state_of_view, with_view, by_view, at_position, split_into, needs_split, refuses_split, is_of_type, is_line_count, counts_reply, tests, first_refusal, refusal, done, step}
+use Rattle.zf_cached.specs.Steps.{Setting, Session, format_of, is_split, views_of, state_of_view, with_view, by_view, at_position, split_into, needs_split, refuses_split, is_of_type, is_line_count, counts_reply, first_refusal, refusal, done, step}
 use Rattle.zf_cached.{specs.Runs.{read_step, line_step, run_lines}, proofs.Sessions.{step_by}}
 use Rattle.zf_cached.proofs.Parts.{one_owner}
 use Rattle.zf_private.specs.Scripts.{Answered, answered_lines, view_named, named, is_accepted, is_on, is_elsewhere, without_others}
@@ -65,16 +65,13 @@ module _ {Code : Type 0} (setting : Setting Code) (ns : List ℕ) (n : ℕ) (som
       shape = parted.shape;
       split = refl;
       many = length-set (views_of s) j (without_codes t) ∙ parted.many;
-      own = λ m below_n. by m below_n (cases_eq m j);
+      own = λ m below_n. elim (cases_eq m j) [
+        | inl e ↦ subst (λ k. HasOwn (owns k) (state_of_view next k)) (sym e) (subst (HasOwn (owns j)) (sym there) (own-acted f (owns j) w (state_of_view s j) a within (parted.own j lt)))
+        | inr ne ↦
+            let own = parted.own m below_n in
+            subst (λ (v : View). HasOwn (owns m) (with_codes v t.codes)) (sym (other m ne)) (record { held = own.held; dirty = own.dirty })
+      ];
     }
-      where
-        by : (m : ℕ) → m < n → (m ≡ j) ⊎ (m ≡ j → ⊥) → HasOwn (owns m) (state_of_view next m)
-        by m below_n (inl e) = subst (λ k. HasOwn (owns k) (state_of_view next k)) (sym e) (subst (HasOwn (owns j)) (sym there) (own-acted f (owns j) w (state_of_view s j) a within (parted.own j lt)))
-        by m below_n (inr ne) =
-            let own = parted.own m below_n in record {
-              held = λ l b e. own.held l b (ap (λ (v : View). v.held l) (sym (other m ne)) ∙ e);
-              dirty = λ b e. own.dirty b (ap (λ (v : View). v.dirty b) (sym (other m ne)) ∙ e);
-            }
 
     -- another view finds the same in its own blocks
     alike-other : (i : ℕ) → i ≢ j → AreAlike (owns i) (state_of_view next i) (state_of_view s i)
@@ -102,27 +99,20 @@ module _ {Code : Type 0} (setting : Setting Code) (ns : List ℕ) (n : ℕ) (som
   refusal_of (Command.pstats j) = first_refusal false false (not (ltb j n)) false false
   refusal_of c = Some Refusal.range
 
-  -- is there a split, the sizes and how many views: the range that is refused then
-  abbrev first_at : Bool → Bool → Bool → Option Refusal
-  first_at t range value = first_refusal (elim t as (λ x. Bool) [ true ↦ false | false ↦ true ]) false range value false
-
-  abbrev out_of : List ℕ → ℕ → ℕ → List ℕ → Bool
-  out_of ms m j ps = not (ltb j m && (is_inside ms ps && is_owner (blocks ms) m j (block_number ms ps)))
-
   refusal_is : (s : Session Code) → IsParted s → (c : Command) → is_some (view_named c) ≡ true → (starving : Bool) → refusal setting s c starving ≡ refusal_of c
   unfolding refusal refusal_of
-  refusal_is s p (Command.pget j ps) e starving = λ k. first_at (p.split k) (out_of (p.shape k) (p.many k) j ps) false
-  refusal_is s p (Command.pset j ps v) e starving = λ k. first_at (p.split k) (out_of (p.shape k) (p.many k) j ps) (not (is_of_type w v))
-  refusal_is s p (Command.padd j ps v) e starving = λ k. first_at (p.split k) (out_of (p.shape k) (p.many k) j ps) (not (is_of_type w v))
-  refusal_is s p (Command.pflush j) e starving = λ k. first_at (p.split k) (not (ltb j (p.many k))) false
-  refusal_is s p (Command.pdiscard j) e starving = λ k. first_at (p.split k) (not (ltb j (p.many k))) false
-  refusal_is s p (Command.pstats j) e starving = λ k. first_at (p.split k) (not (ltb j (p.many k))) false
+  refusal_is s p (Command.pget j ps) e starving = search rules
+  refusal_is s p (Command.pset j ps v) e starving = search rules
+  refusal_is s p (Command.padd j ps v) e starving = search rules
+  refusal_is s p (Command.pflush j) e starving = search rules
+  refusal_is s p (Command.pdiscard j) e starving = search rules
+  refusal_is s p (Command.pstats j) e starving = search rules
   refusal_is s p c e starving = absurd (cc)
 
   -- a command that needs no split is refused for it
   whole_refused : (s : Session Code) → IsParted s → (c : Command) → needs_split c ≡ false → (starving : Bool) → refusal setting s c starving ≡ Some Refusal.split
   unfolding refusal
-  whole_refused s p c none starving = λ k. first_refusal (elim (p.split k) as (λ x. Bool) [ true ↦ not (none k) | false ↦ none k ]) (tests setting s c).size (tests setting s c).range (tests setting s c).value ((tests setting s c).memory && starving)
+  whole_refused s p c none starving = search rules
 
   -- what is not refused is on a view that there is, and on a block of its own
   within_flush : (j : ℕ) → first_refusal false false (not (ltb j n)) false false ≡ None → j < n
@@ -172,42 +162,34 @@ module _ {Code : Type 0} (setting : Setting Code) (ns : List ℕ) (n : ℕ) (som
     here_is j reply e = search (rules, eq-eqb)
 
     module _ (s s' : Session Code) (h : Together s s') (j : ℕ) (lt : j < n) (a : Act) (within : IsWithin (owns j) a) where
+      -- a session after the act, and its answer
+      abbrev acts : (u : Session Code) → IsParted u → Session Code × Option Reply
+      acts u parted = (next u parted j lt a within, option_map Reply.number (answered (t u parted j lt a within) a))
+
       -- an act of view i
-      acts_both : j ≡ i → Outcome (by_view setting s j a) (by_view setting s' j a) s' (Some j)
+      acts_both : j ≡ i → Outcome (acts s h.one) (acts s' h.two) s' (Some j)
       acts_both e =
-          let x = by_view_is s j a h.one.shape in
-          let y = by_view_is s' j a h.two.shape in
-          let t = acted w f (state_of_view s j) a in
-          let t' = acted w f (state_of_view s' j) a in
           let alike : AreAlike (owns j) (state_of_view s j) (state_of_view s' j) = subst (λ m. m < n → AreAlike (owns m) (state_of_view s m) (state_of_view s' m)) (sym e) h.alike lt in
-          let acts : AreAlike (owns j) t t' = alike-acted f (owns j) w (state_of_view s j) (state_of_view s' j) a within (h.one.own j lt) alike in
+          let same = alike-acted f (owns j) w (state_of_view s j) (state_of_view s' j) a within (h.one.own j lt) alike in
           inl (record {
-            together = record {
-              one = subst (λ (r : Session Code × Option Reply). IsParted r.0) (sym x) (parted-next s h.one j lt a within);
-              two = subst (λ (r : Session Code × Option Reply). IsParted r.0) (sym y) (parted-next s' h.two j lt a within);
-              alike = λ below. search (rules, there);
-            };
-            replies = ap (λ (r : Session Code × Option Reply). r.1) y ∙ ap (option_map Reply.number) (sym (alike-answered f (owns j) t t' a within acts)) ∙ sym (ap (λ (r : Session Code × Option Reply). r.1) x);
-            here = here_is j (by_view setting s j a).1 e;
+            together = record { one = parted-next s h.one j lt a within; two = parted-next s' h.two j lt a within; alike = λ below. search (rules, there) };
+            replies = ap (option_map Reply.number) (sym (alike-answered f (owns j) (t s h.one j lt a within) (t s' h.two j lt a within) a within same));
+            here = here_is j (acts s h.one).1 e;
           })
 
       -- one of another view
-      acts_one : (j ≡ i → ⊥) → Outcome (by_view setting s j a) (by_view setting s' j a) s' (Some j)
+      acts_one : (j ≡ i → ⊥) → Outcome (acts s h.one) (acts s' h.two) s' (Some j)
       acts_one ne =
-          let x = by_view_is s j a h.one.shape in
-          let t = acted w f (state_of_view s j) a in
+          let alike = λ (below : i < n). alike-trans (owns i) (alike-other s h.one j lt a within i (λ e. ne (sym e))) (h.alike below) in
           inr (record {
-            together = record {
-              one = subst (λ (r : Session Code × Option Reply). IsParted r.0) (sym x) (parted-next s h.one j lt a within);
-              two = h.two;
-              alike = λ below. subst (λ (r : Session Code × Option Reply). AreAlike (owns i) (state_of_view r.0 i) (state_of_view s' i)) (sym x)
-                  (alike-trans (owns i) (state_of_view (next s h.one j lt a within) i) (state_of_view s i) (state_of_view s' i) (alike-other s h.one j lt a within i (λ e. ne (sym e))) (h.alike below));
-            };
-            away = away_is j (by_view setting s j a).1 (ap (λ (r : Session Code × Option Reply). is_accepted r.1) x ∙ accepted_number (answered t a)) ne;
+            together = record { one = parted-next s h.one j lt a within; two = h.two; alike = alike };
+            away = away_is j (acts s h.one).1 (accepted_number (answered (t s h.one j lt a within) a)) ne;
           })
 
       acts_either : Outcome (by_view setting s j a) (by_view setting s' j a) s' (Some j)
-      acts_either = elim (cases_eq j i) [ inl e ↦ acts_both e | inr ne ↦ acts_one ne ]
+      acts_either =
+          subst (λ (r : (Session Code × Option Reply) × (Session Code × Option Reply)). Outcome r.0 r.1 s' (Some j)) (λ k. (sym (by_view_is s j a h.one.shape) k, sym (by_view_is s' j a h.two.shape) k))
+          (⊎_elim acts_both acts_one (cases_eq j i))
 
     -- the counts of a view
     counts_either : (s s' : Session Code) → Together s s' → (j : ℕ) → j < n
@@ -254,13 +236,10 @@ module _ {Code : Type 0} (setting : Setting Code) (ns : List ℕ) (n : ℕ) (som
     abbrev d : ℕ
     d = length ns
 
-    word : (s s' : Session Code) → Together s s' → (v : Option ℕ) → Outcome (s, Some (Reply.refused Refusal.word)) (s', Some (Reply.refused Refusal.word)) s' v
-    word s s' h v = both_refuse s s' Refusal.word v h
-
     read_stepped : (s s' : Session Code) → Together s s' → (o : Option Command) (x y : Bool) → o ≢ Some Command.join → Outcome (read_step setting s o x) (read_step setting s' o y) s' (named o)
     unfolding read_step
-    read_stepped s s' h None x y other = word s s' h None
-    read_stepped s s' h (Some c) x y other = search (rules, stepped, other, word)
+    read_stepped s s' h None x y other = both_refuse s s' Refusal.word None h
+    read_stepped s s' h (Some c) x y other = search (rules, stepped, other, both_refuse)
 
     empty_text : (c : Command) → [] ≡ line_of c → ⊥
     empty_text (Command.get ps) e = omega (arith, ap length e)
@@ -282,42 +261,20 @@ module _ {Code : Type 0} (setting : Setting Code) (ns : List ℕ) (n : ℕ) (som
     unfolding answered_lines
     alone starved others k m [] s s' h none = refl
     alone starved others k m (line ∷ lines) s s' h none =
-        by (line_stepped s s' h line x y none.0) (λ t. alone starved others (suc k) (suc m) lines one.0 two.0 t none.1) (λ t. alone starved others (suc k) m lines one.0 s' t none.1)
-      where
-        x : Bool
-        x = list_any (λ p. eqb p k) starved
-
-        y : Bool
-        y = list_any (λ p. eqb p m) others
-
-        one : Session Code × Option Reply
-        one = line_step setting s line x
-
-        two : Session Code × Option Reply
-        two = line_step setting s' line y
-
-        xs : List Answered
-        xs = answered_lines setting starved (suc k) lines one.0
-
-        keeps : Answered → Bool
-        keeps q = not (is_elsewhere d i q)
-
-        by : Outcome one two s' (named (read_line d line))
-            → (Together one.0 two.0 → filter (is_on d i) (answered_lines setting others (suc m) (without_others d i xs) two.0) ≡ filter (is_on d i) xs)
-            → (Together one.0 s' → filter (is_on d i) (answered_lines setting others m (without_others d i xs) s') ≡ filter (is_on d i) xs)
-            → filter (is_on d i) (answered_lines setting others m (without_others d i ((line, one.1) ∷ xs)) s') ≡ filter (is_on d i) ((line, one.1) ∷ xs)
-        by (inl both) on_both on_one =
-            let kept : keeps (line, one.1) ≡ true = ap not both.here in
-            let left : without_others d i ((line, one.1) ∷ xs) ≡ line ∷ without_others d i xs = ap (map (λ (q : Answered). q.0)) (cond-true (keeps (line, one.1)) ((line, one.1) ∷ filter keeps xs) (filter keeps xs) kept) in
-            let rest = on_both both.together in
-            ap (λ ls. filter (is_on d i) (answered_lines setting others m ls s')) left
-            ∙ (λ p. cond (is_on d i (line, both.replies p)) ((line, both.replies p) ∷ rest p) (rest p))
-        by (inr away) on_both on_one =
-            let gone : keeps (line, one.1) ≡ false = ap not away.away in
-            let left : without_others d i ((line, one.1) ∷ xs) ≡ without_others d i xs = ap (map (λ (q : Answered). q.0)) (cond-false (keeps (line, one.1)) ((line, one.1) ∷ filter keeps xs) (filter keeps xs) gone) in
-            let rest = on_one away.together in
-            ap (λ ls. filter (is_on d i) (answered_lines setting others m ls s')) left ∙ rest
-            ∙ sym (cond-false (is_on d i (line, one.1)) ((line, one.1) ∷ filter (is_on d i) xs) (filter (is_on d i) xs) (on_not_away (named (read_line d line)) one.1 away.away))
+        let x = list_any (λ (p : ℕ). eqb p k) starved in let y = list_any (λ (p : ℕ). eqb p m) others in
+        let one = line_step setting s line x in let two = line_step setting s' line y in
+        let xs = answered_lines setting starved (suc k) lines one.0 in let keeps = λ (q : Answered). not (is_elsewhere d i q) in
+        elim (line_stepped s s' h line x y none.0) [
+          | inl both ↦
+              let left : without_others d i ((line, one.1) ∷ xs) ≡ line ∷ without_others d i xs = ap (map (λ (q : Answered). q.0)) (cond-true (keeps (line, one.1)) ((line, one.1) ∷ filter keeps xs) (filter keeps xs) (ap not both.here)) in
+              let rest = alone starved others (suc k) (suc m) lines one.0 two.0 both.together none.1 in
+              ap (λ ls. filter (is_on d i) (answered_lines setting others m ls s')) left
+              ∙ (λ p. cond (is_on d i (line, both.replies p)) ((line, both.replies p) ∷ rest p) (rest p))
+          | inr away ↦
+              let left : without_others d i ((line, one.1) ∷ xs) ≡ without_others d i xs = ap (map (λ (q : Answered). q.0)) (cond-false (keeps (line, one.1)) ((line, one.1) ∷ filter keeps xs) (filter keeps xs) (ap not away.away)) in
+              ap (λ ls. filter (is_on d i) (answered_lines setting others m ls s')) left ∙ alone starved others (suc k) m lines one.0 s' away.together none.1
+              ∙ sym (cond-false (is_on d i (line, one.1)) ((line, one.1) ∷ filter (is_on d i) xs) (filter (is_on d i) xs) (on_not_away (named (read_line d line)) one.1 away.away))
+        ]
 
 -- ---- from a split on
 

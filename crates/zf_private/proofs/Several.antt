@@ -1,10 +1,10 @@
 -- The calls of several views over one backing are the steps of the definition.
-use Rattle.std.{proofs.Common.{◌≡◌, ◌≢◌, sym, ap, subst, ◌∙◌, ◌⊎◌, inl, inr, ℕ, ℤ, rules}, specs.Int.{Width}}
-use Rattle.std.proofs.lemmas.Bool.{cases_lt}
+use Rattle.std.{proofs.Common.{◌≡◌, ◌≢◌, sym, ap, subst, ◌∙◌, ◌⊎◌, ⊎_elim, ℕ, ℤ, rules}, specs.Int.{Width}}
+use Rattle.std.proofs.lemmas.Bool.{cases_lt, cases_eq}
 use Rattle.zf_base.specs.Formats.{Format}
 use Rattle.zf_cached.{specs.State.{State}, specs.Acts.{Act}}
 use Rattle.zf_cached.specs.Views.{Views, Step, state_of_view, acted, answered, stepped, IsWithin, HasOwn, AreAlike}
-use Rattle.zf_cache.{specs.Standing.{Fits, state_at}, proofs.Tags.{same_or_not}}
+use Rattle.zf_cache.{specs.Standing.{Fits, state_at}}
 use Rattle.zf_private.{specs.Standing.{Held, Own, IsSameView, IsWhole, state}, proofs.Calls.{own_state}}
 use Rattle.zf_private.{specs.Several.{AreReady, StandFor}, proofs.Alone.{there, stays, alike-other}}
 use Rattle.zf_private.proofs.Alike.{stay-acted, alike-acted, alike-answered, alike-refl}
@@ -14,16 +14,16 @@ module _ {Code : Type 0} (owned : ℕ → Type 0) where
   alike-of : (own : ℕ → Type 0) (s t : State Code) → ((b : ℕ) → own b → owned b) → AreAlike owned s t → AreAlike own s t
   alike-of own s t less h = record { lines = h.lines; held = h.held; dirty = h.dirty; counts = h.counts; values = λ b o. h.values b (less b o); codes = λ b o. h.codes b (less b o) }
 
-  pub alike-sym : (s t : State Code) → AreAlike owned s t → AreAlike owned t s
-  alike-sym s t h = record { lines = sym h.lines; held = sym h.held; dirty = sym h.dirty; counts = sym h.counts; values = λ b o. sym (h.values b o); codes = λ b o. sym (h.codes b o) }
+  alike-sym : {s t : State Code} → AreAlike owned s t → AreAlike owned t s
+  alike-sym h = record { lines = sym h.lines; held = sym h.held; dirty = sym h.dirty; counts = sym h.counts; values = λ b o. sym (h.values b o); codes = λ b o. sym (h.codes b o) }
 
-  pub alike-trans : (s t u : State Code) → AreAlike owned s t → AreAlike owned t u → AreAlike owned s u
-  alike-trans s t u h k = search rules
+  pub alike-trans : {s t u : State Code} → AreAlike owned s t → AreAlike owned t u → AreAlike owned s u
+  alike-trans h k = search rules
 
   own-alike : (s t : State Code) → AreAlike owned s t → HasOwn owned s → HasOwn owned t
   own-alike s t h own = search rules
 
-own-or-not : {X : Type 0} (v : Held X) (b : ℕ) → Own v b ⊎ (Own v b → ⊥)
+pub own-or-not : {X : Type 0} (v : Held X) (b : ℕ) → Own v b ⊎ (Own v b → ⊥)
 own-or-not v b = search (rules, cases_lt)
 
 -- a call of view i: the act a
@@ -35,7 +35,7 @@ module _ {X Code : Type 0} (value : X → ℤ) (d : ℕ) (w : Width) (views news
 
   -- which blocks a view owns stays
   own-before : (m b : ℕ) → Own (news m) b → Own (views m) b
-  own-before m b = search (rules, same_or_not, own_before)
+  own-before m b = search (rules, cases_eq, own_before)
 
   codes-stay : (b : ℕ) → (Own (views i) b → ⊥) → j b ≡ k b
   unfolding state_at
@@ -44,21 +44,16 @@ module _ {X Code : Type 0} (value : X → ℤ) (d : ℕ) (w : Width) (views news
   codes-of-other : (m b : ℕ) → m ≢ i → Own (views m) b → j b ≡ k b
   codes-of-other m b ne o = codes-stay b (λ mine. ne (ready.apart m i b o mine))
 
+  -- what holds of view i after the call, and of the others before, holds of each after it
+  each_of : (P : ℕ → Held X → Type 0) → P i (news i) → ((m : ℕ) → m ≢ i → P m (views m)) → (m : ℕ) → P m (news m)
+  each_of P here there m = ⊎_elim (λ e. subst (λ n. P n (news n)) (sym e) here) (λ ne. subst (P m) (sym (others m ne)) (there m ne)) (cases_eq m i)
+
   pub still_ready : IsWhole d (news i) → Fits value (news i).cache g j → AreReady value d news g j
   still_ready whole fits = record {
-    whole = λ m. whole_at m (same_or_not m i);
-    fits = λ m. fits_at m (same_or_not m i);
+    whole = each_of (λ m v. IsWhole d v) whole (λ m ne. ready.whole m);
+    fits = each_of (λ m v. Fits value v.cache g j) fits (λ m ne. other_codes_fit value d (views m) f g k j (ready.whole m) same (λ b o. codes-of-other m b ne o) (ready.fits m));
     apart = λ m n b o p. ready.apart m n b (own-before m b o) (own-before n b p);
   }
-    where
-      whole_at : (m : ℕ) → (m ≡ i) ⊎ (m ≢ i) → IsWhole d (news m)
-      whole_at m (inl e) = subst (λ n. IsWhole d (news n)) (sym e) whole
-      whole_at m (inr ne) = subst (IsWhole d) (sym (others m ne)) (ready.whole m)
-
-      fits_at : (m : ℕ) → (m ≡ i) ⊎ (m ≢ i) → Fits value (news m).cache g j
-      fits_at m (inl e) = subst (λ n. Fits value (news n).cache g j) (sym e) fits
-      fits_at m (inr ne) = subst (λ (v : Held X). Fits value v.cache g j) (sym (others m ne))
-          (other_codes_fit value d (views m) f g k j (ready.whole m) same (λ b o. codes-of-other m b ne o) (ready.fits m))
 
   module _ (s : Views Code) (stand : StandFor value views f k s) where
     abbrev pub st : Step
@@ -76,23 +71,18 @@ module _ {X Code : Type 0} (value : X → ℤ) (d : ℕ) (w : Width) (views news
 
     other_alike : (m : ℕ) → m ≢ i → AreAlike (Own (views m)) (state value (news m) g j) (state_of_view (stepped w f s st) m)
     other_alike m ne =
-        subst (λ (v : Held X). AreAlike (Own (views m)) (state value v g j) (state_of_view (stepped w f s st) m)) (sym (others m ne))
-        (alike-trans (Own (views m)) (state value (views m) g j) (state value (views m) f k) (state_of_view (stepped w f s st) m)
-        (alike-sym (Own (views m)) (state value (views m) f k) (state value (views m) g j) (other_codes_alike value d (views m) f g k j (ready.whole m) same (λ b o. codes-of-other m b ne o)))
-        (alike-trans (Own (views m)) (state value (views m) f k) (state_of_view s m) (state_of_view (stepped w f s st) m) (stand.alike m)
-        (alike-sym (Own (views m)) (state_of_view (stepped w f s st) m) (state_of_view s m)
-        (alike-other w f owns m ready.apart s s st (λ e. ne (sym e)) own_all (alike-refl f (Own (views m)) (state_of_view s m))))))
+        let own = Own (views m) in let mid = stand.alike m in
+        let codes = alike-sym own (other_codes_alike value d (views m) f g k j (ready.whole m) same (λ b o. codes-of-other m b ne o)) in
+        let one = alike-sym own (alike-other w f owns m ready.apart s s st (λ e. ne (sym e)) own_all (alike-refl f (Own (views m)) (state_of_view s m))) in search rules
 
     codes-stand : (b : ℕ) → j b ≡ (stepped w f s st).codes b
     unfolding state_at
-    codes-stand b = by (own-or-not (views i) b)
-      where
-        by : Own (views i) b ⊎ (Own (views i) b → ⊥) → j b ≡ (stepped w f s st).codes b
-        by (inl o) = acts_alike.codes b o
-        by (inr not) = codes-stay b not ∙ stand.same_codes b ∙ sym (stays w f owns s st b own_all not)
+    codes-stand b =
+        ⊎_elim (λ o. acts_alike.codes b o) (λ not. codes-stay b not ∙ stand.same_codes b ∙ sym (stays w f owns s st b own_all not))
+        (own-or-not (views i) b)
 
     pub stands_for : StandFor value news g j (stepped w f s st)
-    stands_for = search (rules, codes-stand, same_or_not, alike-of, own-before, acts_alike, other_alike)
+    stands_for = search (rules, codes-stand, cases_eq, alike-of, own-before, acts_alike, other_alike)
 
     pub same_answer : answered (state value (news i) g j) a ≡ answered (state_of_view (stepped w f s st) i) a
     same_answer = alike-answered f (Own (views i)) (state value (news i) g j) (state_of_view (stepped w f s st) i) a within acts_alike

@@ -1,18 +1,13 @@
-use Rattle.std.proofs.Common.{sym, ap, subst, ◌∙◌, ◌<◌, [], ◌∷◌, lit<}
-use Rattle.zf_lines.specs.Rows.{with_part}
-use Rattle.zf_cache.{specs.Kept.{HasRow, line_of}, specs.Standing.{state_of}}
+use Rattle.std.proofs.Common.{sym, ap, subst, ◌∙◌, ◌<◌, lit<}
+use Rattle.zf_cache.{specs.Kept.{HasRow}}
 use Rattle.zf_cached.specs.Acts.{Act}
-use Rattle.zf_private.{specs.Standing.{Held, block_at, place_at, state}, proofs.Others.{acted-add}}
-use Rattle.zf_private.proofs.Calls.{backed_at, values_whole, has_blocks, place_below, exists_there, acts_at, added_fits, added_state, touched_whole, does}
+use Rattle.zf_private.{specs.Standing.{Held, state}, proofs.Others.{acted-add}}
+use Rattle.zf_private.proofs.Calls.{backed_at, values_whole, has_blocks, place_below, exists_there, added, touched_whole, does_at}
 use Rattle.zf_private.proofs.private.Private.add.Goals as goal
 
 pub touch_mut-requires : goal.touch_mut-requires
 touch_mut-requires g c =
-    let e = c.place-b.ensures in (
-      lit< tt,
-      (backed_at g.B.Reading g.T.Lane.value g.T.Lane.width g.row.D _ c.args.self.now c.self.view_is c.self.invariant c.args.back.now c.args.p c.requires.sits
-          c.place-b.result.0 c.place-b.result.1 e.block e.place e.at).0,
-    )
+    let e = c.place-b.ensures in (lit< tt, (backed_at c.self.view_is c.self.invariant c.requires.sits e.block e.place e.at).0)
 
 pub returns : goal.returns
 returns g c =
@@ -21,18 +16,15 @@ returns g c =
     let f = g.B.Reading.format c.args.back.now in let k = g.B.Reading.codes c.args.back.now in let value = g.T.Lane.value in let w = g.T.Lane.width in let d = g.row.D in
     let now = c.args.self.now in let is = c.self.view_is in let whole = c.self.invariant in
     let p = c.args.p in let b = c.place-b.result.0 in let place = c.place-b.result.1 in let e = c.place-b.ensures in let sits = c.requires.sits in
-    let t = c.touch_mut.ensures.step in let touched = c.touch_mut.new.self in let r = c.dirty_value_mut-value.result.now in let sum = c.add.result in
-    let h = g.B.Reading.format c.touch_mut.new.back in let j = g.B.Reading.codes c.touch_mut.new.back in let s = state value v f k in
-    let new = record touched { lines = with_part touched.lines (line_of touched b) place 1 (sum ∷ []) } in
-    let len = ap (λ q. q.block_len) t.format ∙ (has_blocks value w d v now is whole f k sits.blocks).0 in
-    let size = subst (λ n. HasRow touched b n) (sym len) c.dirty_value_mut-value.ensures.size in
-    let within = subst (λ n. place < n) (sym len) (place_below value w d v now is whole f k p b place e.block e.place e.at) in
-    let exists = exists_there value w d v now is whole f k p b place e.block e.place e.at sits.places sits.owned in
-    let added = added_state value w f h k j s touched b place r sum c.args.v t.format t.state t.fits c.touch_mut.ensures.dirty size within exists c.dirty_value_mut-value.ensures.value c.add.ensures.value
-    (touched_whole f s b (values_whole value v.cache f k b)) in
-    let step = acts_at value w d v now is whole f k p b place e.block e.place e.at (λ m n. Act.add m n (value c.args.v)) (state_of value new h j) (added ∙ acted-add w f s b place (value c.args.v)) in
-    let fits = added_fits value w f h k j s touched b place r sum c.args.v t.format t.state t.fits c.touch_mut.ensures.dirty size within exists c.dirty_value_mut-value.ensures.value c.add.ensures.value in
-    record { does = does g.B.Reading value w d v now is whole c.args.back.now new c.touch_mut.new.back (Act.add (block_at now p) (place_at now p) (value c.args.v)) step fits t.format t.kept sits.owned }
+    let t = c.touch_mut.ensures.step in let h = g.B.Reading.format c.touch_mut.new.back in let j = g.B.Reading.codes c.touch_mut.new.back in let s = state value v f k in
+    let len = ap (λ q. q.block_len) t.format ∙ (has_blocks value d v now is whole f k sits.blocks).0 in
+    let size = subst (λ n. HasRow c.touch_mut.new.self b n) (sym len) c.dirty_value_mut-value.ensures.size in
+    let within = subst (λ n. place < n) (sym len) (place_below value d v now is whole f k p b place e.block e.place e.at) in
+    let exists = exists_there value d v now is whole f k p b place e.block e.place e.at sits.places sits.owned in
+    let told = added value w f h k j s c.touch_mut.new.self b place c.dirty_value_mut-value.result.now c.add.result c.args.v t.format t.state t.fits c.touch_mut.ensures.dirty size within exists
+    c.dirty_value_mut-value.ensures.value c.add.ensures.value (touched_whole f s b (values_whole value v.cache f k b)) in
+    let step = told.1 ∙ acted-add w f s b place (value c.args.v) in
+    record { does = does_at is whole sits e.block e.place (λ m n. Act.add m n (value c.args.v)) step told.0 t.format t.kept sits.owned }
 
 pub invariant_of-self : goal.invariant_of-self
 invariant_of-self g c = (returns g c).does.whole
