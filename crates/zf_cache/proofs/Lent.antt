@@ -1,6 +1,6 @@
 -- What a touched cache gives to read, and what it ends as once a loan of a block has ended.
-use Rattle.std.proofs.Common.{◌≡◌, refl, sym, ap, subst, ◌∙◌, ℕ, ◌<◌, ℤ, pos, Bool, true, false, List, map, length, get_or, replicate, rules}
-use Rattle.std.{specs.Bool.{OnTrue}, proofs.lemmas.List.{get_or-map, set-set, length-replicate}}
+use Rattle.std.proofs.Common.{◌≡◌, refl, sym, ap, subst, ◌∙◌, ℕ, ◌<◌, ℤ, pos, List, map, length, get_or, replicate, rules}
+use Rattle.std.{specs.Bool.{OnTrue}, proofs.lemmas.Bool.{OnTrue_from}, proofs.lemmas.List.{get_or-map, set-set, length-replicate}}
 use Rattle.zf_base.{specs.Formats.{Format, existing_of}, proofs.Formats.{get_or-existing_of_exists}}
 use Rattle.zf_cached.{specs.State.{State}, specs.Touch.{soiled, with_values}, specs.Changes.{flush, relined}}
 use Rattle.zf_lines.{specs.Rows.{line_at, over, with_line}, proofs.Sizes.{length-over}}
@@ -9,10 +9,6 @@ use Rattle.zf_cache.{specs.Rules.{IsRule}, specs.Bodies.{IsSound, ComesTo, kept_
 use Rattle.zf_cache.{specs.Standing.{values_by, state_at, FitsAt}, specs.Steps.{touch_in}}
 use Rattle.zf_cache.{proofs.Tags.{names}, proofs.Stands.{standing_at}, proofs.Touches.{state_stands, relines}}
 use Rattle.zf_cache.proofs.Sound.{line_below, writes_row, values_there}
-
-on_true : (b : Bool) {P : Type 0} → (b ≡ true → P) → OnTrue b P
-on_true true f = f refl
-on_true false f = tt
 
 module _ (place : ℕ → List ℕ → ℕ → ℕ) (may_hold : ℕ → ℕ → ℕ → Type 0) (rule : IsRule place may_hold) {X Code : Type 0} (value : X → ℤ)
     (f h : Format Code) (j : ℕ → Code) (c : Kept X) (t : Body X) (b l : ℕ) (same : h ≡ f) (sound : IsSound place value t h j) (to : ComesTo place c (kept_of t) b l) where
@@ -29,12 +25,11 @@ module _ (place : ℕ → List ℕ → ℕ → ℕ) (may_hold : ℕ → ℕ → 
   pub gets : (p : ℕ) (line : List X) (r : X) → p < h.block_len → line ≡ line_at t.lines l → r ≡ get_or line p r
       → OnTrue (f.exists b p) (value r ≡ get_or (values_by place value (kept_of t) h j b) p (pos 0))
   unfolding state_at
-  gets p line r within is read = search (rules, on_true, whole, get_or-map, get_or-existing_of_exists, here)
+  gets p line r within is read = search (rules, OnTrue_from, whole, get_or-map, get_or-existing_of_exists, here)
 
   -- the whole block, for the state that the touch has made
   pub shows : (s : State Code) (line : List X) → state_at place value (kept_of t) h j ≡ s → line ≡ line_at t.lines l → existing_of f b (map value line) ≡ s.values b
-  shows s line state is =
-      (λ i. existing_of (sym same i) b (map value (is i))) ∙ sym here ∙ ap (λ (u : State Code). u.values b) state
+  shows s line state is = search (rules, here)
 
   pub state_now : (s : State Code) → state_at place value (kept_of t) h j ≡ s → state_at place value (kept_of t) f j ≡ s
   state_now s state = ap (λ q. state_at place value (kept_of t) q j) (sym same) ∙ state

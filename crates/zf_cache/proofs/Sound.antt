@@ -1,6 +1,6 @@
 -- The fields of a cache are whole, and fit the backing.
 use Rattle.std.proofs.Common.{◌≡◌, ◌≢◌, refl, sym, ap, subst, ◌∙◌, ℕ, ◌+◌, ◌/◌, ◌%◌, ◌<◌, ◌≤◌, ℤ, Option, Some, List, map, length, set, replicate, arith, rules}
-use Rattle.std.proofs.lemmas.Bool.{cases_lt}
+use Rattle.std.proofs.lemmas.Bool.{cases_lt, cases_eq}
 use Rattle.std.proofs.lemmas.List.{length-set, length-replicate, set-set, set-get_or, get_or-set_same, get_or-set_other}
 use Rattle.zf_base.specs.Formats.{Format, existing_of, meant}
 use Rattle.zf_base.proofs.Formats.{length-existing_of, existing_of_same, get_or-existing_of_exists}
@@ -10,7 +10,7 @@ use Rattle.zf_cache.{specs.declared.body.Body.{Body}, specs.Rules.{IsRule, one_l
 use Rattle.zf_cache.specs.Kept.{line_by, Kept, IsAway, IsClean, OnlyLine, tag_at, clean_tag, dirty_tag, dirty_of}
 use Rattle.zf_cache.specs.Bodies.{IsWhole, IsSound, ComesTo, kept_of, counts_of}
 use Rattle.zf_cache.{specs.Standing.{state_at, state_of, evicted}, specs.Steps.{taken_in, touch_in}}
-use Rattle.zf_cache.proofs.Tags.{same_or_not, names, named, tag-set_same, tag-set_other}
+use Rattle.zf_cache.proofs.Tags.{names, named, tag-set_same, tag-set_other}
 use Rattle.zf_cache.proofs.Stands.{standing_at, Fit, codes_after, counts_after, empties, fits_after, dirty_below, takes_in, fits_taken, writes, fits_written, soils, fits_soiled, vals-in}
 use Rattle.zf_cache.proofs.Touches.{no_tag, fits_of, fit_of, state_stands, touches_here, touches_away}
 
@@ -20,7 +20,7 @@ IsBlank rows tags = (l : ℕ) → rows ≤ l → tag_at tags l ≡ 0
 
 -- where the tag of a line with a row changes, or a line is emptied, those without one stay empty
 pub still_blank : (rows : ℕ) (tags : List ℕ) (l x : ℕ) → l < length tags → (rows ≤ l → x ≡ 0) → IsBlank rows tags → IsBlank rows (set tags l x)
-still_blank rows tags l x lt zero blank m past = search (rules, same_or_not, tag-set_same, tag-set_other)
+still_blank rows tags l x lt zero blank m past = search (rules, cases_eq, tag-set_same, tag-set_other)
 
 module _ {X : Type 0} where
   -- fields with as many tags, and rows of the same size
@@ -30,8 +30,7 @@ module _ {X : Type 0} where
 
   -- the lines and the tags of another
   pub whole_of : (c d : Body X) (len : ℕ) → IsWhole c len → d.lines ≡ c.lines → d.tags.items ≡ c.tags.items → IsWhole d len
-  whole_of c d len w lines tags =
-      whole_as c d len w (ap length tags) (subst (λ ls. HasSize ls (length c.lines) len) (sym lines) w.size) (subst (IsBlank (length c.lines)) (sym tags) w.blank)
+  whole_of c d len w lines tags = search rules
 
   -- lines that were emptied
   pub whole_emptied : (c d : Body X) (len : ℕ) → IsWhole c len → d.lines ≡ c.lines → d.tags.items ≡ replicate (length c.tags.items) 0 → IsWhole d len
@@ -72,10 +71,10 @@ module _ (place : ℕ → List ℕ → ℕ → ℕ) (may_hold : ℕ → ℕ → 
   before_is = state_stands place value f (kept_of c) k n refl
 
   -- what the new fields and codes are gives that they are sound, and which state they stand for
-  became : (lines : List (List X)) (tags : List ℕ) (counts : Counts) (codes : ℕ → Code) → d.lines ≡ lines → d.tags.items ≡ tags → counts_of d.counts ≡ counts → k' ≡ codes
-      → length tags ≡ n → HasSize lines rows f.block_len → IsBlank rows tags → Fit place value f n lines tags codes → (t : State Code) → standing_at place value f n lines tags counts codes ≡ t
+  became : {lines : List (List X)} {tags : List ℕ} {counts : Counts} {codes : ℕ → Code} {t : State Code} → d.lines ≡ lines → d.tags.items ≡ tags → counts_of d.counts ≡ counts → k' ≡ codes
+      → length tags ≡ n → HasSize lines rows f.block_len → IsBlank rows tags → Fit place value f n lines tags codes → standing_at place value f n lines tags counts codes ≡ t
       → IsSound place value d g k' × (state_at place value (kept_of d) g k' ≡ t)
-  became lines tags counts codes el et ec ek long size blank fits t is =
+  became {lines} {tags} {codes = codes} el et ec ek long size blank fits is =
       let tags_are : length d.tags.items ≡ n = ap length et ∙ long in (
         sound_as place value c d f g k' same s.whole tags_are (subst (λ ls. HasSize ls rows f.block_len) (sym el) size) (subst (IsBlank rows) (sym et) blank)
             (subst (λ ls. Fit place value f n ls d.tags.items k') (sym el) (subst (λ ts. Fit place value f n lines ts k') (sym et) (subst (Fit place value f n lines tags) (sym ek) fits))),
@@ -84,7 +83,7 @@ module _ (place : ℕ → List ℕ → ℕ → ℕ) (may_hold : ℕ → ℕ → 
 
   -- a block that is not in the line where it is looked for is in none, also once that line is empty
   pub none_in : (b l : ℕ) → place n c.tags.items b ≡ l → l < n → tag_at c.tags.items l / 2 ≢ b + 1 → IsAway (set c.tags.items l 0) b
-  none_in b l at lt ne m e = search (rules, same_or_not, tag-set_same, named, tag-set_other)
+  none_in b l at lt ne m e = search (rules, cases_eq, tag-set_same, named, tag-set_other)
 
   module _ (l : ℕ) (lt : l < n) where
     pub evicts : (o : Option ℕ) → dirty_of (tag_at c.tags.items l) ≡ o → d.lines ≡ c.lines → d.tags.items ≡ set c.tags.items l 0
@@ -92,9 +91,8 @@ module _ (place : ℕ → List ℕ → ℕ → ℕ) (may_hold : ℕ → ℕ → 
         → k' ≡ codes_after place value f n may_hold rule c.lines c.tags.items (counts_of c.counts) k fit l lt o
         → IsSound place value d g k' × (state_at place value (kept_of d) g k' ≡ evicted f (state_at place value (kept_of c) f k) l)
     evicts o dirty el et ec ek =
-        became c.lines (set c.tags.items l 0) _ _ el et ec ek (length-set c.tags.items l 0) s.whole.size (still_blank rows c.tags.items l 0 lt (λ past. refl) s.whole.blank)
+        became el et ec ek (length-set c.tags.items l 0) s.whole.size (still_blank rows c.tags.items l 0 lt (λ past. refl) s.whole.blank)
         (fits_after place value f n may_hold rule c.lines c.tags.items (counts_of c.counts) k fit l lt o dirty)
-        (evicted f (state_at place value (kept_of c) f k) l)
         (empties place value f n may_hold rule c.lines c.tags.items (counts_of c.counts) k fit l lt o dirty ∙ ap (λ t. evicted f t l) (sym before_is))
 
     pub evicts_below : (b : ℕ) → dirty_of (tag_at c.tags.items l) ≡ Some b → b < f.blocks
@@ -106,21 +104,17 @@ module _ (place : ℕ → List ℕ → ℕ → ℕ) (may_hold : ℕ → ℕ → 
           → counts_of d.counts ≡ record (counts_of c.counts) { misses = risen c.counts.misses } → k' ≡ k
           → IsSound place value d g k' × (state_at place value (kept_of d) g k' ≡ taken_in (state_at place value (kept_of c) f k) l b)
       takes here may none away loaded below el et ec ek =
-          became (set c.lines l row) (set c.tags.items l (clean_tag b)) (record (counts_of c.counts) { misses = risen c.counts.misses }) k el et ec ek (length-set c.tags.items l (clean_tag b))
-          (HasSize-set c.lines rows f.block_len l row s.whole.size here long)
+          became el et ec ek (length-set c.tags.items l (clean_tag b)) (HasSize-set c.lines rows f.block_len l row s.whole.size here long)
           (still_blank rows c.tags.items l (clean_tag b) lt (λ past. absurd (omega (arith, past, here))) s.whole.blank)
           (fits_taken place value f n may_hold rule c.lines c.tags.items (counts_of c.counts) k fit l lt b here row may none away loaded below)
-          (taken_in (state_at place value (kept_of c) f k) l b)
           (takes_in place value f n may_hold rule c.lines c.tags.items (counts_of c.counts) k fit l lt b here row may none away loaded ∙ ap (λ t. taken_in t l b) (sym before_is))
 
       pub writes_row : tag_at c.tags.items l ≡ dirty_tag b → d.lines ≡ set c.lines l row → d.tags.items ≡ c.tags.items → counts_of d.counts ≡ counts_of c.counts → k' ≡ k
           → IsSound place value d g k' × (state_at place value (kept_of d) g k' ≡ with_values (state_at place value (kept_of c) f k) b (existing_of f b (map value row)))
       writes_row is el et ec ek =
           let here : l < length c.lines = row_there c f.block_len s.whole l (omega (arith, is)) in
-          became (set c.lines l row) c.tags.items (counts_of c.counts) k el et ec ek refl
-          (HasSize-set c.lines rows f.block_len l row s.whole.size here long) s.whole.blank
+          became el et ec ek refl (HasSize-set c.lines rows f.block_len l row s.whole.size here long) s.whole.blank
           (fits_written place value f n may_hold rule c.lines c.tags.items (counts_of c.counts) k fit l lt b here row is)
-          (with_values (state_at place value (kept_of c) f k) b (existing_of f b (map value row)))
           (writes place value f n may_hold rule c.lines c.tags.items (counts_of c.counts) k fit l lt b here row is ∙ ap (λ t. with_values t b (existing_of f b (map value row))) (sym before_is))
 
     pub soils_line : (b : ℕ) → tag_at c.tags.items l / 2 ≡ b + 1 → d.lines ≡ c.lines → d.tags.items ≡ set c.tags.items l (dirty_tag b)
@@ -128,10 +122,9 @@ module _ (place : ℕ → List ℕ → ℕ → ℕ) (may_hold : ℕ → ℕ → 
         → IsSound place value d g k' × (state_at place value (kept_of d) g k' ≡ soiled (state_at place value (kept_of c) f k) b)
     soils_line b half el et ec ek =
         let here : l < length c.lines = row_there c f.block_len s.whole l (omega (arith, half)) in
-        became c.lines (set c.tags.items l (dirty_tag b)) (counts_of c.counts) k el et ec ek (length-set c.tags.items l (dirty_tag b)) s.whole.size
+        became el et ec ek (length-set c.tags.items l (dirty_tag b)) s.whole.size
         (still_blank rows c.tags.items l (dirty_tag b) lt (λ past. absurd (omega (arith, past, here))) s.whole.blank)
         (fits_soiled place value f n may_hold rule c.lines c.tags.items (counts_of c.counts) k fit l lt b half)
-        (soiled (state_at place value (kept_of c) f k) b)
         (soils place value f n may_hold rule c.lines c.tags.items (counts_of c.counts) k fit l lt b half ∙ ap (λ t. soiled t b) (sym before_is))
 
   pub hits_block : (b l : ℕ) → tag_at c.tags.items l / 2 ≡ b + 1 → d.lines ≡ c.lines → d.tags.items ≡ c.tags.items
@@ -139,8 +132,7 @@ module _ (place : ℕ → List ℕ → ℕ → ℕ) (may_hold : ℕ → ℕ → 
       → IsSound place value d g k' × (state_at place value (kept_of d) g k' ≡ touch_in f (state_at place value (kept_of c) f k) l b)
   unfolding hit
   hits_block b l half el et ec ek =
-      became c.lines c.tags.items (record (counts_of c.counts) { hits = risen c.counts.hits }) k el et ec ek refl s.whole.size s.whole.blank fit
-      (touch_in f (state_at place value (kept_of c) f k) l b)
+      became el et ec ek refl s.whole.size s.whole.blank fit
       (touches_here f before b l (names (tag_at c.tags.items l) b half) ∙ ap (λ t. touch_in f t l b) (sym before_is))
 
 -- a line emptied, and the block taken in, is a touch of a block that was not there
@@ -197,8 +189,8 @@ pub existing_of-set : {Code : Type 0} (f : Format Code) (b : ℕ) (xs : List ℤ
     → existing_of f b (set xs p v) ≡ existing_of f b (set (existing_of f b xs) p v)
 existing_of-set f b xs p v long lt =
     existing_of_same f b (set xs p v) (set (existing_of f b xs) p v) (λ q h e.
-    search (rules, same_or_not, get_or-set_same, length-existing_of, get_or-set_other, get_or-existing_of_exists))
+    search (rules, cases_eq, get_or-set_same, length-existing_of, get_or-set_other, get_or-existing_of_exists))
 
 -- nothing is dirty where a clean block comes into a line
 pub stays_clean : {X : Type 0} (c d : Kept X) (l b : ℕ) → l < length c.tags → IsClean c → d.tags ≡ set c.tags l (clean_tag b) → IsClean d
-stays_clean c d l b lt clean tags m = search (rules, same_or_not, tag-set_same, tag-set_other)
+stays_clean c d l b lt clean tags m = search (rules, cases_eq, tag-set_same, tag-set_other)

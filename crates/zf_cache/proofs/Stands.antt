@@ -1,17 +1,17 @@
 -- What becomes of the state that a cache and its backing stand for, when a line changes. The number of lines is n, and the line of
 -- block b is `place n tags b`.
 use Rattle.std.proofs.Common.{◌≡◌, ◌≢◌, ◌⊎◌, inl, inr, refl, sym, ap, subst, ◌∙◌, ℕ, ◌+◌, ◌/◌, ◌<◌, ◌==◌, ℤ, Bool, true, false, Option, Some, None, List, [], map, length, set, eq-eqb, rules}
-use Rattle.std.proofs.lemmas.Bool.{ne_eqb}
+use Rattle.std.proofs.lemmas.Bool.{ne_eqb, cases_eq}
 use Rattle.std.proofs.lemmas.List.{get_or-set_same, get_or-set_other, length-set}
 use Rattle.zf_base.specs.Formats.{Format, existing_of, meant, encoded, with_at}
 use Rattle.zf_base.proofs.Formats.{with_at-same, with_at-other, encoded-existing_of}
 use Rattle.zf_cached.{specs.State.{Counts, State, is_block, risen}, proofs.States.{same_state}}
 use Rattle.zf_cached.specs.Touch.{write_back, write_back_dirty, write_back_line, soiled, with_values}
-use Rattle.zf_cached.proofs.Caching.{is_block-some}
+use Rattle.zf_cached.proofs.Caching.{is_block-some, write_back_line_by}
 use Rattle.zf_lines.specs.Rows.{line_at}
 use Rattle.zf_cache.specs.Kept.{IsIn, IsAway, tag_at, block_in, clean_tag, dirty_tag, dirty_of}
 use Rattle.zf_cache.{specs.Rules.{IsRule, one_line}, specs.Standing.{evicted}, specs.Steps.{taken_in}}
-use Rattle.zf_cache.proofs.Tags.{even, same_or_not, is_or_not, names, named, names-clean, names-dirty, is_block-other, dirty_of-some, dirty_of-none, tag-set_same, tag-set_other}
+use Rattle.zf_cache.proofs.Tags.{even, is_or_not, names, named, names-clean, names-dirty, is_block-other, dirty_of-some, dirty_of-none, tag-set_same, tag-set_other}
 
 -- ---- the definitions of write-back, case by case
 
@@ -90,7 +90,7 @@ module _ (place : ℕ → List ℕ → ℕ → ℕ) {X Code : Type 0} (value : X
 
     pub whereabouts : IsIn tags l b ⊎ (IsElsewhere ⊎ IsAway tags b)
     whereabouts = elim (is_or_not (block_in (tag_at tags (place n tags b))) b) [
-      | inl is ↦ elim (same_or_not (place n tags b) l) [
+      | inl is ↦ elim (cases_eq (place n tags b) l) [
         | inl at ↦ inl (ap (λ j. block_in (tag_at tags j)) (sym at) ∙ is)
         | inr ne ↦ inr (inl (record { line = place n tags b; other = ne; there = is }))
       ]
@@ -109,8 +109,7 @@ module _ (place : ℕ → List ℕ → ℕ → ℕ) {X Code : Type 0} (value : X
   module _ (lines lines' : List (List X)) (tags tags' : List ℕ) (k k' : ℕ → Code) (b : ℕ) (same : k' b ≡ k b) where
     pub vals-stay : (l : ℕ) → place n tags b ≡ l → place n tags' b ≡ l → IsIn tags l b → tag_at tags' l ≡ tag_at tags l → line_at lines' l ≡ line_at lines l
         → vals lines' tags' k' b ≡ vals lines tags k b
-    vals-stay l at at' is tag row =
-        vals-in lines' tags' k' b l at' (ap block_in tag ∙ is) ∙ ap (λ r. existing_of f b (map value r)) row ∙ sym (vals-in lines tags k b l at is)
+    vals-stay l at at' is tag row = search (rules, vals-in)
 
     pub vals-away : IsAway tags b → IsAway tags' b → vals lines' tags' k' b ≡ vals lines tags k b
     vals-away out out' = vals-out lines' tags' k' b (out' (place n tags' b)) ∙ ap (meant f b) same ∙ sym (vals-out lines tags k b (out (place n tags b)))
@@ -161,7 +160,7 @@ module _ (place : ℕ → List ℕ → ℕ → ℕ) {X Code : Type 0} (value : X
       away-emptied b out m e = out m (was_in m b e)
 
       emptied-held : (m : ℕ) → block_in (tag_at emptied m) ≡ with_at s.held l None m
-      emptied-held m = search (rules, same_or_not, tag-emptied, with_at-same, tag-set_other, with_at-other)
+      emptied-held m = search (rules, cases_eq, tag-emptied, with_at-same, tag-set_other, with_at-other)
 
       -- a block in another line stays there
       still-in : (m b : ℕ) → m ≢ l → IsIn tags m b → place n emptied b ≡ m
@@ -182,20 +181,10 @@ module _ (place : ℕ → List ℕ → ℕ → ℕ) {X Code : Type 0} (value : X
         undirty b is = ne_eqb (tag_at tags (place n tags b)) (dirty_tag b) (not_dirty b (placed l b is))
 
         kept-back : write_back_line f s l ≡ s
-        kept-back = by (block_in (tag_at tags l)) refl
-          where
-            by : (o : Option ℕ) → block_in (tag_at tags l) ≡ o → write_back_line f s l ≡ s
-            by None e = write_back_line-none f s l e
-            by (Some b) e = write_back_line-some f s l b e ∙ write_back_dirty-false f s b (undirty b e)
+        kept-back = write_back_line_by f s l (λ t. t ≡ s) (λ b e dirty. absurd (let clean = undirty b e in cc)) (λ b e dirty. refl) (λ e. refl)
 
         clean-dirty : (b : ℕ) → soiled_in emptied b ≡ soiled_in tags b
-        clean-dirty b = elim (whereabouts tags placed l b) [
-          | inl is ↦ dirty-out emptied b (out-emptied b is (place n emptied b)) ∙ sym (undirty b is)
-          | inr rest ↦ elim rest [
-            | inl m ↦ elsewhere-dirty m.line b m.other m.there
-            | inr out ↦ dirty-away tags emptied b out (away-emptied b out)
-          ]
-        ]
+        clean-dirty b = search (rules, whereabouts, dirty-out, out-emptied, undirty, elsewhere-dirty, dirty-away, away-emptied)
 
         clean-values : (b : ℕ) → vals lines emptied k b ≡ vals lines tags k b
         clean-values b = search (rules, whereabouts, vals-out, out-emptied, undirty_values, not_dirty, elsewhere-values, vals-away, away-emptied)
@@ -253,26 +242,11 @@ module _ (place : ℕ → List ℕ → ℕ → ℕ) {X Code : Type 0} (value : X
         soiled-dirty a = search (rules, whereabouts, dirty-out, out-emptied, with_at-same, only, elsewhere-dirty, with_at-other, other)
 
         soiled-values : (a : ℕ) → vals lines emptied k' a ≡ with_at s.values b (meant f b (encoded f b (s.values b))) a
-        soiled-values a =
-            let v = meant f b (encoded f b (s.values b)) in
-            elim (whereabouts tags placed l a) [
-              | inl e ↦ ap (vals lines emptied k') (only a e) ∙ vals-out lines emptied k' b (out-emptied b there (place n emptied b)) ∙ ap (meant f b) (with_at-same k b code ∙ sym same-code)
-                  ∙ sym (with_at-same s.values b v) ∙ ap (with_at s.values b v) (sym (only a e))
-              | inr rest ↦ elim rest [
-                | inl m ↦
-                    let ne = other a m.line m.other m.there in
-                    elsewhere-values k' m.line a m.other m.there (with_at-other k b code a ne) ∙ sym (with_at-other s.values b v a ne)
-                | inr out ↦
-                    vals-away lines lines tags emptied k k' a (with_at-other k b code a (apart a out)) out (away-emptied a out) ∙ sym (with_at-other s.values b v a (apart a out))
-              ]
-            ]
+        soiled-values a = search (rules, whereabouts, only, vals-out, out-emptied, with_at-same, same-code, elsewhere-values, with_at-other, other, vals-away, away-emptied, apart)
 
         pub empties_dirty : standing_at lines emptied (record counts { writes = risen counts.writes }) k' ≡ evicted f s l
         unfolding evicted write_back
-        empties_dirty =
-            same_state (standing_at lines emptied (record counts { writes = risen counts.writes }) k') (record (write_back f s b) { held = with_at s.held l None })
-            refl emptied-held soiled-dirty soiled-values (λ a. ap (λ (c : Code). with_at k b c a) (sym same-code)) refl
-            ∙ ap (λ (t : State Code). record t { held = with_at t.held l None }) (sym written-back)
+        empties_dirty = search (rules, same_state, emptied-held, soiled-dirty, soiled-values, same-code, written-back)
 
         pub fits_dirty : Fit lines emptied k'
         fits_dirty = fits_emptied k' (λ a off. with_at-other k b code a (λ e. off (there ∙ ap Some (sym e))))
@@ -338,13 +312,13 @@ module _ (place : ℕ → List ℕ → ℕ → ℕ) {X Code : Type 0} (value : X
           nowhere a e = none_named a (sym (ap block_in zero_there) ∙ e)
 
           placed-taken : IsPlaced tags'
-          placed-taken m a e = elim (same_or_not m l) [
+          placed-taken m a e = elim (cases_eq m l) [
             | inl at ↦
                 let is : a ≡ b = only-in a (ap (λ j. block_in (tag_at tags' j)) (sym at) ∙ e) in
-                ap (place n tags') is ∙ rule.found n tags' b l may is-in (λ j there. elim (same_or_not j l) [ inl same ↦ same | inr off ↦ absurd (none j (before j b off there)) ]) ∙ sym at
+                ap (place n tags') is ∙ rule.found n tags' b l may is-in (λ j there. elim (cases_eq j l) [ inl same ↦ same | inr off ↦ absurd (none j (before j b off there)) ]) ∙ sym at
             | inr off ↦
                 let was = before m a off e in
-                rule.found n tags' a m (subst (may_hold n a) (placed m a was) (rule.allowed n tags a)) e (λ j there. elim (same_or_not j l) [
+                rule.found n tags' a m (subst (may_hold n a) (placed m a was) (rule.allowed n tags a)) e (λ j there. elim (cases_eq j l) [
                   | inl same ↦
                       let is : a ≡ b = only-in a (ap (λ j. block_in (tag_at tags' j)) (sym same) ∙ there) in
                       absurd (none m (was ∙ ap Some is))
@@ -359,25 +333,25 @@ module _ (place : ℕ → List ℕ → ℕ → ℕ) {X Code : Type 0} (value : X
           again m a ne e = placed-taken m a (ap block_in (tag-other m ne) ∙ e)
 
           taken-dirty : (a : ℕ) → soiled_in tags' a ≡ soiled_in tags a
-          taken-dirty a = search (rules, whereabouts, nowhere, dirty-stay, again, tag-other, same_or_not, dirty-in, placed-taken)
+          taken-dirty a = search (rules, whereabouts, nowhere, dirty-stay, again, tag-other, cases_eq, dirty-in, placed-taken)
 
           taken-values : (a : ℕ) → vals rows tags' k a ≡ vals lines tags k a
-          taken-values a = search (rules, whereabouts, nowhere, vals-stay, again, tag-other, row-other, same_or_not, vals-in)
+          taken-values a = search (rules, whereabouts, nowhere, vals-stay, again, tag-other, row-other, cases_eq, vals-in)
 
           pub takes_in : standing_at rows tags' (record counts { misses = risen counts.misses }) k ≡ taken_in s l b
           unfolding taken_in
-          takes_in = search (rules, same_state, same_or_not, is-in, with_at-same, tag-other, with_at-other, taken-dirty, taken-values)
+          takes_in = search (rules, same_state, cases_eq, is-in, with_at-same, tag-other, with_at-other, taken-dirty, taken-values)
 
           pub fits_taken : b < f.blocks → Fit rows tags' k
           fits_taken below = record {
             own = λ m a e. (
               placed-taken m a e,
-              elim (same_or_not m l) [
+              elim (cases_eq m l) [
                 | inl at ↦ subst (λ j. j < f.blocks) (sym (only-in a (ap (λ j. block_in (tag_at tags' j)) (sym at) ∙ e))) below
                 | inr off ↦ (fit.own m a (before m a off e)).1
               ],
             );
-            clean = λ m a e. search (rules, same_or_not, tag-same, in-after, row-other, tag-other);
+            clean = λ m a e. search (rules, cases_eq, tag-same, in-after, row-other, tag-other);
             room = room-rows;
           }
 
@@ -389,24 +363,10 @@ module _ (place : ℕ → List ℕ → ℕ → ℕ) {X Code : Type 0} (value : X
 
           pub writes : standing_at rows tags counts k ≡ with_values s b (existing_of f b (map value row))
           unfolding with_values
-          writes =
-              let v = existing_of f b (map value row) in
-              same_state (standing_at rows tags counts k) (record s { values = with_at s.values b v }) refl (λ m. refl) (λ a. refl)
-              (λ a. elim (same_or_not a b) [
-                | inl e ↦ ap (vals rows tags k) e ∙ vals-in rows tags k b l (placed l b in-it) in-it ∙ ap (λ r. existing_of f b (map value r)) row-same
-                    ∙ sym (with_at-same s.values b v) ∙ ap (with_at s.values b v) (sym e)
-                | inr ne ↦ elim (whereabouts tags placed l a) [
-                  | inl at ↦ let both : Some a ≡ Some b = sym at ∙ in-it in let same : a ≡ b = cc in absurd (ne same)
-                  | inr rest ↦ elim rest [
-                    | inl m ↦ vals-stay lines rows tags tags k k a refl m.line (placed m.line a m.there) (placed m.line a m.there) m.there refl (row-other m.line m.other)
-                    | inr out ↦ vals-away lines rows tags tags k k a refl out out
-                  ] ∙ sym (with_at-other s.values b v a ne)
-                ]
-              ])
-              (λ a. refl) refl
+          writes = search (rules, same_state, cases_eq, vals-in, in-it, row-same, with_at-same, whereabouts, vals-stay, row-other, vals-away, with_at-other)
 
           pub fits_written : Fit rows tags k
-          fits_written = search (rules, own, same_or_not, row-other, room-rows)
+          fits_written = search (rules, own, cases_eq, row-other, room-rows)
 
       -- ---- block b, which is in line l, becomes dirty
 
@@ -424,7 +384,7 @@ module _ (place : ℕ → List ℕ → ℕ → ℕ) {X Code : Type 0} (value : X
         held-here = names (tag_at tags l) b half
 
         same-block : (m : ℕ) → block_in (tag_at marked m) ≡ block_in (tag_at tags m)
-        same-block m = search (rules, same_or_not, mark-same, names-dirty, held-here, mark-other)
+        same-block m = search (rules, cases_eq, mark-same, names-dirty, held-here, mark-other)
 
         placed-marked : IsPlaced marked
         placed-marked = still_placed tags marked placed (λ m a e. sym (same-block m) ∙ e)
@@ -433,17 +393,7 @@ module _ (place : ℕ → List ℕ → ℕ → ℕ) {X Code : Type 0} (value : X
         now-in m a e = placed-marked m a (same-block m ∙ e)
 
         marked-dirty : (a : ℕ) → soiled_in marked a ≡ with_at s.dirty b true a
-        marked-dirty a = elim (same_or_not a b) [
-          | inl e ↦ ap (soiled_in marked) e ∙ dirty-in marked b l (now-in l b held-here) ∙ eq-eqb (tag_at marked l) (dirty_tag b) mark-same
-              ∙ sym (with_at-same s.dirty b true) ∙ ap (with_at s.dirty b true) (sym e)
-          | inr ne ↦ elim (whereabouts tags placed l a) [
-            | inl at ↦ let both : Some a ≡ Some b = sym at ∙ held-here in let same : a ≡ b = cc in absurd (ne same)
-            | inr rest ↦ elim rest [
-              | inl m ↦ dirty-stay tags marked a m.line (placed m.line a m.there) (now-in m.line a m.there) (mark-other m.line m.other)
-              | inr out ↦ dirty-away tags marked a out (λ m e. out m (sym (same-block m) ∙ e))
-            ] ∙ sym (with_at-other s.dirty b true a ne)
-          ]
-        ]
+        marked-dirty a = search (rules, cases_eq, dirty-in, now-in, held-here, eq-eqb, mark-same, with_at-same, whereabouts, dirty-stay, mark-other, dirty-away, same-block, with_at-other)
 
         marked-values : (a : ℕ) → vals lines marked k a ≡ vals lines tags k a
         marked-values a = search (rules, is_or_not, vals-in, now-in, same-block, away, vals-away)
@@ -455,7 +405,7 @@ module _ (place : ℕ → List ℕ → ℕ → ℕ) {X Code : Type 0} (value : X
         pub fits_soiled : Fit lines marked k
         fits_soiled = record {
           own = λ m a e. (placed-marked m a e, (fit.own m a (sym (same-block m) ∙ e)).1);
-          clean = λ m a e. search (rules, same_or_not, mark-same, mark-other);
+          clean = λ m a e. search (rules, cases_eq, mark-same, mark-other);
           room = fit.room;
         }
 

@@ -1,17 +1,17 @@
 -- The calls that take no backing, as steps of the state over any backing; and what fits everything.
-use Rattle.std.proofs.Common.{◌≡◌, refl, sym, ap, subst, ◌∙◌, ℕ, zero, suc, ◌%◌, ◌<◌, ◌==◌, ℤ, false, Option, Some, None, List, map, length, replicate, inl, inr, arith}
+use Rattle.std.proofs.Common.{◌≡◌, refl, sym, ap, subst, ◌∙◌, ℕ, zero, suc, ◌%◌, ◌<◌, ◌==◌, ℤ, false, List, map, length, replicate, inl, inr, arith}
 use Rattle.std.{proofs.lemmas.Bool.{ne_eqb, cases_lt}, proofs.lemmas.List.{length-replicate, get_or_past}}
 use Rattle.zf_base.specs.Formats.{Format, existing_of}
-use Rattle.zf_cached.{specs.State.{Counts, State}, specs.Touch.{write_back_line, with_values}}
+use Rattle.zf_cached.{specs.State.{State}, specs.Touch.{write_back_line, with_values}}
 use Rattle.zf_cached.specs.Changes.{write_back_lines, flush, emptied, discard, relined}
-use Rattle.zf_cached.{proofs.States.{same_state}, specs.Placing.{IsDirect}}
+use Rattle.zf_cached.{proofs.States.{same_state}, proofs.Caching.{write_back_line_by}, specs.Placing.{IsDirect}}
 use Rattle.zf_lines.specs.Rows.{line_at, over_part, with_part}
 use Rattle.zf_cache.specs.Kept.{Kept, IsClean, IsDirty, IsEmpty, line_of, tag_at, block_in, dirty_tag}
 use Rattle.zf_cache.{specs.Rules.{one_line, one_line_rule}, specs.Loans.{StandsFor}}
 use Rattle.zf_cache.specs.Standing.{state_at, state_of, FitsAt, Fits, HasRoomAt, HasRoom}
-use Rattle.zf_cache.proofs.Stands.{standing_at, standing, Fit, write_back_line-none, write_back_line-some, write_back_dirty-false, undirty_values, writes, fits_written}
+use Rattle.zf_cache.proofs.Stands.{standing_at, standing, Fit, undirty_values, writes, fits_written}
 use Rattle.zf_cache.proofs.Rooms.{room_stays}
-use Rattle.zf_cache.proofs.Touches.{no_tag, state_stands, state_is, fit_of, fits_of, fits_empty, all_meant_at, all_meant, discards}
+use Rattle.zf_cache.proofs.Touches.{no_tag, state_stands, state_is, fit_of, fits_of, fits_empty, all_meant, discards, relines}
 
 module _ (place : ℕ → List ℕ → ℕ → ℕ) {X Code : Type 0} (value : X → ℤ) (f : Format Code) (k : ℕ → Code) where
   empty_count : (c : Kept X) (n : ℕ) → IsEmpty c n → length c.tags ≡ n
@@ -32,14 +32,9 @@ module _ (place : ℕ → List ℕ → ℕ → ℕ) {X Code : Type 0} (value : X
       let n = length c.tags in
       state_stands place value f d k n (empty_count d n e)
       ∙ (λ i. standing_at place value f n d.lines (e i) (counts i) k)
-      ∙ lines_apart n (d.lines) (c.lines) c.counts
+      ∙ relines place value f n c.lines c.counts k n d.lines
       ∙ discards place value f n c.lines c.counts k c.tags (fit_of place value f c k n refl fits)
       ∙ ap (discard f) (sym (state_stands place value f c k n refl))
-    where
-      lines_apart : (n : ℕ) (xs ys : List (List X)) (counts : Counts) → standing_at place value f n xs (replicate n 0) counts k ≡ standing_at place value f n ys (replicate n 0) counts k
-      lines_apart n xs ys counts =
-          same_state (standing_at place value f n xs (replicate n 0) counts k) (standing_at place value f n ys (replicate n 0) counts k) refl (λ l. refl) (λ b. refl)
-          (λ b. all_meant_at place value f n xs counts k b ∙ sym (all_meant_at place value f n ys counts k b)) (λ b. refl) refl
 
 -- ---- where each block has one line
 
@@ -58,13 +53,12 @@ module _ {X Code : Type 0} (value : X → ℤ) (f : Format Code) (k : ℕ → Co
   unfolding flush write_back_lines
   flush_clean s clean = ap emptied (all s.lines)
     where
-      one : (l : ℕ) (o : Option ℕ) → s.held l ≡ o → write_back_line f s l ≡ s
-      one l None e = write_back_line-none f s l e
-      one l (Some b) e = write_back_line-some f s l b e ∙ write_back_dirty-false f s b (clean b)
+      one : (l : ℕ) → write_back_line f s l ≡ s
+      one l = write_back_line_by f s l (λ t. t ≡ s) (λ b e dirty. absurd (let is = clean b in cc)) (λ b e dirty. refl) (λ e. refl)
 
       all : (m : ℕ) → write_back_lines f s m ≡ s
       all zero = refl
-      all (suc m) = ap (λ (t : State Code). write_back_line f t m) (all m) ∙ one m (s.held m) refl
+      all (suc m) = ap (λ (t : State Code). write_back_line f t m) (all m) ∙ one m
 
   pub relined_clean : (c d : Kept X) (n : ℕ) → IsClean c → Fits value c f k → IsEmpty d n → d.counts ≡ c.counts → state_of value d f k ≡ relined f (state_of value c f k) n
   unfolding relined emptied
@@ -88,12 +82,9 @@ module _ {X Code : Type 0} (value : X → ℤ) (f : Format Code) (k : ℕ → Co
       let m = length c.tags in let l = line_of c b in let row = over_part (line_at c.lines l) a n ws in
       let d : Kept X = record c { lines = with_part c.lines l a n ws } in
       let fit = fit_of one_line value f c k m refl fits in
-      let lt : l < m = inside c l (dirty_tag b) dirty (omega arith) in
+      let lt : l < m = elim (cases_lt l m) [ inl lt ↦ lt | inr ge ↦ let none = get_or_past c.tags l 0 ge in absurd (omega (arith, dirty, none)) ] in
       record {
         state = state_is value f d k m refl ∙ writes one_line value f m IsDirect one_line_rule c.lines c.tags c.counts k fit l lt b here row dirty
             ∙ ap (λ (s : State Code). with_values s b (existing_of f b (map value row))) (sym (state_is value f c k m refl));
         fits = fits_of one_line value f d k m refl (fits_written one_line value f m IsDirect one_line_rule c.lines c.tags c.counts k fit l lt b here row dirty);
       }
-    where
-      inside : (c : Kept X) (l t : ℕ) → tag_at c.tags l ≡ t → 0 < t → l < length c.tags
-      inside c l t e some = elim (cases_lt l (length c.tags)) [ inl lt ↦ lt | inr ge ↦ let none = get_or_past c.tags l 0 ge in absurd (omega (arith, e, none)) ]

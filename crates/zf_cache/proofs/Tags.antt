@@ -1,19 +1,13 @@
 -- What tags name.
-use Rattle.std.proofs.Common.{◌≡◌, ◌≢◌, ◌⊎◌, inl, inr, refl, sym, ap, ◌∙◌, ℕ, zero, suc, ◌+◌, ◌-◌, ◌/◌, ◌%◌, ◌^◌, ◌<◌, ◌≤◌, ◌==◌, true, false, Option, Some, None, List, [], ◌∷◌, length, set, replicate, arith, rules}
-use Rattle.std.{proofs.lemmas.Bool.{ne_eqb}, proofs.lemmas.Nat.{pow_pos, and_mask}, specs.Int.Bits.{bit_and}}
-use Rattle.std.{proofs.Math.Pow.{pow_mono}, proofs.lemmas.List.{get_or-set_same, get_or-set_other}}
+use Rattle.std.proofs.Common.{◌≡◌, ◌≢◌, ◌⊎◌, inl, inr, refl, sym, ap, ◌∙◌, ℕ, zero, suc, ◌+◌, ◌-◌, ◌/◌, ◌%◌, ◌^◌, ◌<◌, ◌≤◌, ◌==◌, true, false, Option, Some, None, List, length, set, replicate, arith, rules}
+use Rattle.std.{proofs.lemmas.Bool.{ne_eqb, cases_eq}, proofs.lemmas.Nat.{pow_pos, and_mask}, specs.Int.Bits.{bit_and}}
+use Rattle.std.{proofs.Math.Pow.{pow_mono}, proofs.lemmas.List.{get_or-set_same, get_or-set_other, ext_get_or, length-replicate, get_or-replicate}}
 use Rattle.zf_cached.specs.State.{is_block}
 use Rattle.zf_cache.specs.Kept.{tag_at, one_less, block_in, clean_tag, dirty_tag, dirty_of, IsLineCount}
 
-pub same_or_not : (a b : ℕ) → (a ≡ b) ⊎ (a ≢ b)
-same_or_not zero zero = inl refl
-same_or_not zero (suc b) = inr (λ e. omega (arith, e))
-same_or_not (suc a) zero = inr (λ e. omega (arith, e))
-same_or_not (suc a) (suc b) = elim (same_or_not a b) [ inl e ↦ inl (ap suc e) | inr n ↦ inr (λ e. let same : a ≡ b = omega (arith, e) in n same) ]
-
 pub is_or_not : (o : Option ℕ) (b : ℕ) → (o ≡ Some b) ⊎ (o ≢ Some b)
 is_or_not None b = inr (λ e. cc)
-is_or_not (Some a) b = elim (same_or_not a b) [ inl e ↦ inl (ap Some e) | inr n ↦ inr (λ e. let same : a ≡ b = cc in n same) ]
+is_or_not (Some a) b = elim (cases_eq a b) [ inl e ↦ inl (ap Some e) | inr n ↦ inr (λ e. let same : a ≡ b = cc in n same) ]
 
 one_less-some : (n b : ℕ) → one_less n ≡ Some b → n ≡ suc b
 one_less-some zero b e = cc
@@ -60,10 +54,8 @@ undirty tag e = ap (λ (r : ℕ). elim (r == 1) [ true ↦ block_in tag | false 
 
 -- tags that are all 0
 pub zeros_of : (tags : List ℕ) (n : ℕ) → length tags ≡ n → ((m : ℕ) → m < n → tag_at tags m ≡ 0) → tags ≡ replicate n 0
-zeros_of [] zero e zeros = refl
-zeros_of (t ∷ tags) (suc n) e zeros = let more : length tags ≡ n = omega (arith, e) in
-    λ i. zeros zero (omega arith) i ∷ zeros_of tags n more (λ m lt. zeros (suc m) (omega arith)) i
-zeros_of x y e zeros = absurd (omega (arith, e))
+zeros_of tags n e zeros = ext_get_or 0 tags (replicate n 0) (e ∙ sym (length-replicate {A = ℕ} n 0))
+    (λ m lt. let below : m < n = omega (arith, lt, e) in zeros m below ∙ sym (get_or-replicate {A = ℕ} n m 0 0 below))
 
 -- a number of lines is one that masks cut to
 pub counts_lines : (n : ℕ) → IsLineCount n → (0 < n) × (n ≤ 2 ^ 16)

@@ -1,15 +1,15 @@
 -- Touches, flush and discard, from the changes of single lines.
-use Rattle.std.proofs.Common.{◌≡◌, ◌≢◌, inl, inr, refl, sym, ap, subst, ◌∙◌, ℕ, zero, suc, ◌<◌, ◌≤◌, ℤ, Bool, true, false, cond, nat_lt, Option, Some, None, List, length, replicate, eq-eqb, arith, rules}
-use Rattle.std.proofs.lemmas.Bool.{cases_lt, lt-ltb, le-ltb}
+use Rattle.std.proofs.Common.{◌≡◌, ◌≢◌, inl, inr, refl, sym, ap, subst, ◌∙◌, ℕ, suc, ◌<◌, ◌≤◌, ℤ, Bool, true, false, cond, nat_lt, Option, Some, None, List, length, replicate, eq-eqb, arith, rules}
+use Rattle.std.proofs.lemmas.Bool.{cases_lt, lt-ltb, le-ltb, cases_eq}
 use Rattle.std.proofs.lemmas.List.{length-replicate, get_or-replicate, get_or_past}
 use Rattle.zf_base.{specs.Formats.{Format, meant}, proofs.Formats.{with_at-same, with_at-other}}
 use Rattle.zf_cached.{specs.State.{Counts, State}, specs.Changes.{write_back_lines, emptied, flush, discard}}
 use Rattle.zf_cached.specs.Touch.{write_back, write_back_dirty, write_back_line, hit, miss}
-use Rattle.zf_cached.{proofs.States.{same_state}, proofs.Caching.{is_block-some}}
+use Rattle.zf_cached.{proofs.States.{same_state}, proofs.Caching.{is_block-some}, proofs.Flushing.{write_back_lines-held}}
 use Rattle.zf_cache.{specs.Kept.{Kept, IsAway, tag_at, block_in}, specs.Rules.{one_line}}
 use Rattle.zf_cache.{specs.Standing.{state_at, state_of, FitsAt, evicted}, specs.Steps.{taken_in, touch_in}}
-use Rattle.zf_cache.proofs.Tags.{same_or_not, is_block-other}
-use Rattle.zf_cache.proofs.Stands.{standing_at, standing, soiled_in, Fit, write_back_line-none, write_back_line-some, write_back_dirty-false, write_back_dirty-true, undirty_values, vals-out, dirty-out}
+use Rattle.zf_cache.proofs.Tags.{is_block-other}
+use Rattle.zf_cache.proofs.Stands.{standing_at, standing, soiled_in, Fit, write_back_dirty-false, write_back_dirty-true, undirty_values, vals-out, dirty-out}
 
 module _ {Code : Type 0} (f : Format Code) (s : State Code) (b : ℕ) where
   -- a block that is in a line is hit there
@@ -23,7 +23,7 @@ module _ {Code : Type 0} (f : Format Code) (s : State Code) (b : ℕ) where
   touches_away l ne =
       let t = write_back_line f s l in
       same_state (taken_in (evicted f s l) l b) (miss f s l b) refl
-      (λ m. search (rules, same_or_not, with_at-same, with_at-other))
+      (λ m. search (rules, cases_eq, with_at-same, with_at-other))
       (λ a. refl) (λ a. refl) (λ a. refl) refl
       ∙ sym (ap (λ (t : Bool). elim t [ true ↦ hit s | false ↦ miss f s l b ]) (is_block-other _ b ne))
 
@@ -36,28 +36,8 @@ module _ {Code : Type 0} (f : Format Code) where
   write_back_dirty-held s h b = search (rules, write_back_dirty-true, write_back_dirty-false)
 
   write_back_line-held : (s : State Code) (h : ℕ → Option ℕ) (l : ℕ) → h l ≡ s.held l → write_back_line f (record s { held = h }) l ≡ record (write_back_line f s l) { held = h }
-  write_back_line-held s h l same = by (s.held l) refl
-    where
-      by : (o : Option ℕ) → s.held l ≡ o → write_back_line f (record s { held = h }) l ≡ record (write_back_line f s l) { held = h }
-      by None e = write_back_line-none f (record s { held = h }) l (same ∙ e) ∙ ap (λ (t : State Code). record t { held = h }) (sym (write_back_line-none f s l e))
-      by (Some b) e =
-          write_back_line-some f (record s { held = h }) l b (same ∙ e) ∙ write_back_dirty-held s h b ∙ ap (λ (t : State Code). record t { held = h }) (sym (write_back_line-some f s l b e))
-
-  held-write_back_dirty : (s : State Code) (b : ℕ) → (write_back_dirty f s b).held ≡ s.held
-  unfolding write_back
-  held-write_back_dirty s b = search (rules, write_back_dirty-true, write_back_dirty-false)
-
-  held-write_back_line : (s : State Code) (l : ℕ) → (write_back_line f s l).held ≡ s.held
-  held-write_back_line s l = by (s.held l) refl
-    where
-      by : (o : Option ℕ) → s.held l ≡ o → (write_back_line f s l).held ≡ s.held
-      by None e = ap (λ (t : State Code). t.held) (write_back_line-none f s l e)
-      by (Some b) e = ap (λ (t : State Code). t.held) (write_back_line-some f s l b e) ∙ held-write_back_dirty s b
-
-  held-write_back_lines : (s : State Code) (m : ℕ) → (write_back_lines f s m).held ≡ s.held
-  unfolding write_back_lines
-  held-write_back_lines s zero = refl
-  held-write_back_lines s (suc m) = held-write_back_line (write_back_lines f s m) m ∙ held-write_back_lines s m
+  unfolding write_back_line
+  write_back_line-held s h l same = search (rules, write_back_dirty-held)
 
   -- the lines below m are empty
   abbrev pub held_from : (ℕ → Option ℕ) → ℕ → ℕ → Option ℕ
@@ -67,24 +47,18 @@ module _ {Code : Type 0} (f : Format Code) where
   abbrev pub flushing : State Code → ℕ → State Code
   flushing s m = record (write_back_lines f s m) { held = held_from s.held m }
 
-  lt-true : (j m : ℕ) → j < m → nat_lt j m ≡ true
-  lt-true j m h = lt-ltb j m h
-
-  lt-false : (j m : ℕ) → m ≤ j → nat_lt j m ≡ false
-  lt-false j m h = le-ltb j m h
-
   pub flush_begins : (s : State Code) → flushing s 0 ≡ s
   unfolding write_back_lines
-  flush_begins s = same_state (flushing s 0) s refl (λ j. ap (λ t. cond t None (s.held j)) (lt-false j 0 (omega arith))) (λ a. refl) (λ a. refl) (λ a. refl) refl
+  flush_begins s = same_state (flushing s 0) s refl (λ j. ap (λ t. cond t None (s.held j)) (le-ltb j 0 (omega arith))) (λ a. refl) (λ a. refl) (λ a. refl) refl
 
   pub flush_goes_on : (s : State Code) (m : ℕ) → evicted f (flushing s m) m ≡ flushing s (suc m)
   unfolding evicted write_back_lines
-  flush_goes_on s m = search (rules, lt-false, held-write_back_lines, write_back_line-held, same_state, same_or_not, with_at-same, lt-true, with_at-other)
+  flush_goes_on s m = search (rules, le-ltb, write_back_lines-held, write_back_line-held, same_state, cases_eq, with_at-same, lt-ltb, with_at-other)
 
   -- it ends where the lines end
   pub flush_ends : (s : State Code) → ((j : ℕ) → s.lines ≤ j → s.held j ≡ None) → flushing s s.lines ≡ flush f s
   unfolding flush emptied
-  flush_ends s past = search (rules, same_state, cases_lt, lt-true, lt-false)
+  flush_ends s past = search (rules, same_state, cases_lt, lt-ltb, le-ltb)
 
 -- ---- lines that are all empty
 
@@ -125,18 +99,10 @@ module _ (place : ℕ → List ℕ → ℕ → ℕ) {X Code : Type 0} (value : X
   state_stands n e = ap (λ m. standing_at place value f m c.lines c.tags c.counts k) e
 
   pub fit_of : (n : ℕ) → length c.tags ≡ n → FitsAt place value c f k → Fit place value f n c.lines c.tags k
-  fit_of n e fits = record {
-    own = λ l b is. let o = fits.own l b is in (ap (λ m. place m c.tags b) (sym e) ∙ o.0, o.1);
-    clean = fits.clean;
-    room = λ ts b below. subst (λ m. place m ts b < length c.lines) e (fits.room ts b below);
-  }
+  fit_of n e fits = subst (λ m. Fit place value f m c.lines c.tags k) e (record { own = fits.own; clean = fits.clean; room = fits.room })
 
   pub fits_of : (n : ℕ) → length c.tags ≡ n → Fit place value f n c.lines c.tags k → FitsAt place value c f k
-  fits_of n e fit = record {
-    own = λ l b is. let o = fit.own l b is in (ap (λ m. place m c.tags b) e ∙ o.0, o.1);
-    clean = fit.clean;
-    room = λ ts b below. subst (λ m. place m ts b < length c.lines) (sym e) (fit.room ts b below);
-  }
+  fits_of n e fit = let there = subst (λ m. Fit place value f m c.lines c.tags k) (sym e) fit in record { own = there.own; clean = there.clean; room = there.room }
 
   -- nothing is in a line past the last
   pub past_lines : (l : ℕ) → (state_at place value c f k).lines ≤ l → (state_at place value c f k).held l ≡ None

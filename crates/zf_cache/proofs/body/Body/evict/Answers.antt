@@ -1,4 +1,4 @@
-use Rattle.std.proofs.Common.{◌≡◌, refl, sym, ap, ◌∙◌, ℕ, map, length, set, Option, Some, None, arith}
+use Rattle.std.proofs.Common.{rules, ◌≡◌, refl, sym, ap, ◌∙◌, ℕ, map, length, set, Option, Some, None, arith}
 use Rattle.std.{proofs.lemmas.List.{get_or_default}, specs.Vec.{with_item}}
 use Rattle.zf_base.specs.Formats.{with_at, encoded}
 use Rattle.zf_cache.{specs.declared.body.Body.{Body}, specs.Bodies.{IsSound, counts_of, kept_of}}
@@ -8,24 +8,18 @@ use Rattle.zf_cache.proofs.body.Body.evict.Goals.{in-Some, in_default}
 use Rattle.zf_cache.proofs.body.Body.evict.Goals as goal
 
 pub line-requires : goal.line-requires
-line-requires g c =
-    let a = c.args.self.now in let f = g.B.Reading.format c.args.back.now in
-    let tag = get_or_default a.tags.items c.args.l 0 c.index.result.now c.requires.line ∙ sym c.index.ensures in
-    let is = dirty_of-some (tag_at a.tags.items c.args.l) c.in-Some.b (ap dirty_of tag ∙ sym c.dirty_block.ensures ∙ c.in-Some.is) in
-    row_there a f.block_len c.requires.sound.whole c.args.l (omega (arith, is))
+line-requires g c = search (rules, get_or_default, dirty_of-some, row_there)
 
-pub store-requires-clause-whole : goal.store-requires-clause-whole
-store-requires-clause-whole g c =
-    let a = c.args.self.now in let f = g.B.Reading.format c.args.back.now in
-    let tag = get_or_default a.tags.items c.args.l 0 c.index.result.now c.requires.line ∙ sym c.index.ensures in
-    let is = dirty_of-some (tag_at a.tags.items c.args.l) c.in-Some.b (ap dirty_of tag ∙ sym c.dirty_block.ensures ∙ c.in-Some.is) in
-    ap length c.line.ensures ∙ c.requires.sound.whole.size.1 c.args.l (row_there a f.block_len c.requires.sound.whole c.args.l (omega (arith, is)))
-
-pub store-requires-clause-block : goal.store-requires-clause-block
-store-requires-clause-block g c =
+pub store-requires : goal.store-requires
+store-requires g c =
     let a = c.args.self.now in let f = g.B.Reading.format c.args.back.now in let k = g.B.Reading.codes c.args.back.now in
     let tag = get_or_default a.tags.items c.args.l 0 c.index.result.now c.requires.line ∙ sym c.index.ensures in
-    evicts_below g.R.Rule.place g.R.Placing.may_hold g.met.R.Rule.rule g.T.Lane.value a a f f k k refl c.requires.sound c.args.l c.requires.line c.in-Some.b (ap dirty_of tag ∙ sym c.dirty_block.ensures ∙ c.in-Some.is)
+    let dirty = ap dirty_of tag ∙ sym c.dirty_block.ensures ∙ c.in-Some.is in
+    let is = dirty_of-some (tag_at a.tags.items c.args.l) c.in-Some.b dirty in
+    record {
+      whole = ap length c.line.ensures ∙ c.requires.sound.whole.size.1 c.args.l (row_there a f.block_len c.requires.sound.whole c.args.l (omega (arith, is)));
+      block = evicts_below g.R.Rule.place g.R.Placing.may_hold g.met.R.Rule.rule g.T.Lane.value a a f f k k refl c.requires.sound c.args.l c.requires.line c.in-Some.b dirty;
+    }
 
 pub returns-clause-step : goal.returns-clause-step
 returns-clause-step g c =

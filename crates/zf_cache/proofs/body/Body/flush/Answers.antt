@@ -1,7 +1,7 @@
-use Rattle.std.proofs.Common.{◌≡◌, ◌≢◌, refl, sym, ap, ◌∙◌, ℕ, suc, ◌+◌, ◌<◌, length, set, inl, inr, rules, arith}
-use Rattle.std.{proofs.lemmas.Bool.{cases_lt}, proofs.lemmas.List.{length-set}}
+use Rattle.std.proofs.Common.{◌≡◌, refl, sym, ap, ◌∙◌, suc, ◌+◌, length, set, inl, inr, rules, arith}
+use Rattle.std.{proofs.lemmas.Bool.{cases_eq}, proofs.lemmas.List.{length-set}}
 use Rattle.zf_cache.{specs.Kept.{tag_at}, specs.Bodies.{kept_of}, specs.Standing.{state_at, evicted}}
-use Rattle.zf_cache.proofs.Tags.{same_or_not, tag-set_same, tag-set_other, zeros_of}
+use Rattle.zf_cache.proofs.Tags.{tag-set_same, tag-set_other, zeros_of}
 use Rattle.zf_cache.proofs.Touches.{flushing, flush_begins, flush_goes_on, flush_ends, past_lines}
 use Rattle.zf_cache.proofs.body.Body.flush.Goals as goal
 
@@ -24,14 +24,11 @@ loop-l-preserved g c =
         kept = e.step.kept ∙ inv.0.kept;
       },
       ap length e.tags ∙ length-set was l 0 ∙ inv.1,
-      λ m lt. ap (λ ts. tag_at ts m) e.tags ∙ elim (same_or_not m l) [
+      λ m lt. ap (λ ts. tag_at ts m) e.tags ∙ elim (cases_eq m l) [
         | inl same ↦ ap (tag_at (set was l 0)) same ∙ tag-set_same was l 0 (omega (arith, c.loop-l-test.true, count, inv.1))
-        | inr ne ↦ tag-set_other was l 0 m ne ∙ inv.2 m (below m l lt ne)
+        | inr ne ↦ tag-set_other was l 0 m ne ∙ inv.2 m (omega (arith, lt, ne))
       ],
     )
-  where
-    below : (m l : ℕ) → m < l + 1 → m ≢ l → m < l
-    below m l lt ne = elim (cases_lt m l) [ inl less ↦ less | inr more ↦ let same : m ≡ l = omega (arith, lt, more) in absurd (ne same) ]
 
 pub returns-clause-step : goal.returns-clause-step
 unfolding state_at
@@ -48,7 +45,4 @@ returns-clause-step g c =
     }
 
 pub returns-clause-empty : goal.returns-clause-empty
-returns-clause-empty g c =
-    let inv = c.loop-l.invariant in let n = length c.args.self.now.tags.items in
-    let count : c.len-l-end.result ≡ n = search (c.len-l-end.ensures, rules) in
-    zeros_of c.loop-l.self.tags.items n inv.1 (λ m lt. inv.2 m (omega (arith, lt, c.loop-l-test.false, count)))
+returns-clause-empty g c = search (rules, zeros_of)

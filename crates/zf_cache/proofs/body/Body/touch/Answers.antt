@@ -1,73 +1,50 @@
-use Rattle.std.proofs.Common.{◌≡◌, ◌<◌, refl, sym, ap, subst, ◌∙◌, ◌/◌, length, set, arith}
+use Rattle.std.proofs.Common.{rules, ◌<◌, refl, sym, ap, subst, ◌∙◌, ◌/◌, length, set}
 use Rattle.std.proofs.lemmas.List.{get_or_default, length-set, set-set}
-use Rattle.zf_cache.{specs.declared.body.Body.{Body}, specs.Kept.{IsAway, clean_tag}, specs.Bodies.{kept_of}}
+use Rattle.zf_cache.{specs.declared.body.Body.{Body}, specs.Kept.{clean_tag}, specs.Bodies.{kept_of}}
 use Rattle.zf_cache.specs.Standing.{state_at}
 use Rattle.zf_cache.proofs.Sound.{none_in, hits_block, misses_block, comes_hitting, comes_missing}
 use Rattle.zf_lines.specs.Rows.{line_at}
 use Rattle.zf_cache.proofs.body.Body.touch.Goals as goal
 
-pub returns-then-index-b-clause-step : goal.returns-then-index-b-clause-step
-returns-then-index-b-clause-step g c =
+pub returns-then-index-b : goal.returns-then-index-b
+returns-then-index-b g c =
     let a = c.args.self.now in let f = g.B.Reading.format c.args.back.now in let k = g.B.Reading.codes c.args.back.now in let b = c.args.b in let l = c.line_of-l.result in
     let tag = get_or_default a.tags.items l 0 c.index.result.now c.line_of-l.ensures.inside ∙ sym c.index.ensures in
-    let d : Body g.row.T.Denot = record {
-      lines = a.lines;
-      tags = a.tags;
-      counts = record { hits = c.saturating_add-self.result; misses = a.counts.misses; writes = a.counts.writes };
-    } in
-    let both = hits_block g.R.Rule.place g.R.Placing.may_hold g.met.R.Rule.rule g.T.Lane.value a d f f k k refl c.requires.ready.sound b l (ap (λ t. t / 2) tag ∙ c.if-index-b.true) refl refl
-    (ap (λ n. record { hits = n; misses = a.counts.misses; writes = a.counts.writes }) c.saturating_add-self.ensures) refl in
-    record { state = both.1; fits = both.0; format = refl; kept = refl }
-
-pub returns-then-index-b-clause-line : goal.returns-then-index-b-clause-line
-returns-then-index-b-clause-line g c =
-    let a = c.args.self.now in let b = c.args.b in let l = c.line_of-l.result in
-    let tag = get_or_default a.tags.items l 0 c.index.result.now c.line_of-l.ensures.inside ∙ sym c.index.ensures in
+    let d : Body g.row.T.Denot = record a { counts = record a.counts { hits = c.saturating_add-self.result } } in
+    let half = ap (λ t. t / 2) tag ∙ c.if-index-b.true in
     let row = subst (λ m. m < length a.lines) (sym c.line_of-l.ensures.place) (c.requires.ready.sound.fits.room a.tags.items b c.requires.ready.block.0) in
-    comes_hitting g.R.Rule.place (kept_of a) _ b l c.line_of-l.ensures.place row (ap (λ t. t / 2) tag ∙ c.if-index-b.true) refl refl
-
-pub take_in-requires-clause-row : goal.take_in-requires-clause-row
-take_in-requires-clause-row g c =
-    let a = c.args.self.now in let l = c.line_of-l.result in
-    let row = subst (λ m. m < length a.lines) (sym c.line_of-l.ensures.place) (c.requires.ready.sound.fits.room a.tags.items c.args.b c.requires.ready.block.0) in
-    subst (λ ls. l < length ls) (sym c.evict.ensures.lines) row
+    let both = hits_block g.R.Rule.place g.R.Placing.may_hold g.met.R.Rule.rule g.T.Lane.value a d f f k k refl c.requires.ready.sound b l half refl refl
+    (ap (λ n. record { hits = n; misses = a.counts.misses; writes = a.counts.writes }) c.saturating_add-self.ensures) refl in
+    record {
+      step = record { state = both.1; fits = both.0; format = refl; kept = refl };
+      line = comes_hitting g.R.Rule.place (kept_of a) _ b l c.line_of-l.ensures.place row half refl refl;
+    }
 
 pub take_in-requires-clause-line : goal.take_in-requires-clause-line
-take_in-requires-clause-line g c =
-    let a = c.args.self.now in let l = c.line_of-l.result in let b = c.args.b in
-    let tags = c.evict.new.self.tags.items in
-    let size : length tags ≡ length a.tags.items = ap length c.evict.ensures.tags ∙ length-set a.tags.items l 0 in (
-      omega (arith, size, c.line_of-l.ensures.inside),
-      subst (λ n. g.R.Placing.may_hold n b l) (sym size) (subst (g.R.Placing.may_hold (length a.tags.items) b) (sym c.line_of-l.ensures.place) (g.met.R.Rule.rule.allowed (length a.tags.items) a.tags.items b)),
-    )
+take_in-requires-clause-line g c = search (rules, length-set)
 
 pub take_in-requires-clause-away : goal.take_in-requires-clause-away
 take_in-requires-clause-away g c =
-    let a = c.args.self.now in let f = g.B.Reading.format c.args.back.now in let k = g.B.Reading.codes c.args.back.now in let b = c.args.b in let value = g.T.Lane.value in
-    let l = c.line_of-l.result in
-    let tag = get_or_default a.tags.items l 0 c.index.result.now c.line_of-l.ensures.inside ∙ sym c.index.ensures in
-    let out = none_in g.R.Rule.place g.R.Placing.may_hold g.met.R.Rule.rule value a a f f k k refl c.requires.ready.sound b l (sym c.line_of-l.ensures.place) c.line_of-l.ensures.inside (λ e. c.if-index-b.false (ap (λ t. t / 2) (sym tag) ∙ e)) in
-    subst (λ ts. IsAway ts b) (sym c.evict.ensures.tags) out
+    let tag = get_or_default c.args.self.now.tags.items c.line_of-l.result 0 c.index.result.now c.line_of-l.ensures.inside ∙ sym c.index.ensures in search (rules, none_in)
 
-pub returns-clause-step : goal.returns-clause-step
-returns-clause-step g c =
+pub returns : goal.returns
+returns g c =
     let a = c.args.self.now in let f = g.B.Reading.format c.args.back.now in let k = g.B.Reading.codes c.args.back.now in let b = c.args.b in let value = g.T.Lane.value in
     let l = c.line_of-l.result in let first = c.evict.ensures.step in let second = c.take_in.ensures.step in
     let tag = get_or_default a.tags.items l 0 c.index.result.now c.line_of-l.ensures.inside ∙ sym c.index.ensures in
-    record {
-      state = misses_block g.R.Rule.place value a f k b l
-          (state_at g.R.Rule.place value (kept_of c.evict.new.self) (g.B.Reading.format c.evict.new.back) (g.B.Reading.codes c.evict.new.back))
-          (state_at g.R.Rule.place value (kept_of c.take_in.new.self) (g.B.Reading.format c.take_in.new.back) (g.B.Reading.codes c.take_in.new.back))
-          (λ e. c.if-index-b.false (ap (λ t. t / 2) (sym tag) ∙ e)) first.state second.state;
-      fits = second.fits;
-      format = second.format ∙ first.format;
-      kept = second.kept ∙ first.kept;
-    }
-
-pub returns-clause-line : goal.returns-clause-line
-returns-clause-line g c =
-    let a = c.args.self.now in let l = c.line_of-l.result in let b = c.args.b in let e = c.take_in.ensures in let new = c.take_in.new.self in
+    let e = c.take_in.ensures in let new = c.take_in.new.self in
     let row = subst (λ m. m < length a.lines) (sym c.line_of-l.ensures.place) (c.requires.ready.sound.fits.room a.tags.items b c.requires.ready.block.0) in
-    comes_missing g.R.Rule.place (kept_of a) (kept_of new) b l c.line_of-l.ensures.place row c.line_of-l.ensures.inside
-    (e.lines ∙ ap (λ ls. set ls l (line_at new.lines l)) c.evict.ensures.lines)
-    (e.tags ∙ ap (λ ts. set ts l (clean_tag b)) c.evict.ensures.tags ∙ set-set a.tags.items l 0 (clean_tag b))
+    record {
+      step = record {
+        state = misses_block g.R.Rule.place value a f k b l
+            (state_at g.R.Rule.place value (kept_of c.evict.new.self) (g.B.Reading.format c.evict.new.back) (g.B.Reading.codes c.evict.new.back))
+            (state_at g.R.Rule.place value (kept_of c.take_in.new.self) (g.B.Reading.format c.take_in.new.back) (g.B.Reading.codes c.take_in.new.back))
+            (λ e. c.if-index-b.false (ap (λ t. t / 2) (sym tag) ∙ e)) first.state second.state;
+        fits = second.fits;
+        format = second.format ∙ first.format;
+        kept = second.kept ∙ first.kept;
+      };
+      line = comes_missing g.R.Rule.place (kept_of a) (kept_of new) b l c.line_of-l.ensures.place row c.line_of-l.ensures.inside
+          (e.lines ∙ ap (λ ls. set ls l (line_at new.lines l)) c.evict.ensures.lines)
+          (e.tags ∙ ap (λ ts. set ts l (clean_tag b)) c.evict.ensures.tags ∙ set-set a.tags.items l 0 (clean_tag b));
+    }

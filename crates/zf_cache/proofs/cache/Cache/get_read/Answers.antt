@@ -1,13 +1,11 @@
-use Rattle.std.proofs.Common.{◌<◌, sym, ap, subst, ◌∙◌}
-use Rattle.zf_cached.specs.Placing.{direct, IsDirect}
+use Rattle.std.proofs.Common.{rules, ◌<◌, sym, ap, subst, ◌∙◌}
+use Rattle.zf_cached.specs.Placing.{IsDirect}
 use Rattle.zf_cache.{specs.Bodies.{kept_of}, specs.Rules.{one_line, one_line_rule, one_line_told}}
 use Rattle.zf_cache.{proofs.Lent.{gets}, proofs.Placed.{touches}}
 use Rattle.zf_cache.proofs.cache.Cache.get_read.Goals as goal
 
 pub returns-clause-step : goal.returns-clause-step
-returns-clause-step g c =
-    let e = c.touch_read-l.ensures in
-    touches one_line direct one_line_told g.T.Lane.value g.B.Reading c.self.inside.body c.args.self.now c.self.view_is c.args.back.now c.requires.backed.fits c.touch_read-l.new.self c.touch_read-l.new.back c.args.b c.touch_read-l.result e.line e.step
+returns-clause-step g c = search (rules, touches, one_line_told)
 
 pub returns-clause-value : goal.returns-clause-value
 returns-clause-value g c =

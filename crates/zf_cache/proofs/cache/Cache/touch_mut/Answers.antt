@@ -1,8 +1,6 @@
-use Rattle.zf_cached.specs.Placing.{direct}
-use Rattle.zf_cache.{specs.Rules.{one_line, one_line_told}, proofs.Placed.{touches_for_writing}}
+use Rattle.std.proofs.Common.{rules}
+use Rattle.zf_cache.{specs.Rules.{one_line_told}, proofs.Placed.{touches_for_writing}}
 use Rattle.zf_cache.proofs.cache.Cache.touch_mut.Goals as goal
 
 pub returns-clause-step : goal.returns-clause-step
-returns-clause-step g c =
-    let e = c.touch_for_writing.ensures in
-    touches_for_writing one_line direct one_line_told g.T.Lane.value g.B.Reading c.self.inside.body c.args.self.now c.self.view_is c.args.back.now c.requires.backed.fits c.touch_for_writing.new.self c.touch_for_writing.new.back c.args.b c.touch_for_writing.result e.line e.step
+returns-clause-step g c = search (rules, touches_for_writing, one_line_told)
