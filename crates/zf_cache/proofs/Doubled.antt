@@ -1,5 +1,5 @@
 -- The first of 1, 2, 4, .. that passes a test, step by step.
-use Rattle.std.proofs.Common.{◌≡◌, refl, sym, ap, ◌∙◌, ℕ, zero, suc, ◌+◌, ◌-◌, ◌*◌, ◌^◌, ◌<◌, ◌≤◌, Bool, true, false, arith, pow-suc, add-one}
+use Rattle.std.proofs.Common.{◌≡◌, refl, ap, ◌∙◌, ℕ, zero, suc, ◌+◌, ◌-◌, ◌*◌, ◌^◌, ◌<◌, ◌≤◌, Bool, true, false, arith, pow-suc, add-one, rules}
 use Rattle.std.proofs.Math.Pow.{pow_mono}
 use Rattle.zf_cached.specs.Changes.{first_doubled}
 
@@ -18,9 +18,7 @@ module _ (test : ℕ → Bool) where
   pub tried_more : (i p : ℕ) → Tried i p → i < 16 → test p ≡ false → Tried (i + 1) (p * 2)
   tried_more i p h lt e =
       let left : 16 - i ≡ suc (16 - (i + 1)) = omega arith in let twice : 2 * p ≡ p * 2 = omega arith in
-      let double : 2 ^ (i + 1) ≡ 2 ^ i * 2 = rw (add-one, pow-suc) in let next : p * 2 ≡ 2 ^ (i + 1) = ap (λ q. q * 2) h.1 ∙ sym double in
-      let within : i + 1 ≤ 16 = omega arith in let most : 2 ^ (i + 1) ≤ 2 ^ 16 = pow_mono within in
-      (h.0 ∙ goes_on (16 - i) (16 - (i + 1)) p left e ∙ ap (first_doubled test (16 - (i + 1))) twice, next, omega (arith, next, most))
+      let double : 2 ^ (i + 1) ≡ 2 ^ i * 2 = rw (add-one, pow-suc) in search (rules, pow_mono, goes_on)
 
   pub passes : (i p : ℕ) → Tried i p → test p ≡ true → first_doubled test 16 1 ≡ p
   passes i p h e = h.0 ∙ stops (16 - i) p e

@@ -27,7 +27,6 @@ module _ (place : ℕ → List ℕ → ℕ → ℕ) (may_hold : ℕ → ℕ → 
   puts line p v is at lines tags counts =
       let old = line_at t.lines l in
       let row = over old (set line p v) in
-      let whole : length old ≡ h.block_len = sound.whole.size.1 l has_row in
       let row_is : row ≡ set old p v = ap (λ r. over old (set r p v)) is ∙ over_same old (set old p v) (length-set old p v) in
       let there : IsIn t.tags.items l b = ap block_in dirty ∙ names-dirty b in
       let here = values_there place value h (kept_of t) j b l (sound.fits.own l b there).0 (named (tag_at t.tags.items l) b there) in

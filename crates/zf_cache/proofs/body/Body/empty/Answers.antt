@@ -1,4 +1,4 @@
-use Rattle.std.proofs.Common.{◌≡◌, length, replicate, rules}
+use Rattle.std.proofs.Common.{rules}
 use Rattle.std.proofs.lemmas.List.{length-replicate}
 use Rattle.zf_lines.{proofs.Sizes.{HasSize-replicate}}
 use Rattle.zf_cache.{proofs.Touches.{no_tag}}
@@ -6,6 +6,5 @@ use Rattle.zf_cache.proofs.body.Body.empty.Goals as goal
 
 pub returns : goal.returns
 returns g c =
-    let n = c.args.lines in let m = c.args.rows in let tags = c.in_ok-tags.tags in
-    let count : length tags.items ≡ n = search (c.in_ok-tags.ensures.len, rules) in
-    let empty : tags.items ≡ replicate n 0 = search rules in search (rules, length-replicate, HasSize-replicate, no_tag)
+    let n = c.args.lines in let tags = c.in_ok-tags.tags in
+    search (rules, length-replicate, HasSize-replicate, no_tag)

@@ -38,10 +38,4 @@ returns-clause-step g c =
       | in_default w ↦
           evicted_is None (ap g.B.Reading.format w.back-is) (ap dirty_of tag ∙ sym c.dirty_block.ensures ∙ w.in_default.is)
           (ap (λ b. b.lines) w.self-is) (ap (λ b. set b.tags.items l 0) w.self-is) (ap (λ b. counts_of b.counts) w.self-is) (ap g.B.Reading.codes w.back-is)
-    ] in
-    record {
-      state = both.1;
-      fits = both.0;
-      format = elim m.branch [ in-Some w ↦ ap g.B.Reading.format w.back-is ∙ w.store.ensures.format | in_default w ↦ ap g.B.Reading.format w.back-is ];
-      kept = elim m.branch [ in-Some w ↦ ap g.B.Reading.kept w.back-is ∙ w.store.ensures.kept | in_default w ↦ ap g.B.Reading.kept w.back-is ];
-    }
+    ] in search (rules, in-Some, in_default)

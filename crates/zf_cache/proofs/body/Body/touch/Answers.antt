@@ -1,9 +1,7 @@
-use Rattle.std.proofs.Common.{rules, ◌<◌, refl, sym, ap, subst, ◌∙◌, ◌/◌, length, set}
+use Rattle.std.proofs.Common.{rules, ◌<◌, refl, sym, ap, subst, ◌∙◌, ◌/◌, length}
 use Rattle.std.proofs.lemmas.List.{get_or_default, length-set, set-set}
-use Rattle.zf_cache.{specs.declared.body.Body.{Body}, specs.Kept.{clean_tag}, specs.Bodies.{kept_of}}
-use Rattle.zf_cache.specs.Standing.{state_at}
+use Rattle.zf_cache.{specs.declared.body.Body.{Body}}
 use Rattle.zf_cache.proofs.Sound.{none_in, hits_block, misses_block, comes_hitting, comes_missing}
-use Rattle.zf_lines.specs.Rows.{line_at}
 use Rattle.zf_cache.proofs.body.Body.touch.Goals as goal
 
 pub returns-then-index-b : goal.returns-then-index-b
@@ -14,11 +12,7 @@ returns-then-index-b g c =
     let half = ap (λ t. t / 2) tag ∙ c.if-index-b.true in
     let row = subst (λ m. m < length a.lines) (sym c.line_of-l.ensures.place) (c.requires.ready.sound.fits.room a.tags.items b c.requires.ready.block.0) in
     let both = hits_block g.R.Rule.place g.R.Placing.may_hold g.met.R.Rule.rule g.T.Lane.value a d f f k k refl c.requires.ready.sound b l half refl refl
-    (ap (λ n. record { hits = n; misses = a.counts.misses; writes = a.counts.writes }) c.saturating_add-self.ensures) refl in
-    record {
-      step = record { state = both.1; fits = both.0; format = refl; kept = refl };
-      line = comes_hitting g.R.Rule.place (kept_of a) _ b l c.line_of-l.ensures.place row half refl refl;
-    }
+    (ap (λ n. record { hits = n; misses = a.counts.misses; writes = a.counts.writes }) c.saturating_add-self.ensures) refl in search (rules, comes_hitting)
 
 pub take_in-requires-clause-line : goal.take_in-requires-clause-line
 take_in-requires-clause-line g c = search (rules, length-set)
@@ -28,23 +22,4 @@ take_in-requires-clause-away g c =
     let tag = get_or_default c.args.self.now.tags.items c.line_of-l.result 0 c.index.result.now c.line_of-l.ensures.inside ∙ sym c.index.ensures in search (rules, none_in)
 
 pub returns : goal.returns
-returns g c =
-    let a = c.args.self.now in let f = g.B.Reading.format c.args.back.now in let k = g.B.Reading.codes c.args.back.now in let b = c.args.b in let value = g.T.Lane.value in
-    let l = c.line_of-l.result in let first = c.evict.ensures.step in let second = c.take_in.ensures.step in
-    let tag = get_or_default a.tags.items l 0 c.index.result.now c.line_of-l.ensures.inside ∙ sym c.index.ensures in
-    let e = c.take_in.ensures in let new = c.take_in.new.self in
-    let row = subst (λ m. m < length a.lines) (sym c.line_of-l.ensures.place) (c.requires.ready.sound.fits.room a.tags.items b c.requires.ready.block.0) in
-    record {
-      step = record {
-        state = misses_block g.R.Rule.place value a f k b l
-            (state_at g.R.Rule.place value (kept_of c.evict.new.self) (g.B.Reading.format c.evict.new.back) (g.B.Reading.codes c.evict.new.back))
-            (state_at g.R.Rule.place value (kept_of c.take_in.new.self) (g.B.Reading.format c.take_in.new.back) (g.B.Reading.codes c.take_in.new.back))
-            (λ e. c.if-index-b.false (ap (λ t. t / 2) (sym tag) ∙ e)) first.state second.state;
-        fits = second.fits;
-        format = second.format ∙ first.format;
-        kept = second.kept ∙ first.kept;
-      };
-      line = comes_missing g.R.Rule.place (kept_of a) (kept_of new) b l c.line_of-l.ensures.place row c.line_of-l.ensures.inside
-          (e.lines ∙ ap (λ ls. set ls l (line_at new.lines l)) c.evict.ensures.lines)
-          (e.tags ∙ ap (λ ts. set ts l (clean_tag b)) c.evict.ensures.tags ∙ set-set a.tags.items l 0 (clean_tag b));
-    }
+returns g c = search (rules, get_or_default, misses_block, comes_missing, set-set)

@@ -1,7 +1,7 @@
 use Rattle.std.proofs.Common.{rules, ◌<◌, refl, sym, ap, subst, ◌∙◌, ◌/◌, length, None}
 use Rattle.std.{proofs.lemmas.List.{get_or_default, set-set, length-set}, specs.Vec.{with_item}}
-use Rattle.zf_cache.{specs.declared.body.Body.{Body}, specs.Kept.{tag_at, clean_tag}, specs.Bodies.{kept_of}}
-use Rattle.zf_cache.{specs.Standing.{state_at}, proofs.Tags.{undirty}}
+use Rattle.zf_cache.{specs.declared.body.Body.{Body}, specs.Kept.{tag_at, clean_tag}}
+use Rattle.zf_cache.{proofs.Tags.{undirty}}
 use Rattle.zf_cache.proofs.Sound.{none_in, stays_clean, evicts, hits_block, misses_block, comes_hitting, comes_missing}
 use Rattle.zf_cache.proofs.body.Body.touch_read.Goals as goal
 
@@ -13,26 +13,17 @@ returns-then-index-b g c =
     let half = ap (λ t. t / 2) tag ∙ c.if-index-b.true in
     let row = subst (λ m. m < length a.lines) (sym c.line_of-l.ensures.place) (c.requires.ready.sound.fits.room a.tags.items b c.requires.ready.block.0) in
     let both = hits_block g.R.Rule.place g.R.Placing.may_hold g.met.R.Rule.rule g.T.Lane.value a d f f k k refl c.requires.ready.sound b l half refl refl
-    (ap (λ n. record { hits = n; misses = a.counts.misses; writes = a.counts.writes }) c.saturating_add-self.ensures) refl in
-    record {
-      step = record { state = both.1; fits = both.0; format = refl; kept = refl };
-      clean = c.requires.clean;
-      line = comes_hitting g.R.Rule.place (kept_of a) _ b l c.line_of-l.ensures.place row half refl refl;
-    }
+    (ap (λ n. record { hits = n; misses = a.counts.misses; writes = a.counts.writes }) c.saturating_add-self.ensures) refl in search (rules, comes_hitting)
 
 pub take_in-requires-clause-line : goal.take_in-requires-clause-line
 take_in-requires-clause-line g c = search (rules, length-set)
 
 pub take_in-requires-clause-away : goal.take_in-requires-clause-away
-take_in-requires-clause-away g c =
-    let a = c.args.self.now in let f = g.B.Reading.format c.args.back.now in let k = g.B.Reading.codes c.args.back.now in let b = c.args.b in let value = g.T.Lane.value in
-    let l = c.line_of-l.result in
-    let tag = get_or_default a.tags.items l 0 c.index.result.now c.line_of-l.ensures.inside ∙ sym c.index.ensures in
-    none_in g.R.Rule.place g.R.Placing.may_hold g.met.R.Rule.rule value a a f f k k refl c.requires.ready.sound b l (sym c.line_of-l.ensures.place) c.line_of-l.ensures.inside (λ e. c.if-index-b.false (ap (λ t. t / 2) (sym tag) ∙ e))
+take_in-requires-clause-away g c = search (rules, none_in)
 
 pub take_in-requires-clause-sound : goal.take_in-requires-clause-sound
 take_in-requires-clause-sound g c =
-    let a = c.args.self.now in let f = g.B.Reading.format c.args.back.now in let k = g.B.Reading.codes c.args.back.now in let b = c.args.b in let value = g.T.Lane.value in
+    let a = c.args.self.now in let f = g.B.Reading.format c.args.back.now in let k = g.B.Reading.codes c.args.back.now in let value = g.T.Lane.value in
     let l = c.line_of-l.result in
     let d : Body g.row.T.Denot = record { lines = a.lines; tags = with_item a.tags l 0; counts = a.counts } in
     (evicts g.R.Rule.place g.R.Placing.may_hold g.met.R.Rule.rule value a d f f k k refl c.requires.ready.sound l c.line_of-l.ensures.inside None (undirty (tag_at a.tags.items l) (c.requires.clean l)) refl refl refl refl).0
@@ -45,17 +36,4 @@ returns g c =
     let d : Body g.row.T.Denot = record { lines = a.lines; tags = with_item a.tags l 0; counts = a.counts } in
     let emptied = evicts g.R.Rule.place g.R.Placing.may_hold g.met.R.Rule.rule value a d f f k k refl c.requires.ready.sound l lt None (undirty (tag_at a.tags.items l) (c.requires.clean l)) refl refl refl refl in
     let e = c.take_in.ensures in let tags = e.tags ∙ set-set a.tags.items l 0 (clean_tag b) in
-    let row = subst (λ m. m < length a.lines) (sym c.line_of-l.ensures.place) (c.requires.ready.sound.fits.room a.tags.items b c.requires.ready.block.0) in
-    record {
-      step = record {
-        state = misses_block g.R.Rule.place value a f k b l (state_at g.R.Rule.place value (kept_of d) f k)
-            (state_at g.R.Rule.place value (kept_of c.take_in.new.self) (g.B.Reading.format c.take_in.new.back) (g.B.Reading.codes c.take_in.new.back))
-            (λ e. c.if-index-b.false (ap (λ t. t / 2) (sym tag) ∙ e)) emptied.1 second.state;
-        fits = second.fits;
-        format = second.format;
-        kept = second.kept;
-      };
-      clean = stays_clean (kept_of a) (kept_of c.take_in.new.self) l b lt c.requires.clean tags;
-      line = comes_missing g.R.Rule.place (kept_of a) (kept_of c.take_in.new.self) b l c.line_of-l.ensures.place row c.line_of-l.ensures.inside
-          e.lines tags;
-    }
+    let row = subst (λ m. m < length a.lines) (sym c.line_of-l.ensures.place) (c.requires.ready.sound.fits.room a.tags.items b c.requires.ready.block.0) in search (rules, misses_block, stays_clean, comes_missing)

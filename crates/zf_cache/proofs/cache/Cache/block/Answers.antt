@@ -1,6 +1,6 @@
-use Rattle.std.proofs.Common.{rules, refl, ap, ◌∙◌, length}
+use Rattle.std.proofs.Common.{rules, refl}
 use Rattle.zf_cached.{specs.Touch.{touch}, specs.Placing.{direct, IsDirect}}
-use Rattle.zf_cache.{specs.Bodies.{kept_of}, specs.Standing.{state_of, Fits}, proofs.Lent.{shows, whole}}
+use Rattle.zf_cache.{specs.Bodies.{kept_of}, specs.Standing.{state_of, Fits}, proofs.Lent.{shows}}
 use Rattle.zf_cache.{specs.Rules.{one_line, one_line_rule, one_line_told}, proofs.Placed.{touches, stands}}
 use Rattle.zf_cache.proofs.cache.Cache.block.Goals as goal
 
@@ -12,5 +12,4 @@ returns g c =
     let state = (touches one_line direct one_line_told g.T.Lane.value g.B.Reading c.self.inside.body c.args.self.now c.self.view_is c.args.back.now c.requires.backed.fits c.touch-l.new.self c.touch-l.new.back b l e.line e.step).state in
     let s = touch f (state_of value c.args.self.now f k) b in
     let told = shows one_line IsDirect one_line_rule value f h j o t b l e.step.format e.step.fits e.line s c.line.result.now state c.line.ensures in
-    let size = ap length c.line.ensures ∙ whole one_line IsDirect one_line_rule value f h j o t b l e.step.format e.step.fits e.line ∙ ap (λ q. q.block_len) e.step.format ∙ c.requires.backed.blocks.0 in
     ((refl, λ _. tt, stands one_line direct one_line_told value IsDirect one_line_rule (Fits value) (λ d q i e. e) f h j o t b l e.step.format e.step.fits e.line s state), search rules)
