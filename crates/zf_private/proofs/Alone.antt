@@ -79,9 +79,7 @@ module _ {Code : Type 0} (w : Width) (f : Format Code) (owns : ℕ → ℕ → T
     pub same-answers : (s s' : Views Code) (steps : List Step) → AreWithin owns steps → AllOwn s → Alike s s' → answers w f i s steps ≡ answers w f i s' (steps_of i steps)
     unfolding answers
     same-answers = by_steps (λ s s' xs ys. answers w f i s xs ≡ answers w f i s' ys) (λ s s' h. refl)
-        (λ s s' st xs ys o k rest.
-        let first = alike-answered f (owns i) (state_of_view (stepped w f s st) i) (state_of_view (stepped w f s' st) i) st.act o k in
-        λ n. begun (st.view == i) (first n) (rest n))
+        (search (rules, alike-answered))
         (λ s s' st xs ys e rest. ap (λ t. begun t (answered (state_of_view (stepped w f s st) i) st.act) (answers w f i (stepped w f s st) xs)) e ∙ rest)
       where
         -- the answers from a step on

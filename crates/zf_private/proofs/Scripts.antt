@@ -1,5 +1,5 @@
 -- The lines of one split: what a view answers does not depend on the lines on other views.
-use Rattle.std.proofs.Common.{◌≡◌, ◌≢◌, refl, sym, ap, subst, ◌∙◌, ◌⊎◌, inl, inr, ⊎_elim, ℕ, suc, ◌<◌, ℤ, Bool, true, false, not, ◌&&◌, cond, ltb, eqb, eq-eqb, ne_eqb, List, [], ◌∷◌, ◌++◌, map, length, set, Option, Some, None, is_some, arith, rules}
+use Rattle.std.proofs.Common.{◌≡◌, ◌≢◌, refl, sym, ap, subst, ◌∙◌, ◌⊎◌, inl, inr, ℕ, suc, ◌<◌, ℤ, Bool, true, false, not, ◌&&◌, cond, ltb, eqb, eq-eqb, ne_eqb, List, [], ◌∷◌, ◌++◌, map, length, set, Option, Some, None, is_some, arith, rules}
 use Rattle.std.{specs.Int.{Width}, specs.List.{AllByRecursion, list_any, flat_map, filter}}
 use Rattle.std.specs.Option.{option_map, option_to_list}
 use Rattle.std.proofs.lemmas.Bool.{and_parts, not-false, ltb-true, cases_eq, cond-true, cond-false}
@@ -181,15 +181,10 @@ module _ {Code : Type 0} (setting : Setting Code) (ns : List ℕ) (n : ℕ) (som
       acts_one : (j ≡ i → ⊥) → Outcome (acts s h.one) (acts s' h.two) s' (Some j)
       acts_one ne =
           let alike = λ (below : i < n). alike-trans (owns i) (alike-other s h.one j lt a within i (λ e. ne (sym e))) (h.alike below) in
-          inr (record {
-            together = record { one = parted-next s h.one j lt a within; two = h.two; alike = alike };
-            away = away_is j (acts s h.one).1 (accepted_number (answered (t s h.one j lt a within) a)) ne;
-          })
+          inr (search (rules, parted-next, away_is, accepted_number))
 
       acts_either : Outcome (by_view setting s j a) (by_view setting s' j a) s' (Some j)
-      acts_either =
-          subst (λ (r : (Session Code × Option Reply) × (Session Code × Option Reply)). Outcome r.0 r.1 s' (Some j)) (λ k. (sym (by_view_is s j a h.one.shape) k, sym (by_view_is s' j a h.two.shape) k))
-          (⊎_elim acts_both acts_one (cases_eq j i))
+      acts_either = search (rules, by_view_is, acts_both, acts_one, cases_eq)
 
     -- the counts of a view
     counts_either : (s s' : Session Code) → Together s s' → (j : ℕ) → j < n

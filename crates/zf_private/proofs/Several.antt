@@ -71,8 +71,7 @@ module _ {X Code : Type 0} (value : X → ℤ) (d : ℕ) (w : Width) (views news
 
     other_alike : (m : ℕ) → m ≢ i → AreAlike (Own (views m)) (state value (news m) g j) (state_of_view (stepped w f s st) m)
     other_alike m ne =
-        let own = Own (views m) in let mid = stand.alike m in
-        let codes = alike-sym own (other_codes_alike value d (views m) f g k j (ready.whole m) same (λ b o. codes-of-other m b ne o)) in
+        let own = Own (views m) in let codes = alike-sym own (other_codes_alike value d (views m) f g k j (ready.whole m) same (λ b o. codes-of-other m b ne o)) in
         let one = alike-sym own (alike-other w f owns m ready.apart s s st (λ e. ne (sym e)) own_all (alike-refl f (Own (views m)) (state_of_view s m))) in search rules
 
     codes-stand : (b : ℕ) → j b ≡ (stepped w f s st).codes b
