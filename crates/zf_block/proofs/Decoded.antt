@@ -1,5 +1,5 @@
 -- What comes of reading a code, put together from the planes that it has.
-use Rattle.std.proofs.Common.{◌≡◌, sym, ap, subst, ◌∙◌, ℕ, ◌-◌, ◌^◌, ℤ, pos, Bool, List, [], ◌∷◌, replicate}
+use Rattle.std.proofs.Common.{◌≡◌, ap, subst, ◌∙◌, ℕ, ◌-◌, ◌^◌, ℤ, pos, Bool, List, [], ◌∷◌, replicate}
 use Rattle.std.specs.Int.{Width}
 use Rattle.zf_spec.{specs.Grid.{IsDimension}, specs.Codes.{coefficients_of}}
 use Rattle.zf_bits.specs.Reader.{Reader, rest}
@@ -21,18 +21,10 @@ module _ (len_at : ℕ → List Bool → ℕ) (planes_at : ℕ → List Bool →
     pub passes_block : (held : List (List Bool)) → AreAbove size (planes_at size (rest old)) held → block ≡ back (coefficients_of w d held)
         → PassesCode (len_at (4 ^ d) (rest old)) old new × StandsFor w d back (planes_at (4 ^ d)) block (rest old)
     passes_block held above made =
-        let Passes : ℕ → Type 0 = λ n. PassesCode (len_at n (rest old)) old new × AreAbove n (planes_at n (rest old)) held in
-        let sized = subst Passes is (passes, above) in
-        (sized.0, made ∙ ap back (coefficients_above w d (4 ^ d) (planes_at (4 ^ d) (rest old)) held sized.1))
+        (rw is at passes, made ∙ ap back (coefficients_above w d (4 ^ d) (planes_at (4 ^ d) (rest old)) held (rw is at above)))
 
     -- the planes are zero, and the block was made of zeros
     pub passes_zeros : (zero : ℤ) → IsDimension d → AreAbove size [] (planes_at size (rest old)) → zero ≡ pos 0 → block ≡ back (zero ∷ replicate (4 ^ d - 1) (pos 0))
         → PassesCode (len_at (4 ^ d) (rest old)) old new × StandsFor w d back (planes_at (4 ^ d)) block (rest old)
     passes_zeros zero dims above is_zero made =
-        let Passes : ℕ → Type 0 = λ n. PassesCode (len_at n (rest old)) old new × AreAbove n [] (planes_at n (rest old)) in
-        let sized = subst Passes is (passes, above) in (
-          sized.0,
-          made
-              ∙ ap (λ (v : ℤ). back (v ∷ replicate (4 ^ d - 1) (pos 0))) is_zero
-              ∙ ap back (sym (zero_coefficients w d dims sized.1.0) ∙ ap (coefficients_of w d) (sym sized.1.1)),
-        )
+        let none = rw is at above in (rw is at passes, cc (made, is_zero, zero_coefficients w d dims none.0, none.1))

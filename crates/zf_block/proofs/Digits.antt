@@ -1,11 +1,12 @@
 -- Digits of coefficients, and the planes that they have.
-use Rattle.std.proofs.Common.{◌≡◌, refl, sym, ap, ◌∙◌, ℕ, ◌<◌, ◌≤◌, ◌^◌, ◌+◌, ◌*◌, ℤ, Bool, List, [], ◌∷◌, map, length, take, get_or, All, ext_get_or, arith}
-use Rattle.std.{proofs.lemmas.List.{length-map, get_or-map, length-take-le}, specs.Int.{Width}}
-use Rattle.std.proofs.lemmas.List.Elements.{All-take}
+use Rattle.zf_spec.proofs.Counting.{from_places}
+use Rattle.std.{proofs.lemmas.Simd.{map-map}, proofs.lemmas.List.{length-map, get_or-map, length-take-le}}
+use Rattle.std.proofs.Common.{◌≡◌, sym, ap, ◌∙◌, ℕ, ◌≤◌, ◌^◌, ◌+◌, ◌*◌, ℤ, List, [], map, length, take, get_or, All, arith, rules}
+use Rattle.std.{specs.Int.{Width}, proofs.lemmas.List.Elements.{All-take}}
 use mir.Val.{bits}
-use Rattle.zf_spec.{specs.Numbers.{field, digits, value_of}, specs.Grid.{upto}, proofs.Fields.{length-field}}
+use Rattle.zf_spec.{specs.Numbers.{field, digits, value_of}, proofs.Fields.{length-field}}
 use Rattle.zf_spec.{specs.Planes.{planes_of, digits_in_planes, code}, specs.Codes.{planes, coefficients_of}}
-use Rattle.zf_spec.{proofs.Counting.{length-map-upto, get_or-map-upto}, proofs.Negabinary.{digits-value_of}}
+use Rattle.zf_spec.{proofs.Negabinary.{digits-value_of}}
 use Rattle.zf_spec.{proofs.Ranking.{by_rank-by_place}, proofs.PlaneCode.{length-code-le}}
 use Rattle.zf_spec.proofs.PlaneDigits.{digits_at, digits_at-planes_of, length-planes_of, planes_of-length}
 use Rattle.zf_coef.specs.HeldDigits.{digits_in, ranked_digits, unranked_values}
@@ -20,34 +21,23 @@ pub ranked-unranked : (w : Width) (d : ℕ) (words : List ℕ) → length words 
 ranked-unranked w d words size =
     let values = map (value_of w) (digits_in (bits w) words) in
     let long : length values ≡ 4 ^ d = length-map (digits_in (bits w) words) (value_of w) ∙ length-map words (field (bits w)) ∙ size in
-    ap (map (digits (bits w))) (by_rank-by_place d values long) ∙ back words
-  where
-    back : (words : List ℕ) → map (digits (bits w)) (map (value_of w) (digits_in (bits w) words)) ≡ digits_in (bits w) words
-    back [] = refl
-    back (u ∷ words) =
-        ap (λ (ds : List Bool). ds ∷ map (digits (bits w)) (map (value_of w) (digits_in (bits w) words))) (digits-value_of w (field (bits w) u) (length-field (bits w) u))
-        ∙ ap (λ (dss : List (List Bool)). field (bits w) u ∷ dss) (back words)
+    let back : map (digits (bits w)) values ≡ digits_in (bits w) words = search (rules, map-map, digits-value_of, length-field) in
+    cc (by_rank-by_place d values long)
 
 -- the planes of digits have these digits
 pub digits_in_planes-planes_of : (w : ℕ) (words : List ℕ) → digits_in_planes w (length words) (planes_of w (digits_in w words)) ≡ digits_in w words
 unfolding digits_in_planes
 digits_in_planes-planes_of w words =
     let digits = digits_in w words in
-    let at = digits_at w (planes_of w digits) in
-    let long = length-map-upto at (length words) in
-    ext_get_or [] (map at (upto (length words))) digits (long ∙ sym (length-map words (field w)))
-    (λ r below.
-    let within : r < length words = omega (arith, below, long) in
+    from_places (digits_at w (planes_of w digits)) (length words) [] digits (length-map words (field w))
+    (λ r within.
     let wide : length (get_or digits r []) ≡ w = ap length (get_or-map (field w) words r 0 [] within) ∙ length-field w (get_or words r 0) in
-    get_or-map-upto at (length words) r [] within ∙ digits_at-planes_of w digits r wide)
+    sym (digits_at-planes_of w digits r wide))
 
 -- the values that digits stand for are those that their planes stand for
 pub coefficients_of-planes_of : (w : Width) (d n : ℕ) (words : List ℕ) → n ≡ bits w → length words ≡ 4 ^ d
     → unranked_values w d (digits_in (bits w) words) ≡ coefficients_of w d (planes_of n (digits_in n words))
-coefficients_of-planes_of w d n words width size =
-    ap (unranked_values w d) (sym (digits_in_planes-planes_of (bits w) words))
-    ∙ ap (λ k. unranked_values w d (digits_in_planes (bits w) k (planes_of (bits w) (digits_in (bits w) words)))) size
-    ∙ ap (λ k. coefficients_of w d (planes_of k (digits_in k words))) (sym width)
+coefficients_of-planes_of w d n words width size = cc (digits_in_planes-planes_of (bits w) words)
 
 -- the code of the top planes of so many digits has at most a bit for each digit and one more for each coefficient
 pub length-code_digits-le : (prec w : ℕ) (words : List ℕ) → prec ≤ w → length (code (take prec (planes_of w (digits_in w words)))) ≤ length words * prec + length words

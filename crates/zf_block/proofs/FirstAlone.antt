@@ -1,24 +1,23 @@
 -- Planes in which the first rank alone has ones: their code, what is read as such, and the digits that they hold.
-use Rattle.std.proofs.Common.{rules, ◌≡◌, refl, sym, ap, subst, ◌∙◌, ℕ, zero, suc, ◌+◌, ◌-◌, ◌*◌, ◌/◌, ◌%◌, ◌^◌, ◌<◌, ◌≤◌, ◌≢◌, max, inl, inr, Bool, true, false, pos, List, [], ◌∷◌, ◌++◌, map, reverse, length, take, drop, replicate, get_or, ext_get_or, ◌==◌, All, arith}
-use Rattle.std.{proofs.Math.Pow.{pow_mono}, proofs.Math.Nat.{one-le-pow}, specs.Int.{Width}}
+use Rattle.std.{proofs.lemmas.List.Elements.{All-map}, proofs.Math.Pow.{pow_mono}, specs.Int.{Width}}
+use Rattle.std.proofs.Common.{rules, ◌≡◌, refl, sym, ap, subst, ◌∙◌, ℕ, zero, suc, ◌+◌, ◌-◌, ◌*◌, ◌/◌, ◌%◌, ◌^◌, ◌<◌, ◌≤◌, ◌≢◌, max, Bool, true, false, pos, List, [], ◌∷◌, ◌++◌, map, reverse, length, take, drop, replicate, get_or, ext_get_or, ◌==◌, All, arith}
 use Rattle.std.proofs.lemmas.Nat.{pow_pos, pow-add, shr-shr, shl_whole, mul-add-lt}
 use Rattle.std.proofs.lemmas.List.{append-nil, map-append, reverse-append, length-append, length-map, length-replicate, length-reverse, length-take, take_all, take-append-le, take-take, take-append-drop, get_or-reverse}
 use mir.Val.{bits}
 use Rattle.zf_spec.{specs.Numbers.{field, is_odd, digit_value, value_of}, specs.Kept.{kept_planes}}
 use Rattle.zf_spec.{specs.Grid.{IsDimension, IsBlockSize, upto}, specs.Codes.{coefficients_of}}
-use Rattle.zf_spec.specs.Planes.{plane, planes_of, reach, tail, plane_code, code_from, code}
+use Rattle.zf_spec.specs.Planes.{plane, planes_of, reach, tail, code_from, code}
 use Rattle.zf_spec.{specs.ReadPlanes.{Begins, planes_in}, proofs.Beginnings.{begins_itself}}
 use Rattle.zf_spec.proofs.Fields.{length-field, field-add, field-mod, field-zero, is_odd-digit_value}
 use Rattle.zf_spec.{proofs.Full.{full_only}, proofs.Reach.{has_one-zeros, reach_none}}
 use Rattle.zf_spec.proofs.PlaneDigits.{length-map-reverse-upto, get_or-map-reverse-upto}
 use Rattle.zf_bits.{specs.Reader.{Reader, rest, Reads}, proofs.Words.{field_shifted}}
 use Rattle.zf_bits.proofs.Reading.{Reads-append, Reads-same}
-use Rattle.zf_coef.{specs.HeldDigits.{digits_in}, proofs.FirstAlone.{unranked_first}}
+use Rattle.zf_coef.{specs.HeldDigits.{digits_in}}
 use Rattle.zf_planes.{specs.Spread.{lone_code}, proofs.Runs.{tail_none}, proofs.Peeking.{IsPeeked, peeked}}
 use Rattle.zf_block.{specs.Block.{AreAbove}, specs.Decoding.{PassesCode}, specs.ReadBlocks.{uncut_len}}
 use Rattle.zf_block.specs.FirstAlone.{digits_down, first_planes, first_code, IsFirstCode, ReadsDigits}
-use Rattle.zf_block.{proofs.Digits.{coefficients_of-planes_of}, proofs.Kept.{kept_planes-whole}}
-use Rattle.zf_block.proofs.ZeroPlanes.{plane-zeros, first_apart}
+use Rattle.zf_block.{proofs.Kept.{kept_planes-whole}, proofs.ZeroPlanes.{plane-zeros, first_apart, first_coefficients}}
 
 -- ---- digits from the top down
 
@@ -76,10 +75,7 @@ module _ (n : ℕ) where
 
   behind_one : (ds : List Bool) → code_from 1 (held ds) ≡ lone_code ds
   behind_one [] = refl
-  behind_one (d ∷ ds) =
-      ap (λ k. plane_code 1 (d ∷ others) ++ code_from k (held ds)) (still d)
-      ∙ ap (λ (bs : List Bool). (d ∷ bs) ++ code_from 1 (held ds)) none
-      ∙ ap (λ (bs : List Bool). d ∷ false ∷ bs) (behind_one ds)
+  behind_one (d ∷ ds) = cc (still d, none, behind_one ds)
 
   code-held : (ds : List Bool) → code (held ds) ≡ first_code ds
   unfolding first_code
@@ -87,9 +83,7 @@ module _ (n : ℕ) where
   code-held (false ∷ ds) =
       let zeros = has_one-zeros (suc (suc n)) in
       let low : max 0 (reach (false ∷ others)) ≡ 0 = omega (arith, reach_none (false ∷ others) zeros) in
-      ap (λ k. plane_code 0 (false ∷ others) ++ code_from k (held ds)) low
-      ∙ ap (λ (bs : List Bool). bs ++ code (held ds)) (tail_none (false ∷ others) (omega (arith, length-replicate (suc n) false)) zeros)
-      ∙ ap (λ (bs : List Bool). false ∷ bs) (code-held ds)
+      cc (tail_none (false ∷ others) (omega (arith, length-replicate (suc n) false)) zeros, code-held ds)
   code-held (true ∷ ds) =
       let one : max 0 (reach (true ∷ others)) ≡ 1 = omega (arith, reach_none others (has_one-zeros (suc n))) in
       search (rules, none, behind_one)
@@ -102,9 +96,8 @@ code-first_planes size ds some =
 -- ---- what is read as such
 
 sized : (size : ℕ) (ds : List Bool) → 1 ≤ size → All (λ es. length es ≡ size) (first_planes size ds)
-sized size [] some k d below = absurd (omega arith)
-sized size (b ∷ ds) some zero d below = omega (arith, length-replicate (size - 1) false)
-sized size (b ∷ ds) some (suc k) d below = sized size ds some k d (omega arith)
+sized size ds some =
+    All-map (λ es. length es ≡ size) (λ d. d ∷ replicate (size - 1) false) ds (λ k d below. omega (arith, length-replicate (size - 1) false))
 
 module _ (size k u len : ℕ) (s : List Bool) (some : 2 ≤ size) (is : IsFirstCode k u len s) where
   abbrev planes : List (List Bool)
@@ -171,10 +164,7 @@ first_above size k n u some = (
 -- ---- what codes hold
 
 size_more : {size : ℕ} → IsBlockSize size → 2 ≤ size
-size_more (inl e) = omega arith
-size_more (inr (inl e)) = omega arith
-size_more (inr (inr (inl e))) = omega arith
-size_more (inr (inr (inr e))) = omega arith
+size_more sizes = omega arith
 
 -- one of a budget, of as many planes as there are digits
 pub rate_first : (size w u len budget : ℕ) (s : List Bool) → IsBlockSize size → len ≤ budget → budget ≤ length s → IsFirstCode w u len s
@@ -187,7 +177,6 @@ rate_first size w u len budget s sizes fits enough is =
 pub uncut_first : (size w k u len v : ℕ) (s : List Bool) → IsBlockSize size → k ≤ w → w ≤ 64 → v ≡ u * 2 ^ (w - k) % 2 ^ 64 → IsFirstCode k u len s
     → AreAbove size (planes_in k size s) (planes_of w (digits_in w (v ∷ replicate (size - 1) 0)))
 uncut_first size w k u len v s sizes within word is here =
-    let some = size_more sizes in
     let n = w - k in
     let all : k + n ≡ w = omega arith in
     let whole : v ≡ u * 2 ^ n = is ∙ shl_whole u k n 64 here.small (omega arith) in
@@ -196,13 +185,7 @@ uncut_first size w k u len v s sizes within word is here =
 -- the coefficients that they stand for
 pub coefficients_first : (w : Width) (d n u size : ℕ) → IsDimension d → n ≡ bits w → size ≡ 4 ^ d
     → coefficients_of w d (planes_of n (digits_in n (u ∷ replicate (size - 1) 0))) ≡ value_of w (field (bits w) u) ∷ replicate (4 ^ d - 1) (pos 0)
-coefficients_first w d n u size dims width is =
-    let some : 1 ≤ 4 ^ d = one-le-pow d 4 (omega arith) in
-    let words : List ℕ = u ∷ replicate (4 ^ d - 1) 0 in
-    let long : length words ≡ 4 ^ d = omega (arith, some, length-replicate {A = ℕ} (4 ^ d - 1) 0) in
-    ap (λ k. coefficients_of w d (planes_of n (digits_in n (u ∷ replicate (k - 1) 0)))) is
-    ∙ sym (coefficients_of-planes_of w d n words width long)
-    ∙ unranked_first w d u dims some
+coefficients_first w d n u size dims width is = cc (first_coefficients w d u (value_of w (field (bits w) u)) dims refl)
 
 -- its bits are passed
 pub passes_first : (size k u len : ℕ) (old new : Reader) → IsBlockSize size → IsFirstCode k u len (rest old) → Reads old new (take len (rest old))
@@ -229,16 +212,13 @@ one_more word i digits left low come =
     let d = left % 2 in
     let two : 2 * (i + 1) ≡ 2 * i + 2 = omega arith in
     let twice : 2 * digits + d ≡ digits * 2 ^ 1 + d = omega arith in
-    let first : is_odd left ≡ is_odd d = is_odd-mod left in
+    let first : is_odd left ≡ is_odd d = let same : d ≡ d % 2 = omega arith in ap (λ k. k == 1) same in
     let second : is_odd (left / 2) ≡ false = let even : left / 2 ≡ digit_value false + 2 * (left / 4) = omega arith in ap is_odd even ∙ is_odd-digit_value false (left / 4) in
     record {
       code = search (rules, field-add, digits_down-add, lone_code-append);
       small = omega (arith, come.small, pow-add 2 i 1);
       behind = omega (arith, come.behind, shr-shr word (2 * i) 2, ap (λ n. word / 2 ^ n) two);
     }
-  where
-    is_odd-mod : (n : ℕ) → is_odd n ≡ is_odd (n % 2)
-    is_odd-mod n = let same : n % 2 ≡ n % 2 % 2 = omega arith in ap (λ k. k == 1) same
 
 -- there is room for one more
 pub fits_more : (i digits bit : ℕ) → digits < 2 ^ i → i ≤ 31 → bit ≤ 1 → 2 * digits + bit < 2 ^ 64
@@ -270,13 +250,12 @@ first_read {old} {zeros} {one} {new} z n d len above first behind count =
     let k = 1 + n in
     let twice = pow-add 2 1 n in
     let u = 2 ^ n + d in
-    let digits = digits_down n d in
     let bits = first_code (digits_down (z + k) u) in
     let whole : 1 * 2 ^ n + d ≡ u = omega arith in
     let alone : u ≡ 0 * 2 ^ k + u = omega arith in
     let below : 0 * 2 ^ k + u < 2 ^ (z + k) = parts_below z k 0 u (pow_pos z) (omega (arith, behind.small, twice)) in
-    let all : digits_down (z + k) u ≡ replicate z false ++ (true ∷ digits) = search (rules, digits_down-add, digits_down-zero) in
-    let reads : Reads old new bits = Reads-same (Reads-append above (Reads-append first behind.reads)) (sym (ap first_code all ∙ first_code-behind z digits)) in
+    let all : digits_down (z + k) u ≡ replicate z false ++ (true ∷ digits_down n d) = search (rules, digits_down-add, digits_down-zero) in
+    let reads : Reads old new bits = Reads-same (Reads-append above (Reads-append first behind.reads)) (cc (first_code-behind z (digits_down n d))) in
     let long : length bits ≡ len = omega (arith, reads.place, count) in search (rules, take-append-le, take_all, length-append)
 
 -- as the code puts it together
@@ -293,5 +272,4 @@ whole_read {old} {zeros} {one} {new} prec z v d n len a b within some few below 
     let read = first_read z n d len (Reads-same above blank) group behind (omega (arith, count, at, end)) in
     let all : z + (1 + n) ≡ prec = omega arith in
     let word : 2 ^ n + d ≡ 1 * 2 ^ n % 2 ^ 64 + d = omega (arith, shl_whole 1 1 n 64 (omega arith) (omega arith)) in
-    let is = subst (λ k. IsFirstCode k (2 ^ n + d) len (rest old)) all read in
-    subst (λ u. IsFirstCode prec u len (rest old)) word is
+    rw (all, word) at read

@@ -1,5 +1,5 @@
 -- Planes that a budget keeps whole, and planes that are missing below.
-use Rattle.std.proofs.Common.{rules, ◌≡◌, refl, sym, ap, ◌∙◌, ℕ, zero, suc, ◌-◌, ◌≤◌, max, Bool, false, List, [], ◌∷◌, ◌++◌, length, take, get_or, replicate, arith}
+use Rattle.std.proofs.Common.{rules, ◌≡◌, refl, ap, ℕ, zero, suc, ◌-◌, ◌≤◌, max, Bool, false, List, [], ◌∷◌, ◌++◌, length, take, get_or, replicate, arith}
 use Rattle.std.{proofs.lemmas.List.{length-append, take_all}, specs.Int.{Width}}
 use Rattle.zf_spec.{specs.Planes.{reach, plane_code, code, code_from}, specs.Codes.{coefficients_of}}
 use Rattle.zf_spec.{specs.Kept.{kept_planes_from, kept_planes}, proofs.Counting.{map-upto_same}}
@@ -20,10 +20,9 @@ kept_from-top r n ps zero fits = refl
 kept_from-top r n [] (suc m) fits = refl
 kept_from-top r n (ds ∷ ps) (suc m) fits =
     let c = plane_code n ds in
-    let above = max n (reach ds) in
-    let long = length-append c (code_from above (take m ps)) in
-    ap (λ k. k ∷ take m (kept_planes_from (r - length c) above ps)) (kept_whole r n ds (omega (arith, long, fits)))
-    ∙ ap (λ ks. ds ∷ ks) (kept_from-top (r - length c) above ps m (omega (arith, long, fits)))
+    let long = length-append c (code_from (max n (reach ds)) (take m ps)) in
+    let behind = kept_from-top (r - length c) (max n (reach ds)) ps m (omega (arith, long, fits)) in
+    cc (behind, kept_whole r n ds (omega (arith, long, fits)))
 
 -- the top ones
 pub kept_planes-top : (budget : ℕ) (ps : List (List Bool)) (m : ℕ) → length (code (take m ps)) ≤ budget → take m (kept_planes budget ps) ≡ take m ps
@@ -32,9 +31,9 @@ kept_planes-top budget ps m fits = kept_from-top budget 0 ps m fits
 -- all
 pub kept_planes-whole : (r : ℕ) (ps : List (List Bool)) → length (code ps) ≤ r → kept_planes r ps ≡ ps
 kept_planes-whole r ps fits =
-    let n = length ps in
-    let all = take_all n ps (omega arith) in
-    sym (take_all n (kept_planes r ps) (omega (arith, length-kept_planes r ps))) ∙ kept_planes-top r ps n (omega (arith, ap (λ qs. length (code qs)) all, fits)) ∙ all
+    let all = take_all (length ps) ps (omega arith) in
+    let kept = take_all (length ps) (kept_planes r ps) (omega (arith, length-kept_planes r ps)) in
+    cc (all, kept, kept_planes-top r ps (length ps) (rw all fits))
 
 -- ---- planes of zeros below
 

@@ -1,12 +1,11 @@
 -- What reading a code is, from what was read of it.
-use Rattle.std.proofs.Common.{rules, ◌≡◌, sym, ap, subst, ◌∙◌, ℕ, ◌+◌, ◌-◌, ◌^◌, ◌<◌, ◌≤◌, le-ltb, lt-ltb, ℤ, Bool, Some, None, List, ◌++◌, false, length, take, drop, drop_at, replicate, refl, arith}
-use Rattle.std.{specs.Int.{Width}, proofs.Math.Nat.{mul-le-mul_left, mul-le-mul_right}}
-use Rattle.std.proofs.Math.Seq.{take-append-add}
-use Rattle.std.proofs.lemmas.List.{length-take, length-take-le, length-append, take_all}
+use Rattle.std.proofs.Common.{rules, ◌≡◌, sym, ap, ◌∙◌, ℕ, ◌+◌, ◌-◌, ◌^◌, ◌<◌, ◌≤◌, le-ltb, lt-ltb, ℤ, Bool, List, ◌++◌, false, length, take, drop, drop_at, replicate, arith}
+use Rattle.std.{proofs.lemmas.List.{length-take, length-take-le, length-append, take_all}, specs.Int.{Width}}
+use Rattle.std.{proofs.Math.Nat.{mul-le-mul_left, mul-le-mul_right}, proofs.Math.Seq.{take-append-add}}
 use mir.Val.{bits}
 use Rattle.zf_spec.{specs.Numbers.{field, number}, specs.Lorenzo.{unlorenzo}, specs.Lift.{unlift}}
 use Rattle.zf_spec.{specs.Planes.{code}, specs.ReadPlanes.{planes_in}, specs.Kept.{kept_planes}}
-use Rattle.zf_spec.specs.Codes.{count_bits, coefficients_of, existing_values, read_rev, read_rate, read_prec}
+use Rattle.zf_spec.specs.Codes.{count_bits, coefficients_of, read_rev, read_rate, read_prec}
 use Rattle.zf_spec.{proofs.Fields.{length-field}, proofs.Full.{length-planes_in, planes_in-length}}
 use Rattle.zf_spec.proofs.PlaneCode.{length-code-le}
 use Rattle.zf_bits.{specs.Reader.{Reader, rest, Reads}, proofs.Reading.{Reads-append, Reads-same}}
@@ -27,22 +26,15 @@ rest-Reads {a} {b} n bits long reads = sym (ap (drop n) reads.next ∙ drop_at b
 abbrev pub rev_block : Width → ℕ → List Bool → List ℤ
 rev_block w d s = unlorenzo w d (coefficients_of w d (rev_planes w (4 ^ d) s))
 
-read_rev-enough : (w : Width) (es : List ℕ) (s : List Bool) → rev_len w (4 ^ length es) s ≤ length s
-    → read_rev w es s ≡ Some (existing_values es (rev_block w (length es) s), rev_len w (4 ^ length es) s)
-unfolding read_rev rev_len rev_planes
-read_rev-enough w es s enough = search (rules, le-ltb)
-
-read_rev-short : (w : Width) (es : List ℕ) (s : List Bool) → length s < rev_len w (4 ^ length es) s → read_rev w es s ≡ None
-unfolding read_rev rev_len rev_planes
-read_rev-short w es s short = search (rules, lt-ltb)
-
 -- the code was read
 pub ReadsRev-planes : (w : Width) (d : ℕ) (old new : Reader) → PassesCode (rev_len w (4 ^ d) (rest old)) old new → ReadsRev w d old new (rev_block w d (rest old))
-ReadsRev-planes w d old new passes = search (rules, length-take, read_rev-enough)
+unfolding read_rev rev_len rev_planes
+ReadsRev-planes w d old new passes = search (rules, length-take, le-ltb)
 
 -- the bits ended before
 pub LacksRev-short : (w : Width) (d : ℕ) (old new : Reader) → LacksBits (rev_len w (4 ^ d) (rest old)) old new → LacksRev w d old
-LacksRev-short w d old new lacks = search (rules, read_rev-short)
+unfolding read_rev rev_len rev_planes
+LacksRev-short w d old new lacks = search (rules, lt-ltb)
 
 -- ---- planes without a budget
 
@@ -55,10 +47,8 @@ Reads-part {a} {b} {c} prefix k first second =
 pub passes_rest : (bits used : ℕ) (old middle new : Reader) → bits ≤ length (rest old) → used ≤ bits → Reads old middle (take used (rest old)) → Reads middle new (take (bits - used) (rest middle))
     → PassesCode bits old new
 passes_rest bits used old middle new enough less first second =
-    let s = rest old in
-    let all : length (take used s) + (bits - used) ≡ bits = omega (arith, length-take used s) in
-    let Passed : ℕ → Type 0 = λ n. Reads old new (take n s) in
-    record { whole = enough; passed = subst Passed all (Reads-part (take used s) (bits - used) first second) }
+    let all : length (take used (rest old)) + (bits - used) ≡ bits = omega (arith, length-take used (rest old)) in
+    record { whole = enough; passed = rw all at (Reads-part (take used (rest old)) (bits - used) first second) }
 
 -- the code of as many planes as there can be is short
 length-code-planes_in : (prec size : ℕ) (s : List Bool) → size ≤ 256 → prec ≤ 64 → length (code (planes_in prec size s)) ≤ 16640
@@ -85,13 +75,9 @@ module _ (prec size : ℕ) (old : Reader) (small : size ≤ 256) (few : prec ≤
     pub uncut_lacks : length s < coded_bits 18446744073709551615 prec size s → new ≡ old → LacksBits (uncut_len prec size s) old new
     uncut_lacks less unread = record { short = omega (arith, coded_bits-all, less); unread = unread }
 
-    pub uncut_passes : (count : ℕ) → ¬ (length s < coded_bits 18446744073709551615 prec size s) → count ≡ coded_bits 18446744073709551615 prec size s → Reads old new (take count s)
-        → PassesCode (uncut_len prec size s) old new
-    uncut_passes count enough is_all reads = search (rules, coded_bits-all)
-
-  pub uncut_above : (held : List (List Bool)) (n : ℕ) → held ≡ kept_planes 18446744073709551615 (coded 18446744073709551615 prec size s) ++ replicate n (replicate size false)
-      → AreAbove size (planes_in prec size s) held
-  uncut_above held n is = (n, is ∙ ap (λ (ps : List (List Bool)). ps ++ replicate n (replicate size false)) kept_planes-all)
+    pub uncut_read : (count n : ℕ) (held : List (List Bool)) → ¬ (length s < coded_bits 18446744073709551615 prec size s) → count ≡ coded_bits 18446744073709551615 prec size s → Reads old new (take count s)
+        → held ≡ kept_planes 18446744073709551615 (coded 18446744073709551615 prec size s) ++ replicate n (replicate size false) → PassesCode (uncut_len prec size s) old new × AreAbove size (planes_in prec size s) held
+    uncut_read count n held enough is_all reads is = (search (rules, coded_bits-all), (n, rw kept_planes-all at is))
 
 -- a reader of these bits at this place
 abbrev pub reader_at : List Bool → ℕ → Reader
@@ -122,6 +108,11 @@ module _ (w : Width) (size p : ℕ) (old middle : Reader) (value : p ≡ number 
   pub passes-behind_count : (new : Reader) → PassesCode (uncut_len p size (rest middle)) middle new → PassesCode (rev_len w size (rest old)) old new
   passes-behind_count new passes = search (rules, long, len-behind_count, length-behind_count, Reads-part)
 
+  -- and what is held above
+  pub held-behind_count : (new : Reader) (held : List (List Bool)) → PassesCode (uncut_len p size (rest middle)) middle new × AreAbove size (planes_in p size (rest middle)) held
+      → PassesCode (rev_len w size (rest old)) old new × AreAbove size (rev_planes w size (rest old)) held
+  held-behind_count new held behind = (passes-behind_count new behind.0, rw planes-behind_count at behind.1)
+
   -- the code is missing behind the count, and the reader went back to where it stood
   pub lacks-behind_count : (a b : Reader) (start : ℕ) → LacksBits (uncut_len p size (rest middle)) middle a → b ≡ reader_at a.all start → start ≡ old.at → LacksBits (rev_len w size (rest old)) old b
   lacks-behind_count a b start lacks back at = search (rules, len-behind_count, length-behind_count)
@@ -137,34 +128,20 @@ lacks-count w size old new lacks = record { short = omega (arith, lacks.short); 
 abbrev pub prec_block : Width → ℕ → ℕ → List Bool → List ℤ
 prec_block w p d s = unlift w d (coefficients_of w d (prec_planes w p (4 ^ d) s))
 
-read_prec-enough : (w : Width) (p : ℕ) (es : List ℕ) (s : List Bool) → prec_len w p (4 ^ length es) s ≤ length s
-    → read_prec w p es s ≡ Some (existing_values es (prec_block w p (length es) s), prec_len w p (4 ^ length es) s)
-unfolding read_prec prec_len prec_planes
-read_prec-enough w p es s enough = search (rules, le-ltb)
-
-read_prec-short : (w : Width) (p : ℕ) (es : List ℕ) (s : List Bool) → length s < prec_len w p (4 ^ length es) s → read_prec w p es s ≡ None
-unfolding read_prec prec_len prec_planes
-read_prec-short w p es s short = search (rules, lt-ltb)
-
 -- the code was read
 pub ReadsPrec-planes : (w : Width) (d p : ℕ) (old new : Reader) → PassesCode (prec_len w p (4 ^ d) (rest old)) old new → ReadsPrec w d p old new (prec_block w p d (rest old))
-ReadsPrec-planes w d p old new passes = search (rules, length-take, read_prec-enough)
+unfolding read_prec prec_len prec_planes
+ReadsPrec-planes w d p old new passes = search (rules, length-take, le-ltb)
 
 -- the bits ended before
 pub LacksPrec-short : (w : Width) (d p : ℕ) (old new : Reader) → LacksBits (prec_len w p (4 ^ d) (rest old)) old new → LacksPrec w d p old
-LacksPrec-short w d p old new lacks = search (rules, read_prec-short)
+unfolding read_prec prec_len prec_planes
+LacksPrec-short w d p old new lacks = search (rules, lt-ltb)
 
 -- ---- a code of a fixed rate
-
--- the block at all places that the planes of a code stand for
-abbrev rate_block : Width → ℕ → List Bool → List ℤ
-rate_block w d s = unlift w d (coefficients_of w d (kept_planes (length s) (planes_in (bits w) (4 ^ d) s)))
-
-read_rate-block : (w : Width) (es : List ℕ) (s : List Bool) → read_rate w es s ≡ existing_values es (rate_block w (length es) s)
-unfolding read_rate
-read_rate-block w es s = refl
 
 -- the code was read
 pub ReadsRate-planes : (w : Width) (d budget : ℕ) (old new : Reader) → budget ≤ length (rest old) → Reads old new (take budget (rest old))
     → ReadsRate w d budget old new (unlift w d (coefficients_of w d (kept_planes budget (planes_in (bits w) (4 ^ d) (take budget (rest old))))))
-ReadsRate-planes w d budget old new enough reads = search (rules, long, length-take-le, read_rate-block)
+unfolding read_rate
+ReadsRate-planes w d budget old new enough reads = search (rules, length-take-le)

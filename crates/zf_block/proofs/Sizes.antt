@@ -2,21 +2,15 @@
 use Rattle.std.proofs.Common.{◌≡◌, ℕ, zero, suc, ◌^◌, ◌≤◌, ◌*◌, ◌%◌, ◌⊎◌, inl, inr, arith}
 
 pub block_sizes : (d n : ℕ) → 1 ≤ d → d ≤ 4 → n ≡ 4 ^ d → (n ≡ 4) ⊎ (n ≡ 16) ⊎ (n ≡ 64) ⊎ (n ≡ 256)
-block_sizes zero n some four e = absurd (omega arith)
 block_sizes (suc zero) n some four e = inl e
 block_sizes (suc (suc zero)) n some four e = inr (inl e)
 block_sizes (suc (suc (suc zero))) n some four e = inr (inr (inl e))
 block_sizes (suc (suc (suc (suc zero)))) n some four e = inr (inr (inr e))
-block_sizes (suc (suc (suc (suc (suc d))))) n some four e = absurd (omega arith)
+block_sizes d n some four e = absurd (omega arith)
 
 -- a block has whole rows of four
 fours_whole : (n k : ℕ) → n ≡ 4 * k → n % 4 ≡ 0
 fours_whole n k e = omega arith
 
 pub rows_whole : (d n : ℕ) → 1 ≤ d → d ≤ 4 → n ≡ 4 ^ d → n % 4 ≡ 0
-rows_whole zero n some four e = absurd (omega arith)
-rows_whole (suc zero) n some four e = fours_whole n 1 e
-rows_whole (suc (suc zero)) n some four e = fours_whole n 4 e
-rows_whole (suc (suc (suc zero))) n some four e = fours_whole n 16 e
-rows_whole (suc (suc (suc (suc zero)))) n some four e = fours_whole n 64 e
-rows_whole (suc (suc (suc (suc (suc d))))) n some four e = absurd (omega arith)
+rows_whole d n some four e = omega (arith, block_sizes d n some four e)

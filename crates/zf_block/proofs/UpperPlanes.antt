@@ -20,7 +20,7 @@ use Rattle.zf_block.specs.Held.{top_code}
 code_from-ge : (k n size : ℕ) (ps : List (List Bool)) → k ≤ n → n ≤ size → AreOfSize size ps → k * length ps ≤ length (code_from n ps)
 code_from-ge k n size [] few within all = omega arith
 code_from-ge k n size (ds ∷ ps) few within all =
-    let l : length ds ≡ size = All-head (λ ds. length ds ≡ size) ds ps all in
+    let l = All-head (λ ds. length ds ≡ size) ds ps all in
     let next = max n (reach ds) in
     let rest = code_from-ge k next size ps (omega arith) (reach_within size n ds within l) (All-tail (λ ds. length ds ≡ size) ds ps all) in
     omega (arith, rest, l, length-append (plane_code n ds) (code_from next ps), length-append (take n ds) (tail (drop n ds)), length-take n ds)
@@ -55,8 +55,7 @@ highest v j low high = search (rules, bit_at_cat_high, pow-suc)
 
 -- a word with fewer leading zeros than digits is not zero
 some_digit : (v p : ℕ) → leading_zeros w64 v ≡ p → p < 64 → 0 < v
-some_digit zero p is less = absurd (omega (arith, leading_of_zero 64, is, less))
-some_digit (suc v) p is less = omega arith
+some_digit v p is less = grind (arith, leading_of_zero 64)
 
 -- the last rank has a one in the plane behind the leading zeros of its digits
 last_one : (us : List ℕ) (w r v p : ℕ) → w ≡ 64 → r < length us → get_or us r 0 ≡ v → v < 2 ^ 64 → leading_zeros w64 v ≡ p → p < w
@@ -88,9 +87,8 @@ top_has bits k w size v p us width top long some is word zeros here enough =
 first_of_top : (bits k : ℕ) (ps : List (List Bool)) → bits ≤ length (code (take k ps)) → take bits (code (take k ps)) ≡ first_bits bits (code ps)
 first_of_top bits k ps enough =
     let rest = code_from (max 0 (reach_of_all (take k ps))) (drop k ps) in
-    sym (ap (λ qs. first_bits bits (code qs)) (sym (take-append-drop k ps))
-    ∙ ap (first_bits bits) (code_from-append 0 (take k ps) (drop k ps))
-    ∙ first_bits-append (code (take k ps)) rest bits enough)
+    let split = code_from-append 0 (take k ps) (drop k ps) in
+    cc (split, take-append-drop k ps, first_bits-append (code (take k ps)) rest bits enough)
 
 -- ---- planes of words without their lowest digits
 
@@ -101,9 +99,8 @@ plane-above : (m k w j : ℕ) (us : List ℕ) → w ≡ m + k → j < m → plan
 plane-above m k w j [] width here = refl
 plane-above m k w j (u ∷ us) width here =
     let place : k + j ≡ j + k = omega arith in
-    let first : get_or (field m (u / 2 ^ k)) j false ≡ get_or (field w u) (j + k) false =
-    get_or-field m (u / 2 ^ k) j false here ∙ ap is_odd (shr-shr u k j) ∙ ap (λ i. is_odd (u / 2 ^ i)) place ∙ sym (get_or-field w u (j + k) false (omega arith)) in
-    ap (λ b. b ∷ plane j (digits_in m (above k us))) first ∙ ap (λ (bs : List Bool). get_or (field w u) (j + k) false ∷ bs) (plane-above m k w j us width here)
+    let low = get_or-field m (u / 2 ^ k) j false here in
+    cc (low, shr-shr u k j, get_or-field w u (j + k) false (omega arith), plane-above m k w j us width here)
 
 planes_of-above : (m k w : ℕ) (us : List ℕ) → w ≡ m + k → planes_of m (digits_in m (above k us)) ≡ take m (planes_of w (digits_in w us))
 planes_of-above m k w us width =
@@ -115,18 +112,17 @@ planes_of-above m k w us width =
     (λ i below.
     let here : i < m = omega (arith, below, long) in
     let place : m - 1 - i + k ≡ w - 1 - i = omega arith in
-    get_or-planes_of m (digits_in m (above k us)) i here
-    ∙ plane-above m k w (m - 1 - i) us width (omega arith)
-    ∙ ap (λ j. plane j (digits_in w us)) place
-    ∙ sym (get_or-take m all i [] here ∙ get_or-planes_of w (digits_in w us) i (omega arith)))
+    let plane_of = get_or-planes_of m (digits_in m (above k us)) i here in
+    let plane_of' = get_or-planes_of w (digits_in w us) i (omega arith) in
+    cc (plane-above m k w (m - 1 - i) us width (omega arith), get_or-take m all i [] here))
 
 -- words that are these without their lowest digits
 pub planes_of-shifted : (m k w : ℕ) (us vs : List ℕ) → w ≡ m + k → length vs ≡ length us → ((r : ℕ) → r < length vs → get_or vs r 0 ≡ get_or us r 0 / 2 ^ k)
     → planes_of m (digits_in m vs) ≡ take m (planes_of w (digits_in w us))
 planes_of-shifted m k w us vs width long each =
-    let same : vs ≡ above k us =
-    ext_get_or 0 vs (above k us) (long ∙ sym (length-map us (λ u. u / 2 ^ k))) (λ r here. each r here ∙ sym (get_or-map (λ u. u / 2 ^ k) us r 0 0 (omega arith))) in
-    ap (λ xs. planes_of m (digits_in m xs)) same ∙ planes_of-above m k w us width
+    let size = length-map us (λ u. u / 2 ^ k) in
+    let same : vs ≡ above k us = ext_get_or 0 vs (above k us) (omega (arith, size)) (search (rules, get_or-map)) in
+    rw same (planes_of-above m k w us width)
 
 -- what is written of the top planes is what is written of all
 pub writes_top : (bits m k w : ℕ) (us vs : List ℕ) → w ≡ m + k → length vs ≡ length us → ((r : ℕ) → r < length vs → get_or vs r 0 ≡ get_or us r 0 / 2 ^ k)

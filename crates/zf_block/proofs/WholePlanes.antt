@@ -1,17 +1,19 @@
 -- How far down a code at a fixed rate has its planes whole.
-use Rattle.std.proofs.Common.{rules, ◌≡◌, refl, sym, ap, subst, ◌∙◌, ℕ, zero, suc, ◌+◌, ◌-◌, ◌^◌, ◌<◌, ◌≤◌, max, Bool, false, leb, ℤ, List, [], ◌∷◌, ◌++◌, length, take, get_or, replicate, All, ⊎_elim, take-take, append-nil, append_assoc, arith}
-use Rattle.std.{proofs.lemmas.Bool.{cases_lt, leb-true, le-leb, true≢false}, specs.List.{position_or_len}}
+use Rattle.std.proofs.lemmas.Bool.{leb-false}
+use Rattle.zf_planes.proofs.Strings.{code_from-append}
+use Rattle.zf_spec.specs.Planes.{reach_of_all}
+use Rattle.std.proofs.Common.{rules, ◌≡◌, sym, ap, subst, ◌∙◌, ℕ, ◌+◌, ◌-◌, ◌^◌, ◌<◌, ◌≤◌, max, Bool, false, leb, ℤ, List, [], ◌++◌, length, take, drop, get_or, replicate, All, ⊎_elim, take-take, take-append-drop, append-nil, arith}
+use Rattle.std.{proofs.lemmas.Bool.{cases_lt, leb-true}, specs.List.{position_or_len}}
 use Rattle.std.{proofs.lemmas.List.{length-append, length-take, length-replicate}, specs.Int.{Width}}
 use Rattle.std.proofs.lemmas.List.Elements.{All-take}
 use Rattle.std.proofs.lemmas.List.Sums.{fails_before_first, passes_at_first, prefix_len-le-length}
 use mir.Val.{bits}
-use Rattle.zf_spec.{specs.Grid.{upto}, specs.Lift.{lift}, specs.Padding.{pad}, specs.Kept.{kept_planes}}
-use Rattle.zf_spec.{specs.Planes.{reach, plane_code, code_from, code}, specs.Codes.{planes, rate}}
-use Rattle.zf_spec.{specs.ReadPlanes.{first_bits, Begins, planes_in}, proofs.CutCodes.{kept_planes-too_long}}
 use Rattle.zf_spec.proofs.Beginnings.{length-first_bits, begins_is_first, begins_from_first, begins_prefix, begins_itself, first_bits-first_bits}
-use Rattle.zf_spec.proofs.Counting.{length-upto, get_or-upto}
 use Rattle.zf_spec.proofs.Full.{full_begins, full_only, length-planes_in, planes_in-length}
-use Rattle.zf_spec.proofs.PlaneDigits.{length-planes, planes-length}
+use Rattle.zf_spec.{proofs.PlaneDigits.{length-planes, planes-length}, proofs.CutCodes.{kept_planes-too_long}}
+use Rattle.zf_spec.{specs.ReadPlanes.{first_bits, Begins, planes_in}, specs.Planes.{code_from, code}}
+use Rattle.zf_spec.{proofs.Counting.{length-upto, get_or-upto}, specs.Codes.{planes, rate}, specs.Grid.{upto}}
+use Rattle.zf_spec.{specs.Kept.{kept_planes}, specs.Padding.{pad}, specs.Lift.{lift}}
 use Rattle.zf_block.specs.WholePlanes.{planes_from, whole_from, rate_whole_from}
 use Rattle.zf_block.proofs.Kept.{length-kept_planes, kept_planes-top}
 
@@ -32,7 +34,7 @@ pub whole_from-fits : (budget : ℕ) (ps : List (List Bool)) → length (code (p
 unfolding whole_from planes_from
 whole_from-fits budget ps = ⊎_elim
     (λ below. leb-true (length (code (planes_from k ps))) budget (sym (at_place budget ps k below) ∙ passes_at_first (fits_from budget ps) (upto (length ps)) 0 (omega (arith, below, length-upto (length ps)))))
-    (λ past. let none : length ps - k ≡ 0 = omega arith in omega (arith, ap (λ n. length (code (take n ps))) none))
+    (λ past. let none : length ps - k ≡ 0 = omega arith in rw none (omega arith))
     (cases_lt k (length ps))
   where
     k : ℕ
@@ -40,16 +42,10 @@ whole_from-fits budget ps = ⊎_elim
 
 pub whole_from-least : (budget : ℕ) (ps : List (List Bool)) (k : ℕ) → k < whole_from budget ps → budget < length (code (planes_from k ps))
 unfolding whole_from
-whole_from-least budget ps k below = ⊎_elim
-    (λ more. more)
-    (λ fits. absurd (true≢false (sym (le-leb (length (code (planes_from k ps))) budget fits) ∙ sym (at_place budget ps k there) ∙ fails)))
-    (cases_lt budget (length (code (planes_from k ps))))
-  where
-    there : k < length ps
-    there = omega (arith, below, whole_from-le budget ps)
-
-    fails : fits_from budget ps (get_or (upto (length ps)) k 0) ≡ false
-    fails = fails_before_first (fits_from budget ps) (upto (length ps)) k 0 below
+whole_from-least budget ps k below =
+    let there : k < length ps = omega (arith, below, whole_from-le budget ps) in
+    leb-false (length (code (planes_from k ps))) budget
+    (sym (at_place budget ps k there) ∙ fails_before_first (fits_from budget ps) (upto (length ps)) k 0 below)
 
 pub whole_from-only : (budget : ℕ) (ps : List (List Bool)) (k : ℕ) → k ≤ length ps → length (code (planes_from k ps)) ≤ budget
     → ((j : ℕ) → j < k → budget < length (code (planes_from j ps))) → k ≡ whole_from budget ps
@@ -61,11 +57,9 @@ whole_from-only budget ps k within fits least = ⊎_elim
 -- ---- the code of the top planes begins the code of all
 
 code_from-prefix : (n : ℕ) (ps : List (List Bool)) (m : ℕ) → (rest : List Bool) × (code_from n ps ≡ code_from n (take m ps) ++ rest)
-code_from-prefix n ps zero = (code_from n ps, refl)
-code_from-prefix n [] (suc m) = ([], refl)
-code_from-prefix n (ds ∷ ps) (suc m) =
-    let next = code_from-prefix (max n (reach ds)) ps m in
-    (next.0, ap (λ bs. plane_code n ds ++ bs) next.1 ∙ sym (append_assoc (plane_code n ds) (code_from (max n (reach ds)) (take m ps)) next.0))
+code_from-prefix n ps m =
+    let split = code_from-append n (take m ps) (drop m ps) in
+    (code_from (max n (reach_of_all (take m ps))) (drop m ps), cc (split, take-append-drop m ps))
 
 code_prefix_begins : (ps : List (List Bool)) (m : ℕ) (s : List Bool) → Begins (code ps) s → Begins (code (take m ps)) s
 code_prefix_begins ps m s begins =
@@ -82,25 +76,11 @@ pub whole_from-kept : (size budget : ℕ) (ps : List (List Bool)) (m : ℕ) → 
     → (m < length ps → budget < length (code (take (m + 1) (kept_planes budget ps)))) → length ps - m ≡ whole_from budget ps
 unfolding planes_from
 whole_from-kept size budget ps m all within fits no_more =
-    whole_from-only budget ps (length ps - m) (omega arith) (omega (arith, own_fits, ap (λ k. length (code (take k ps))) top)) least
-  where
-    top : length ps - (length ps - m) ≡ m
-    top = omega arith
-
-    own_fits : length (code (take m ps)) ≤ budget
-    own_fits = ⊎_elim
-        (λ more. absurd (omega (arith, kept_planes-too_long size budget ps m all more, fits)))
-        (λ less. less)
-        (cases_lt budget (length (code (take m ps))))
-
-    one_more : m < length ps → budget < length (code (take (m + 1) ps))
-    one_more below = ⊎_elim
-        (λ more. more)
-        (λ less. absurd (omega (arith, no_more below, ap (λ qs. length (code qs)) (kept_planes-top budget ps (m + 1) less), less)))
-        (cases_lt budget (length (code (take (m + 1) ps))))
-
-    least : (j : ℕ) → j < length ps - m → budget < length (code (planes_from j ps))
-    least j below = omega (arith, one_more (omega (arith, below)), length-code_take-le ps (m + 1) (length ps - j) (omega (arith, below)))
+    let top : length ps - (length ps - m) ≡ m = omega arith in
+    let own_fits : length (code (take m ps)) ≤ budget = grind (arith, kept_planes-too_long size budget ps m all) in
+    let one_more : m < length ps → budget < length (code (take (m + 1) ps)) = grind (arith, kept_planes-top budget ps (m + 1)) in
+    whole_from-only budget ps (length ps - m) (omega arith) (rw top own_fits)
+    (λ j below. omega (arith, one_more (omega (arith, below)), length-code_take-le ps (m + 1) (length ps - j) (omega (arith, below))))
 
 -- the same of planes that are held, with planes of zeros below or none
 pub whole_from-held : (size budget : ℕ) (ps held : List (List Bool)) (n m : ℕ) → All (λ ds. length ds ≡ size) ps → held ≡ kept_planes budget ps ++ replicate n (replicate size false)
@@ -108,9 +88,8 @@ pub whole_from-held : (size budget : ℕ) (ps held : List (List Bool)) (n m : �
 whole_from-held size budget ps held n m all is long within fits no_more =
     let zeros = replicate n (replicate size false) in
     let none : n ≡ 0 = omega (arith, ap length is, length-append (kept_planes budget ps) zeros, length-kept_planes budget ps, length-replicate n (replicate size false), long) in
-    let same : held ≡ kept_planes budget ps = is ∙ ap (λ k. kept_planes budget ps ++ replicate k (replicate size false)) none ∙ append-nil (kept_planes budget ps) in
-    whole_from-kept size budget ps m all within (subst (λ qs. length (code (take m qs)) ≤ budget) same fits)
-    (λ below. subst (λ qs. budget < length (code (take (m + 1) qs))) same (no_more below))
+    let same = rw (none, append-nil (kept_planes budget ps)) at is in
+    whole_from-kept size budget ps m all within (rw same at fits) (rw same at no_more)
 
 -- ---- whatever planes have this code: those from the least plane on are kept as they are
 
@@ -130,10 +109,9 @@ module _ (size budget : ℕ) (ps : List (List Bool)) (all : All (λ ds. length d
       let count : length read ≡ m = omega (arith, length-take m qs, length-planes_in (length ps) size s, within) in
       let own_count : length (take m ps) ≡ m = omega (arith, length-take m ps, within) in
       let itself : Begins (code ps) (code ps) = rw append-nil at (begins_itself (code ps) []) in
-      full_only size read (code ps) (All-take (λ ds. length ds ≡ size) m qs (planes_in-length (length ps) size s))
-      (begins_from_first (code read) (code ps) (begins ∙ first_bits-first_bits (length (code read)) budget (code ps) fits))
-      ∙ ap (λ p. planes_in p size (code ps)) (count ∙ sym own_count)
-      ∙ sym (full_only size (take m ps) (code ps) (All-take (λ ds. length ds ≡ size) m ps all) (code_prefix_begins ps m (code ps) itself))
+      let one = full_only size read (code ps) (All-take (λ ds. length ds ≡ size) m qs (planes_in-length (length ps) size s))
+      (begins_from_first (code read) (code ps) (begins ∙ first_bits-first_bits (length (code read)) budget (code ps) fits)) in
+      cc (one, full_only size (take m ps) (code ps) (All-take (λ ds. length ds ≡ size) m ps all) (code_prefix_begins ps m (code ps) itself))
 
   kept_from : (k : ℕ) → whole_from budget qs ≤ k → planes_from k (kept_planes budget ps) ≡ planes_from k ps
   unfolding planes_from
@@ -142,9 +120,7 @@ module _ (size budget : ℕ) (ps : List (List Bool)) (all : All (λ ds. length d
       let count = length-planes_in (length ps) size s in
       let fits : length (code (take m qs)) ≤ budget =
       omega (arith, whole_from-fits budget qs, length-code_take-le qs m (length qs - whole_from budget qs) (omega (arith, from, count))) in
-      let same = tops_same m (omega arith) fits in
-      ap (λ n. take (n - k) (kept_planes budget ps)) (length-kept_planes budget ps)
-      ∙ kept_planes-top budget ps m (omega (arith, ap (λ (rs : List (List Bool)). length (code rs)) same, fits))
+      rw length-kept_planes (kept_planes-top budget ps m (rw (tops_same m (omega arith) fits) at fits))
 
 -- the planes of the coefficients of a block
 abbrev pub block_planes : Width → List ℕ → List ℤ → List (List Bool)

@@ -1,18 +1,19 @@
 -- Planes of zeros: what begins with zeros is read as such, a budget keeps them as they are, and they stand for a block of zeros.
-use Rattle.std.proofs.Common.{rules, ◌≡◌, refl, sym, ap, ◌∙◌, ℕ, zero, suc, ◌+◌, ◌-◌, ◌^◌, ◌≤◌, inl, inr, min, max, Bool, true, false, ℤ, pos, List, [], ◌∷◌, map, length, take, reverse, drop, get_or, ext_get_or, replicate, arith}
+use Rattle.std.proofs.lemmas.List.{get_or-replicate}
+use Rattle.zf_spec.proofs.PlaneDigits.{get_or-planes_of}
+use Rattle.std.proofs.Common.{rules, ◌≡◌, refl, sym, ap, ◌∙◌, ℕ, zero, suc, ◌+◌, ◌-◌, ◌^◌, ◌≤◌, min, max, Bool, false, ℤ, pos, List, [], ◌∷◌, map, length, take, drop, get_or, ext_get_or, replicate, arith}
 use Rattle.std.proofs.lemmas.List.{append-nil, length-replicate, take-replicate, drop-replicate, drop-take, take_all}
 use Rattle.std.{proofs.Math.Nat.{one-le-pow}, specs.Int.{Width}}
 use mir.Val.{bits}
-use Rattle.zf_spec.{specs.Numbers.{field, number}, specs.Grid.{IsDimension, IsBlockSize, upto}}
 use Rattle.zf_spec.specs.Planes.{plane, planes_of, reach, has_one, needed_planes, plane_code, code}
-use Rattle.zf_spec.{specs.Kept.{kept_plane, kept_planes_from, kept_planes}, specs.Padding.{source_place, pad}}
 use Rattle.zf_spec.specs.ReadPlanes.{first_bits, plane_in, planes_in_from, planes_in}
 use Rattle.zf_spec.specs.Codes.{count_bits, coefficients_of, planes, rev_of_planes}
-use Rattle.zf_spec.{proofs.Fields.{field-zero, number-zeros}, proofs.KeptCases.{kept_tail-zeros}}
 use Rattle.zf_spec.proofs.Reach.{has_one-zeros, reach_none, needed_planes-is}
-use Rattle.zf_spec.proofs.Padding.{length-pad, get_or-pad}
-use Rattle.zf_spec.proofs.PlaneDigits.{get_or-blank, length-planes_of}
-use Rattle.zf_coef.specs.HeldDigits.{digits_in, unranked_values, ranked_digits}
+use Rattle.zf_spec.{proofs.PlaneDigits.{get_or-blank, length-planes_of}, specs.Kept.{kept_plane, kept_planes}}
+use Rattle.zf_spec.{proofs.Fields.{field-zero, number-zeros}, specs.Numbers.{field, number, value_of}}
+use Rattle.zf_spec.{proofs.Padding.{length-pad, get_or-pad}, specs.Grid.{IsDimension, IsBlockSize}}
+use Rattle.zf_spec.{proofs.KeptCases.{kept_tail-zeros}, specs.Padding.{source_place, pad}}
+use Rattle.zf_coef.specs.HeldDigits.{digits_in, unranked_values}
 use Rattle.zf_coef.proofs.FirstAlone.{value_of_none, unranked_first}
 use Rattle.zf_base.proofs.Values.{alike_at}
 use Rattle.zf_planes.{proofs.Runs.{tail_none}, proofs.Zeros.{take_both, zero_code}}
@@ -25,16 +26,12 @@ abbrev pub zero_planes : ℕ → ℕ → List (List Bool)
 zero_planes p size = replicate p (replicate size false)
 
 pub size_some : {size : ℕ} → IsBlockSize size → 1 ≤ size
-size_some (inl e) = omega arith
-size_some (inr (inl e)) = omega arith
-size_some (inr (inr (inl e))) = omega arith
-size_some (inr (inr (inr e))) = omega arith
+size_some sizes = omega arith
 
 -- ---- their code
 
 pub code-zero_planes : (p size : ℕ) → 1 ≤ size → code (zero_planes p size) ≡ replicate p false
-code-zero_planes p size some =
-    ap code (sym (append-nil (zero_planes p size))) ∙ zero_code p size [] some ∙ append-nil (replicate p false)
+code-zero_planes p size some = simp append-nil at (zero_code p size [] some)
 
 pub needed-zero_planes : (p size : ℕ) → needed_planes (zero_planes p size) ≡ 0
 needed-zero_planes p size = needed_planes-is (zero_planes p size) ∙ ap reach (ones p) ∙ reach_none (replicate p false) (has_one-zeros p)
@@ -67,13 +64,12 @@ planes_in-zeros zero size k s some zeros = refl
 planes_in-zeros (suc p) size k [] some zeros =
     let all : size - 0 ≡ size = omega arith in
     let none : take p [] ≡ replicate 0 false = take_all p [] (omega arith) in
-    first_zero p size [] some (ap (λ n. replicate n false) all) ∙ ap (λ ps. replicate size false ∷ ps) (planes_in-zeros p size 0 [] some none)
-planes_in-zeros (suc p) size zero (b ∷ s) some zeros = absurd cc
-planes_in-zeros (suc p) size (suc k) (true ∷ s) some zeros = absurd cc
+    cc (first_zero p size [] some (ap (λ n. replicate n false) all), planes_in-zeros p size 0 [] some none)
 planes_in-zeros (suc p) size (suc k) (false ∷ s) some zeros =
     let all : size - 0 ≡ size = omega arith in
     let behind : take p s ≡ replicate k false = cc in
-    first_zero p size (false ∷ s) some (ap (λ n. replicate n false) all) ∙ ap (λ ps. replicate size false ∷ ps) (planes_in-zeros p size k s some behind)
+    cc (first_zero p size (false ∷ s) some (ap (λ n. replicate n false) all), planes_in-zeros p size k s some behind)
+planes_in-zeros (suc p) size k (b ∷ s) some zeros = absurd cc
 
 -- ---- what a budget keeps of them
 
@@ -85,10 +81,7 @@ kept-zero_planes r zero size = refl
 kept-zero_planes r (suc p) size =
     let blank = replicate size false in
     let low : max 0 (reach blank) ≡ 0 = omega (arith, reach_none blank (has_one-zeros size)) in
-    let left = r - length (plane_code 0 blank) in
-    ap (λ (ds : List Bool). ds ∷ kept_planes_from left (max 0 (reach blank)) (zero_planes p size)) (kept_zero r size)
-    ∙ ap (λ n. blank ∷ kept_planes_from left n (zero_planes p size)) low
-    ∙ ap (λ ps. blank ∷ ps) (kept-zero_planes left p size)
+    cc (kept_zero r size, kept-zero_planes (r - length (plane_code 0 blank)) p size)
 
 -- ---- the block that they stand for
 
@@ -110,53 +103,51 @@ plane-zeros n k (suc size) =
 -- the planes of digits that are all zero
 planes_of-zeros : (n size : ℕ) → planes_of n (digits_in n (replicate size 0)) ≡ zero_planes n size
 planes_of-zeros n size =
-    let same = alike (reverse (upto n)) in
-    same ∙ ap (λ k. zero_planes k size) (sym (length-replicate (length (reverse (upto n))) (replicate size false)) ∙ ap length (sym same) ∙ length-planes_of n (digits_in n (replicate size 0)))
-  where
-    alike : (ks : List ℕ) → map (λ k. plane k (digits_in n (replicate size 0))) ks ≡ zero_planes (length ks) size
-    alike [] = refl
-    alike (k ∷ ks) = ap (λ (ds : List Bool). ds ∷ map (λ k. plane k (digits_in n (replicate size 0))) ks) (plane-zeros n k size) ∙ ap (λ ps. replicate size false ∷ ps) (alike ks)
+    let digits = digits_in n (replicate size 0) in
+    let long = length-planes_of n digits in
+    ext_get_or [] (planes_of n digits) (zero_planes n size) (omega (arith, long, length-replicate n (replicate size false)))
+    (search (rules, get_or-planes_of, plane-zeros, get_or-replicate))
 
 -- zeros in a row, the first one apart
 pub first_apart : {A : Type 0} (size : ℕ) (x : A) → 1 ≤ size → x ∷ replicate (size - 1) x ≡ replicate size x
-first_apart zero x some = absurd (omega arith)
-first_apart (suc size) x some = let less : suc size - 1 ≡ size = omega arith in ap (λ n. x ∷ replicate n x) less
+first_apart size x some = let e : suc (size - 1) ≡ size = omega arith in ap (λ n. replicate n x) e
 
-module _ (w : Width) (d : ℕ) (dims : IsDimension d) where
-  abbrev size : ℕ
-  size = 4 ^ d
-
+-- a block of which the first coefficient alone may be other than zero
+module _ (w : Width) (d u : ℕ) (v : ℤ) (dims : IsDimension d) (is : value_of w (field (bits w) u) ≡ v) where
   abbrev digits : List ℕ
-  digits = 0 ∷ replicate (size - 1) 0
+  digits = u ∷ replicate (4 ^ d - 1) 0
 
   abbrev block : List ℤ
-  block = pos 0 ∷ replicate (size - 1) (pos 0)
+  block = v ∷ replicate (4 ^ d - 1) (pos 0)
 
-  some : 1 ≤ size
-  some = one-le-pow d 4 (omega arith)
-
-  long : length digits ≡ size
-  long = omega (arith, some, length-replicate {A = ℕ} (size - 1) 0)
+  long : length digits ≡ 4 ^ d
+  long = omega (arith, one-le-pow d 4 (omega arith), length-replicate {A = ℕ} (4 ^ d - 1) 0)
 
   unranked : unranked_values w d (digits_in (bits w) digits) ≡ block
-  unranked = unranked_first w d 0 dims some ∙ ap (λ v. v ∷ replicate (size - 1) (pos 0)) (value_of_none w (bits w))
+  unranked = cc (unranked_first w d u dims (one-le-pow d 4 (omega arith)))
 
-  blank : planes_of (bits w) (digits_in (bits w) digits) ≡ zero_planes (bits w) size
-  blank = ap (λ (us : List ℕ). planes_of (bits w) (digits_in (bits w) us)) (first_apart size 0 some) ∙ planes_of-zeros (bits w) size
+  pub first_coefficients : coefficients_of w d (planes_of (bits w) (digits_in (bits w) digits)) ≡ block
+  first_coefficients = sym (coefficients_of-planes_of w d (bits w) digits refl long) ∙ unranked
+
+  pub planes-first : planes_of (bits w) (digits_in (bits w) digits) ≡ planes w d block
+  planes-first = planes_of-ranked w d (bits w) block digits refl (cc (ranked-unranked w d digits long, unranked))
+
+module _ (w : Width) (d : ℕ) (dims : IsDimension d) where
+  blank : planes_of (bits w) (digits_in (bits w) (0 ∷ replicate (4 ^ d - 1) 0)) ≡ zero_planes (bits w) (4 ^ d)
+  blank =
+      ap (λ (us : List ℕ). planes_of (bits w) (digits_in (bits w) us)) (first_apart (4 ^ d) 0 (one-le-pow d 4 (omega arith)))
+      ∙ planes_of-zeros (bits w) (4 ^ d)
 
   -- no planes stand for zeros, nor do planes of zeros stand for anything else
-  pub zero_coefficients : (n : ℕ) → coefficients_of w d (zero_planes n size) ≡ block
+  pub zero_coefficients : (n : ℕ) → coefficients_of w d (zero_planes n (4 ^ d)) ≡ pos 0 ∷ replicate (4 ^ d - 1) (pos 0)
   zero_coefficients n =
-      coefficients_of-zeros w d [] n size
-      ∙ sym (coefficients_of-zeros w d [] (bits w) size)
-      ∙ ap (coefficients_of w d) (sym blank)
-      ∙ sym (coefficients_of-planes_of w d (bits w) digits refl long)
-      ∙ unranked
+      let fewer = coefficients_of-zeros w d [] n (4 ^ d) in
+      let all = coefficients_of-zeros w d [] (bits w) (4 ^ d) in
+      cc (fewer, all, blank, first_coefficients w d 0 (pos 0) dims (value_of_none w (bits w)))
 
   -- and zeros have these planes
-  pub planes-zeros : planes w d block ≡ zero_planes (bits w) size
-  planes-zeros =
-      sym (planes_of-ranked w d (bits w) block digits refl (sym (ranked-unranked w d digits long) ∙ ap (ranked_digits w d) unranked)) ∙ blank
+  pub planes-zeros : planes w d (pos 0 ∷ replicate (4 ^ d - 1) (pos 0)) ≡ zero_planes (bits w) (4 ^ d)
+  planes-zeros = sym (planes-first w d 0 (pos 0) dims (value_of_none w (bits w))) ∙ blank
 
 -- ---- the codes of a block of zeros, where bits begin with one
 
@@ -170,8 +161,7 @@ module _ (w : Width) (size : ℕ) (s : List Bool) (some : 1 ≤ size) where
     unfolding rev_planes
     rev_planes-zeros =
         let count : number (take (count_bits w) s) ≡ 0 = ap number (alike_fewer (count_bits w) (count_bits w + 1) false s (omega arith) zeros) ∙ number-zeros (count_bits w) in
-        ap (λ n. planes_in (n + 1) size (drop (count_bits w) s)) count
-        ∙ planes_in-zeros 1 size 1 (drop (count_bits w) s) some (zeros_behind (count_bits w) 1 s zeros)
+        cc (planes_in-zeros 1 size 1 (drop (count_bits w) s) some (zeros_behind (count_bits w) 1 s zeros))
 
     pub rev_len-zeros : rev_len w size s ≡ count_bits w + 1
     unfolding rev_len
@@ -181,7 +171,7 @@ module _ (w : Width) (size : ℕ) (s : List Bool) (some : 1 ≤ size) where
   module _ (p k : ℕ) (top : k ≡ min p (bits w)) (zeros : take k s ≡ replicate k false) where
     pub prec_planes-zeros : prec_planes w p size s ≡ zero_planes k size
     unfolding prec_planes
-    prec_planes-zeros = ap (λ n. planes_in n size s) (sym top) ∙ planes_in-zeros k size k s some zeros
+    prec_planes-zeros = rw (← top) (planes_in-zeros k size k s some zeros)
 
     pub prec_len-zeros : prec_len w p size s ≡ k
     unfolding prec_len

@@ -21,16 +21,12 @@ zeros_more n k before more =
 pub WritesZeros-more : {old now new : Writer} {count left : ℕ} (k : ℕ) → k ≤ left → WritesZeros old now count left → Appends now new (field k 0) → new.room + k ≡ now.room → WritesZeros old new count (left - k)
 WritesZeros-more {old} {now} {new} {count} {left} k some writes more room =
     let sum : count - left + k ≡ count - (left - k) = omega (arith, writes.within) in
-    record {
-      bits = Appends-same (zeros_more (count - left) k writes.bits more) (ap (λ n. replicate n false) sum);
-      fits = omega (arith, writes.fits);
-      within = omega (arith, writes.within);
-    }
+    let bits = rw sum at (zeros_more (count - left) k writes.bits more) in search rules
 
 pub WritesZeros-end : {old now new : Writer} {count left : ℕ} → WritesZeros old now count left → Appends now new (field left 0) → Appends old new (replicate count false)
 WritesZeros-end {old} {now} {new} {count} {left} writes more =
     let sum : count - left + left ≡ count = omega (arith, writes.within) in
-    Appends-same (zeros_more (count - left) left writes.bits more) (ap (λ n. replicate n false) sum)
+    rw sum at (zeros_more (count - left) left writes.bits more)
 
 -- fewer than those that are known to be alike are alike
 pub alike_fewer : {A : Type 0} (m n : ℕ) (x : A) (xs : List A) → m ≤ n → take n xs ≡ replicate n x → take m xs ≡ replicate m x

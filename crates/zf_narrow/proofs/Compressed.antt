@@ -1,57 +1,49 @@
 -- How a compression of narrow values ends, from how that of their int32 bytes does.
-use Rattle.std.proofs.Common.{rules, ◌≡◌, refl, sym, ap, subst, ◌∙◌, ℕ, ◌+◌, ◌*◌, ◌/◌, ◌%◌, ◌≤◌, ◌<◌, ◌⊎◌, inl, inr, ⊎_elim, Bool, false, IsTrue, List, [], ◌++◌, length, drop, replicate, Option, Some, None, Result, Ok, Err, append-nil, length-append, arith}
-use Rattle.std.{specs.Prelude.{IsErrAnd, IfErr}, proofs.lemmas.Bool.{cases_lt}, specs.Int.{byte_len}}
+use Rattle.std.proofs.Common.{rules, ◌≡◌, refl, ap, ◌∙◌, ℕ, ◌+◌, ◌*◌, ◌/◌, ◌%◌, ◌≤◌, ◌<◌, ◌⊎◌, inl, inr, Bool, false, IsTrue, List, [], ◌++◌, length, drop, replicate, Option, Some, None, Result, Ok, Err, append-nil, length-append, arith}
+use Rattle.std.{specs.Prelude.{IsErrAnd}, proofs.lemmas.Bool.{cases_lt}}
 use Rattle.std.proofs.lemmas.List.{drop_all, length-drop, length-replicate}
 use Rattle.zf_spec.specs.Grid.{product}
-use Rattle.zf_base.{specs.Widths.{width_of}, specs.declared.lane.Ty.{Ty}}
 use Rattle.zf_base.specs.declared.lane.Ty.TheVariants.{I32}
 use Rattle.zf_header.specs.declared.header.Header.{Header}
-use Rattle.zf_dev.{specs.Source.{Takes, Gives, IsAtEnd}, specs.Sink.{Appends, AppendsPrefix}}
+use Rattle.zf_dev.{specs.Source.{Takes, Gives, IsAtEnd}}
 use Rattle.zf_parse.specs.declared.fault.StreamFault.{StreamFault}
 use Rattle.zf_parse.specs.Raw.{raw_len, length_answer, compress_answer, stream_text}
 use Rattle.zf_parse.specs.declared.fault.StreamFault.TheVariants as faults
 use Rattle.zf_stream.specs.Outcomes.{Compressed, CompressedGiven, Answers, CanRefuse, ShowsLength, Finishes, LeavesPrefix, WritesText, WritesPrefix, IsFromOutside}
 use Rattle.zf_stream.proofs.RawRows.{short_answer, long_answer, good_answer}
 use Rattle.zf_stream.{proofs.Refusals.{CanRefuse-short, CanRefuse-long}, proofs.LookedAt.{stream_text-zeros}}
-use Rattle.zf_narrow.{specs.declared.narrow.Narrow.{Narrow}, specs.declared.narrow.Narrow.TheVariants.{I8}}
-use Rattle.zf_narrow.{specs.Values.{size_of}, specs.RawNarrow.{promoted_bytes, promoted_all}}
-use Rattle.zf_narrow.{specs.declared.promotion.Promotion.{Promotion}, specs.Promoting.{listed, exposed_by}}
+use Rattle.zf_narrow.{specs.declared.narrow.Narrow.{Narrow}, specs.Values.{size_of}}
+use Rattle.zf_narrow.{specs.RawNarrow.{promoted_bytes, promoted_all}, specs.Promoting.{listed, exposed_by}}
+use Rattle.zf_narrow.{specs.declared.promotion.Promotion.{Promotion}, proofs.Reading.{exposed_unspent}}
 use Rattle.zf_narrow.specs.Promotions.{exposed, read_so_far, zeros_given, HasGiven}
 use Rattle.zf_narrow.specs.Texts.{narrow_len, narrow_count, narrow_fault, compress_narrow_answer, narrow_text}
 use Rattle.zf_narrow.proofs.Whole.{length-promoted_bytes, length-promoted_all}
-use Rattle.zf_narrow.proofs.Reading.{exposed_unspent}
 use Rattle.zf_narrow.proofs.Giving.{Gave, gave, source_ended, IsGiven, promoted_bytes-half, part_given_text, all_given_text}
 
 -- ---- lengths
 
 pub raw_len-int32 : (h : Header) → h.ty ≡ I32 → raw_len h ≡ 4 * product h.shape
-raw_len-int32 h int32 = ap (λ (ty : Ty). byte_len (width_of ty) * product h.shape) int32
+raw_len-int32 h int32 = rw int32 refl
 
 -- fewer, as many or more: the same of the narrow bytes as of their int32 bytes
 same_few : (n : Narrow) (l p : ℕ) → l / size_of n * 4 + l % size_of n < 4 * p → l < size_of n * p
-same_few I8 l p few = omega (arith, few)
-same_few n l p few = omega (arith, few)
+same_few n l p few = grind arith
 
 same_all : (n : Narrow) (l p : ℕ) → l / size_of n * 4 + l % size_of n ≡ 4 * p → (l ≡ size_of n * p) × (l % size_of n ≡ 0)
-same_all I8 l p all = (omega (arith, all), omega (arith, all))
-same_all n l p all = (omega (arith, all), omega (arith, all))
+same_all n l p all = grind arith
 
 same_many : (n : Narrow) (l p z : ℕ) → z ≤ l % size_of n → 4 * p < l / size_of n * 4 + z → size_of n * p < l
-same_many I8 l p z half many = omega (arith, half, many)
-same_many n l p z half many = omega (arith, half, many)
+same_many n l p z half many = grind arith
 
 count_back : (n : Narrow) (l : ℕ) → narrow_count n (l / size_of n * 4 + l % size_of n) ≡ l
-count_back I8 l = omega arith
-count_back n l = omega arith
+count_back n l = grind arith
 
 count_few : (n : Narrow) (k p : ℕ) → k < 4 * p → narrow_count n k < size_of n * p
-count_few I8 k p few = omega (arith, few)
-count_few n k p few = omega (arith, few)
+count_few n k p few = grind arith
 
 -- as many bytes as values have, though some be pending or a zero byte was given
 count_given : (n : Narrow) (t k half z p : ℕ) → t % size_of n ≡ 0 → 4 * p + k ≡ t / size_of n * 4 + z → k ≤ 3 → half < size_of n → (z ≡ 0) ⊎ ((z ≡ half) × (k ≡ 0)) → t ≡ size_of n * p
-count_given I8 t k half z p whole is few less one = ⊎_elim (λ none. omega (arith, whole, is, few, none)) (λ both. omega (arith, whole, is, less, both.0, both.1)) one
-count_given n t k half z p whole is few less one = ⊎_elim (λ none. omega (arith, whole, is, few, none)) (λ both. omega (arith, whole, is, less, both.0, both.1)) one
+count_given n t k half z p whole is few less one = grind arith
 
 -- ---- answers
 
@@ -74,9 +66,7 @@ same_answer : (n : Narrow) (h : Header) (input : List ℕ) → h.ty ≡ I32 → 
 same_answer n h input int32 = search (rules, cases_lt, length-promoted_all, short_answer, count_back, same_few, raw_len-int32, long_answer, same_many)
 
 short_not_outside : (k : ℕ) → IsFromOutside (faults.RawShort k) → ⊥
-short_not_outside k (inl e) = cc
-short_not_outside k (inr (inl e)) = cc
-short_not_outside k (inr (inr e)) = cc
+short_not_outside k out = search rules
 
 outside_still : (n : Narrow) (r : Result (Unit {0}) StreamFault) → IsErrAnd r IsFromOutside → IsErrAnd (narrow_result n r) IsFromOutside
 outside_still n (Ok done) is = absurd is
@@ -86,29 +76,10 @@ outside_still n r is = is
 narrow_answers : (n : Narrow) (h : Header) (known : Option (List ℕ)) (r : Result (Unit {0}) StreamFault) → h.ty ≡ I32 → Answers r (exposed_by n false [] [] known) (compress_answer h)
     → Answers (narrow_result n r) known (compress_narrow_answer n h)
 narrow_answers n h None r int32 answers = tt
-narrow_answers n h (Some input) r int32 answers =
-    ⊎_elim (λ is. inl (ap (narrow_result n) is ∙ same_answer n h input int32)) (λ out. inr (outside_still n r out)) answers
+narrow_answers n h (Some input) r int32 (inl is) = inl (ap (narrow_result n) is ∙ same_answer n h input int32)
+narrow_answers n h (Some input) r int32 (inr out) = inr (outside_still n r out)
 
 -- ---- refusals
-
--- the refusals that a compression can have at all
-abbrev CanCome : StreamFault → Type 0
-CanCome (faults.Header f) = ⊥
-CanCome (faults.Truncated b) = ⊥
-CanCome faults.Pad = ⊥
-CanCome faults.Trailing = ⊥
-CanCome e = Unit {0}
-
-can_come : (h : Header) (e : StreamFault) → CanRefuse (compress_answer h) e → CanCome e
-can_come h (faults.RawShort k) can = tt
-can_come h faults.RawLong can = tt
-can_come h faults.Read can = tt
-can_come h faults.Write can = tt
-can_come h faults.Memory can = tt
-can_come h e (inl is) = absurd (length_says (raw_len h) is.0 (Err e) is.1)
-can_come h e (inr (inl is)) = cc
-can_come h e (inr (inr (inl is))) = cc
-can_come h e (inr (inr (inr is))) = cc
 
 fault_possible : (n : Narrow) (h : Header) (e : StreamFault) → h.ty ≡ I32 → CanRefuse (compress_answer h) e → CanRefuse (compress_narrow_answer n h) (narrow_fault n e)
 fault_possible n h (faults.RawShort k) int32 (inl is) =
@@ -116,10 +87,8 @@ fault_possible n h (faults.RawShort k) int32 (inl is) =
     CanRefuse-short (narrow_len n h) (narrow_count n k) (count_few n k (product h.shape) (omega (arith, says.0, says.1, raw_len-int32 h int32)))
 fault_possible n h (faults.RawShort k) int32 (inr out) = absurd (short_not_outside k out)
 fault_possible n h faults.RawLong int32 can = CanRefuse-long (narrow_len n h)
-fault_possible n h faults.Read int32 can = inr (inl refl)
-fault_possible n h faults.Write int32 can = inr (inr (inl refl))
-fault_possible n h faults.Memory int32 can = inr (inr (inr refl))
-fault_possible n h e int32 can = absurd (can_come h e can)
+fault_possible n h e int32 (inl is) = absurd (length_says (raw_len h) is.0 (Err e) is.1)
+fault_possible n h e int32 (inr out) = inr out
 
 -- ---- what was read and written
 
@@ -155,9 +124,7 @@ module _ (n : Narrow) (h : Header) (int32 : h.ty ≡ I32) (spent : Bool) (pendin
   whole_read : (raw : List ℕ) → length half < size_of n → length taken % size_of n ≡ 0 → length pending ≤ 3 → (IsTrue spent → pending ≡ []) → WasGiven raw → length raw ≡ raw_len h → length taken ≡ narrow_len n h
   whole_read raw less whole few all given long =
       let z = zeros_given spent half in
-      let counts : length raw + length pending ≡ length taken / size_of n * 4 + z =
-      sym (length-append raw pending) ∙ ap length given ∙ length-append (promoted_bytes n taken) (replicate z 0)
-      ∙ ap (λ k. k + length (replicate {A = ℕ} z 0)) (length-promoted_bytes n taken) ∙ ap (λ k. length taken / size_of n * 4 + k) (length-replicate z 0) in search (rules, count_given, raw_len-int32)
+      let counts = simp (length-append, length-promoted_bytes, length-replicate) at (ap length given) in search (rules, count_given, raw_len-int32)
 
   -- all of the input was read and given, and its stream written
   pub compresses : (known now out0 out1 : Option (List ℕ)) → Promotes n known now spent pending half taken
@@ -165,13 +132,8 @@ module _ (n : Narrow) (h : Header) (int32 : h.ty ≡ I32) (spent : Bool) (pendin
       → Finishes (compress_narrow_answer n h) (narrow_text n h) known now out0 out1
   compresses None now out0 out1 p fin writes =
       let all : length writes.bytes ≡ raw_len h = length_says (raw_len h) writes.bytes (Ok tt) writes.good in
-      record {
-        bytes = taken;
-        taken = tt;
-        ended = source_ended n spent pending half now fin.ended p.spent_end;
-        good = good_answer (narrow_len n h) taken (whole_read writes.bytes p.less p.whole p.few p.all writes.given all);
-        written = subst (λ text. Appends out0 out1 text) (all_given_text n h pending taken (zeros_given spent half) writes.bytes writes.given (omega (arith, all))) writes.written;
-      }
+      let text = all_given_text n h pending taken (zeros_given spent half) writes.bytes writes.given (omega (arith, all)) in
+      search (rules, source_ended, good_answer, whole_read, text)
   compresses (Some input) now out0 out1 p fin writes = search (rules, gave_all, length_says, same_all, length-promoted_all, raw_len-int32, source_ended, good_answer, stream_text-zeros)
 
   -- how much was read where the length was refused
@@ -181,29 +143,24 @@ module _ (n : Narrow) (h : Header) (int32 : h.ty ≡ I32) (spent : Bool) (pendin
   shows None now faults.RawLong p shown = (replicate (narrow_len n h + 1) 0, omega (arith, length-replicate {A = ℕ} (narrow_len n h + 1) 0), tt)
   shows (Some input) now faults.RawLong p shown =
       let g = gave_exposed input now shown.0 p shown.2 in
+      let counts = length-append (promoted_bytes n bytes) (replicate g.zeros 0) in
       let long : length shown.0 + length g.pending ≡ length bytes / size_of n * 4 + g.zeros =
-      sym (length-append shown.0 g.pending) ∙ ap length g.parts ∙ length-append (promoted_bytes n bytes) (replicate g.zeros 0)
-      ∙ ap (λ k. k + length (replicate {A = ℕ} g.zeros 0)) (length-promoted_bytes n bytes) ∙ ap (λ k. length bytes / size_of n * 4 + k) (length-replicate g.zeros 0) in
+      omega (arith, length-append shown.0 g.pending, ap length g.parts, counts, length-promoted_bytes n bytes, length-replicate {A = ℕ} g.zeros 0) in
       (bytes, same_many n (length bytes) (product h.shape) g.zeros g.half (omega (arith, shown.1, long, raw_len-int32 h int32)), p.read)
-  shows known now (faults.Header f) p shown = tt
   shows known now e p shown = tt
 
   -- a part was read, and a prefix of the stream of its values written
   pub leaves : (known now out0 out1 : Option (List ℕ)) → Promotes n known now spent pending half taken → WritesPrefix (stream_text h) WasGiven out0 out1 → LeavesPrefix (narrow_text n h) known now out0 out1
   leaves known now out0 out1 p writes =
       let text = part_given_text n h pending taken (zeros_given spent half) writes.bytes writes.lost writes.given in
-      record {
-        bytes = bytes;
-        taken = p.read;
-        written = subst (λ text. AppendsPrefix out0 out1 text) (text ∙ ap (stream_text h) (sym (promoted_bytes-half n taken half p.whole p.less))) (writes.written (writes.lost ++ pending));
-      }
+      let same = rw (text, ← promoted_bytes-half n taken half p.whole p.less) at (writes.written (writes.lost ++ pending)) in
+      record { bytes = bytes; taken = p.read; written = same }
 
 -- ---- the promotion that the source had when the call began, and the one that it has now
 
 -- memory is wanting where it was for the int32 bytes
 memory_is : (n : Narrow) (e : StreamFault) → narrow_fault n e ≡ faults.Memory → e ≡ faults.Memory
-memory_is n (faults.RawShort k) same = absurd cc
-memory_is n e same = same
+memory_is n e same = grind arith
 
 pub record Runs (n : Narrow) (known now : Option (List ℕ)) (old new : Promotion) : Type 0 where
   pub same_old : old.narrow ≡ n
@@ -233,47 +190,36 @@ module _ (n : Narrow) {known now : Option (List ℕ)} (old new : Promotion) (r :
 
   -- what was given since then
   given_by : (h : Header) (raw : List ℕ) → Gives (HasGiven old) (HasGiven new) raw → IsGiven n h (drop new.at new.value) new.taken.bytes (zeros_given new.spent (listed new.half)) raw
-  given_by h raw gives =
-      gives.goes_on [] none_given ∙ ap (λ m. promoted_bytes m new.taken.bytes ++ replicate (zeros_given new.spent (listed new.half)) 0) r.same
+  given_by h raw gives = rw (← r.same) (gives.goes_on [] none_given)
 
   run_compresses : (h : Header) (out0 out1 : Option (List ℕ)) → h.ty ≡ I32 → Finishes (compress_answer h) (stream_text h) (exposed old known) (exposed new now) out0 out1
       → WritesText (compress_answer h) (stream_text h) (Gives (HasGiven old) (HasGiven new)) out0 out1 → Finishes (compress_narrow_answer n h) (narrow_text n h) known now out0 out1
   run_compresses h out0 out1 int32 fin writes =
-      compresses n h int32 new.spent (drop new.at new.value) (listed new.half) new.taken.bytes known now out0 out1 promotes
-      (subst (λ b. Finishes (compress_answer h) (stream_text h) (exposed_by n false [] [] known) b out0 out1) exposed_new
-      (subst (λ a. Finishes (compress_answer h) (stream_text h) a (exposed new now) out0 out1) exposed_old fin))
-      (record { bytes = writes.bytes; given = given_by h writes.bytes writes.given; good = writes.good; written = writes.written })
-
-  shown_too : (h : Header) (e : StreamFault) → ShowsLength (raw_len h) (exposed old known) (exposed new now) e
-      → ShowsLength (raw_len h) (exposed_by n false [] [] known) (exposed_by n new.spent (drop new.at new.value) (listed new.half) now) e
-  shown_too h e shown = search (rules, exposed_new, exposed_old)
+      compresses n h int32 new.spent (drop new.at new.value) (listed new.half) new.taken.bytes known now out0 out1 promotes (rw (exposed_old, exposed_new) at fin) (search (rules, given_by))
 
   run_shows : (h : Header) (e : StreamFault) → h.ty ≡ I32 → ShowsLength (raw_len h) (exposed old known) (exposed new now) e → ShowsLength (narrow_len n h) known now (narrow_fault n e)
-  run_shows h e int32 shown = shows n h int32 new.spent (drop new.at new.value) (listed new.half) new.taken.bytes known now e promotes (shown_too h e shown)
+  run_shows h e int32 shown = shows n h int32 new.spent (drop new.at new.value) (listed new.half) new.taken.bytes known now e promotes (rw (exposed_old, exposed_new) at shown)
 
   run_leaves : (h : Header) (out0 out1 : Option (List ℕ)) → h.ty ≡ I32 → WritesPrefix (stream_text h) (Gives (HasGiven old) (HasGiven new)) out0 out1 → LeavesPrefix (narrow_text n h) known now out0 out1
   run_leaves h out0 out1 int32 writes =
       leaves n h int32 new.spent (drop new.at new.value) (listed new.half) new.taken.bytes known now out0 out1 promotes
       (record { bytes = writes.bytes; lost = writes.lost; given = given_by h (writes.bytes ++ writes.lost) writes.given; written = writes.written })
 
-  run_good_answers : (h : Header) → h.ty ≡ I32 → Answers (Ok tt) (exposed old known) (compress_answer h) → Answers (Ok tt) known (compress_narrow_answer n h)
-  run_good_answers h int32 answers = narrow_answers n h known (Ok tt) int32 (subst (λ a. Answers (Ok tt) a (compress_answer h)) exposed_old answers)
-
-  run_fault_answers : (h : Header) (e : StreamFault) → h.ty ≡ I32 → Answers (Err e) (exposed old known) (compress_answer h) → Answers (Err (narrow_fault n e)) known (compress_narrow_answer n h)
-  run_fault_answers h e int32 answers = narrow_answers n h known (Err e) int32 (subst (λ a. Answers (Err e) a (compress_answer h)) exposed_old answers)
+  run_answers : (h : Header) (r : Result (Unit {0}) StreamFault) → h.ty ≡ I32 → Answers r (exposed old known) (compress_answer h) → Answers (narrow_result n r) known (compress_narrow_answer n h)
+  run_answers h r int32 answers = narrow_answers n h known r int32 (rw exposed_old at answers)
 
   -- how it ends
   pub run_good : (h : Header) (out0 out1 : Option (List ℕ)) → h.ty ≡ I32 → Compressed (compress_answer h) (stream_text h) (raw_len h) (Ok tt) (exposed old known) (exposed new now) out0 out1
       → CompressedGiven (compress_answer h) (stream_text h) (Ok tt) (Gives (HasGiven old) (HasGiven new)) out0 out1 → Compressed (compress_narrow_answer n h) (narrow_text n h) (narrow_len n h) (Ok tt) known now out0 out1
-  run_good h out0 out1 int32 done given = search (rules, run_good_answers, shows, run_compresses)
+  run_good h out0 out1 int32 done given = search (rules, run_answers h (Ok tt) int32 done.answer, shows, run_compresses)
 
   pub run_fault : (h : Header) (e : StreamFault) (out0 out1 : Option (List ℕ)) → h.ty ≡ I32 → Compressed (compress_answer h) (stream_text h) (raw_len h) (Err e) (exposed old known) (exposed new now) out0 out1
       → CompressedGiven (compress_answer h) (stream_text h) (Err e) (Gives (HasGiven old) (HasGiven new)) out0 out1 → Compressed (compress_narrow_answer n h) (narrow_text n h) (narrow_len n h) (Err (narrow_fault n e)) known now out0 out1
   run_fault h e out0 out1 int32 done given = record {
-    answer = run_fault_answers h e int32 done.answer;
+    answer = run_answers h (Err e) int32 done.answer;
     possible = fault_possible n h e int32 done.possible;
     shows = run_shows h e int32 done.shows;
     ok = tt;
     err = run_leaves h out0 out1 int32 given.err;
-    unwritten = λ same. let Same : Result (Unit {0}) StreamFault → Type 0 = λ q. IfErr q (λ x. narrow_fault n e ≡ x) in done.unwritten (ap Err (memory_is n e (subst Same same refl)));
+    unwritten = λ same. done.unwritten (ap Err (memory_is n e (cc)));
   }

@@ -1,8 +1,8 @@
 -- One write of a demotion: the narrow bytes of the first values, and the byte that is owed of the last one.
-use Rattle.std.proofs.Common.{rules, ◌≡◌, sym, ap, ◌∙◌, ℕ, ◌+◌, ◌*◌, ◌/◌, ◌%◌, min, ◌≤◌, ◌<◌, List, [], ◌∷◌, ◌++◌, length, take, drop, get_or, Option, Some, None, append_assoc, append-nil, length-append, take-append-drop, take-take, arith}
+use Rattle.std.proofs.Common.{rules, ◌≡◌, sym, ap, ℕ, ◌+◌, ◌*◌, ◌/◌, ◌%◌, min, ◌≤◌, ◌<◌, List, [], ◌∷◌, ◌++◌, length, take, drop, get_or, Option, Some, None, append_assoc, append-nil, length-append, take-append-drop, take-take, arith}
 use Rattle.std.proofs.lemmas.List.{length-take, length-take-le, take-append-le, take_at, take_more}
 use Rattle.std.proofs.Math.Nat.{mul-le-mul_right}
-use Rattle.zf_narrow.{specs.declared.narrow.Narrow.{Narrow}, specs.declared.narrow.Narrow.TheVariants.{I8}}
+use Rattle.zf_narrow.{specs.declared.narrow.Narrow.{Narrow}}
 use Rattle.zf_narrow.{specs.Values.{size_of}, specs.RawNarrow.{demoted_bytes}, specs.Promoting.{listed}}
 use Rattle.zf_narrow.proofs.Whole.{demoted_bytes-append, length-demoted_bytes}
 
@@ -12,8 +12,7 @@ begun_values n k = k / size_of n + min 1 (k % size_of n)
 
 -- there are enough of them, less than a byte too many, and no more than there were
 pub begun_values-bounds : (n : Narrow) (k count : ℕ) → k ≤ count * size_of n → (begun_values n k ≤ count) × (k ≤ begun_values n k * size_of n) × (begun_values n k * size_of n ≤ k + 1)
-begun_values-bounds I8 k count within = (omega arith, omega arith, omega arith)
-begun_values-bounds n k count within = (omega arith, omega arith, omega arith)
+begun_values-bounds n k count within = grind arith
 
 -- the bytes of the first values are the first of the bytes
 pub prefix_demoted : (n : Narrow) (count values : ℕ) (raw given : List ℕ) → values ≤ count → count * 4 ≤ length raw → given ≡ demoted_bytes n (take (count * 4) raw) → take (values * size_of n) given ≡ demoted_bytes n (take (values * 4) raw)
@@ -22,13 +21,10 @@ prefix_demoted n count values raw given few room is =
     let a = values * 4 in
     let within : a ≤ count * 4 = mul-le-mul_right 4 few in
     let long : length s ≡ count * 4 = length-take-le (count * 4) raw room in
-    let prefix : take a s ≡ take a raw = take-take a (count * 4) raw within in
     let prefix_long : length (take a s) ≡ a = length-take-le a s (omega (arith, long, within)) in
-    let whole : length (take a s) % 4 ≡ 0 = omega (arith, prefix_long) in
-    let parts : demoted_bytes n s ≡ demoted_bytes n (take a s) ++ demoted_bytes n (drop a s) = ap (demoted_bytes n) (sym (take-append-drop a s)) ∙ demoted_bytes-append n (take a s) (drop a s) whole in
     let count_is : length (take a s) / 4 ≡ values = omega (arith, prefix_long) in
-    let bytes_long : length (demoted_bytes n (take a s)) ≡ values * size_of n = length-demoted_bytes n (take a s) ∙ ap (λ k. k * size_of n) count_is in
-    ap (take (values * size_of n)) (is ∙ parts) ∙ take_at (demoted_bytes n (take a s)) (demoted_bytes n (drop a s)) (values * size_of n) bytes_long ∙ ap (demoted_bytes n) prefix
+    let parts = rw take-append-drop at (demoted_bytes-append n (take a s) (drop a s) (omega (arith, prefix_long))) in
+    search (rules, is, parts, take_at, take-take, length-demoted_bytes, count_is)
 
 -- the bytes that were written, and the one that is owed
 pub with_owed : (k m : ℕ) (piece : List ℕ) (d : ℕ) → k < m → m ≤ k + 1 → k < length piece → take k piece ++ get_or piece k d ∷ [] ≡ take m piece
@@ -45,8 +41,8 @@ owes_one n count values k len raw part past d owed room is len_is within values_
     let place : values * len ≡ values * size_of n = ap (λ m. values * m) len_is in
     let bounds = begun_values-bounds n k count within in
     let all : values * size_of n ≤ count * size_of n = mul-le-mul_right (size_of n) (omega (arith, bounds.0, values_is)) in
-    ap (λ o. take k (part ++ past) ++ listed o) owed_is
-    ∙ with_owed k (values * size_of n) (part ++ past) d (omega (arith, some, place)) (omega (arith, bounds.2, same)) (omega (arith, length-append part past, part_long n count raw part room is, some, place, all))
+    rw owed_is
+    (with_owed k (values * size_of n) (part ++ past) d (omega (arith, some, place)) (omega (arith, bounds.2, same)) (omega (arith, length-append part past, part_long n count raw part room is, some, place, all)))
 
 pub owes_none : (n : Narrow) (count values k len : ℕ) (bytes : List ℕ) (owed : Option ℕ) → len ≡ size_of n → k ≤ count * size_of n → values ≡ begun_values n k
     → owed ≡ None → values * len ≤ k → take k bytes ++ listed owed ≡ take (values * size_of n) bytes
@@ -57,10 +53,8 @@ pub written_is : (n : Narrow) (count values k : ℕ) (raw part past given taken 
     → take k (part ++ past) ++ owed ≡ take (values * size_of n) (part ++ past) → (given ++ take k (part ++ past)) ++ owed ≡ demoted_bytes n (taken ++ take (values * 4) raw)
 written_is n count values k raw part past given taken owed few room is before whole here =
     let within : values * size_of n ≤ length part = omega (arith, part_long n count raw part room is, mul-le-mul_right (size_of n) few) in
-    append_assoc given (take k (part ++ past)) owed
-    ∙ ap (λ (bs : List ℕ). given ++ bs) (here ∙ take-append-le (values * size_of n) part past within ∙ prefix_demoted n count values raw part few room is)
-    ∙ ap (λ (bs : List ℕ). bs ++ demoted_bytes n (take (values * 4) raw)) before
-    ∙ sym (demoted_bytes-append n taken (take (values * 4) raw) whole)
+    let prefix = prefix_demoted n count values raw part few room is in
+    cc (append_assoc given (take k (part ++ past)) owed, take-append-le (values * size_of n) part past within, prefix, demoted_bytes-append n taken (take (values * 4) raw) whole)
 
 -- no more were written than there were
 pub within_prefix : (n : Narrow) (count k len : ℕ) (bytes : List ℕ) → len ≡ size_of n → k ≤ length (take (count * len) bytes) → k ≤ count * size_of n

@@ -1,11 +1,11 @@
 -- One read of a promotion, as the log of what was given sees it.
-use Rattle.std.proofs.Common.{rules, ◌≡◌, refl, sym, ap, ◌∙◌, ℕ, ◌<◌, Bool, true, false, IsTrue, List, ◌++◌, length, drop, replicate, Option, append_assoc, append-nil, arith}
-use Rattle.std.{specs.Prelude.{◌↔◌}, proofs.lemmas.List.{drop_all, nil_from_length}}
+use Rattle.std.proofs.Common.{rules, ◌≡◌, refl, ℕ, ◌<◌, Bool, true, false, IsTrue, List, ◌++◌, length, drop, replicate, Option, append_assoc, append-nil, arith}
+use Rattle.std.{specs.Prelude.{◌↔◌}, proofs.lemmas.List.{drop_all, nil_from_length}, proofs.lemmas.Bool.{false_from_ne_true}}
 use Rattle.zf_dev.specs.Source.{Gives, IsAtEnd}
 use Rattle.zf_narrow.{specs.declared.promotion.Promotion.{Promotion}, specs.RawNarrow.{promoted_bytes}}
 use Rattle.zf_narrow.{specs.Promoting.{listed}, proofs.Whole.{promoted_bytes-append}}
 use Rattle.zf_narrow.specs.Promotions.{exposed, zeros_given, HasGiven, IsIdle, TakesRaw, GivesRaw, GivesHalf}
-use Rattle.zf_narrow.proofs.Reading.{unspent_is, all_gone, half_gone}
+use Rattle.zf_narrow.proofs.Reading.{all_gone, half_gone}
 
 -- all int32 bytes of a promotion that was read further, before any of the new ones were given
 all_bytes : Promotion → List ℕ
@@ -13,11 +13,11 @@ all_bytes p = promoted_bytes p.narrow p.taken.bytes ++ replicate (zeros_given p.
 
 no_zeros : (p : Promotion) → (IsTrue p.spent → ⊥) → all_bytes p ≡ promoted_bytes p.narrow p.taken.bytes
 unfolding all_bytes
-no_zeros p unspent = search (rules, unspent_is, append-nil)
+no_zeros p unspent = search (rules, false_from_ne_true, append-nil)
 
 -- nothing is pending
 none_pending : (p : Promotion) (s : List ℕ) → p.at ≡ 4 → length p.value ≡ 4 → s ++ drop p.at p.value ≡ s
-none_pending p s all four = ap (λ (bs : List ℕ). s ++ bs) (drop_all p.at p.value (omega arith)) ∙ append-nil s
+none_pending p s all four = search (rules, drop_all, append-nil)
 
 module _ (old mid : Promotion) (before now : Option (List ℕ)) (raw : List ℕ) (idle : IsIdle old) (four : length old.value ≡ 4) (takes : TakesRaw old mid before now raw) where
   whole_given : (s : List ℕ) → HasGiven old s → s ++ raw ≡ all_bytes mid
@@ -33,27 +33,18 @@ module _ (old mid : Promotion) (before now : Option (List ℕ)) (raw : List ℕ)
   pub gives_first : (first value : List ℕ) (at : ℕ) → raw ≡ first ++ drop at value
       → Gives (HasGiven old) (λ s. s ++ drop at value ≡ promoted_bytes mid.narrow mid.taken.bytes ++ replicate (zeros_given mid.spent (listed mid.half)) 0) first
   unfolding all_bytes
-  gives_first first value at is = record {
-    goes_on = λ s has. append_assoc s first (drop at value) ∙ ap (λ (bs : List ℕ). s ++ bs) (sym is) ∙ whole_given s has;
-  }
+  gives_first first value at is = search (rules, append_assoc, whole_given)
 
   -- there were none, and a zero byte was given for half a value
   pub gives_half : (new : Promotion) (bytes : List ℕ) (count : ℕ) → length raw ≡ 0 → IsAtEnd now → GivesHalf mid new count bytes → GivesRaw old new before now bytes × (count ≡ 0 → IsAtEnd (exposed new now))
   unfolding all_bytes
   gives_half new bytes count none end gives =
-      let zeros : bytes ≡ replicate (zeros_given new.spent (listed new.half)) 0 =
-      gives.given_are ∙ ap (λ k. replicate k 0) (by new.spent gives.spent) ∙ ap (λ o. replicate (zeros_given new.spent (listed o)) 0) (sym gives.half) in
+      let zeros : bytes ≡ replicate (zeros_given new.spent (listed new.half)) 0 = cc (gives.given_are, by new.spent gives.spent, gives.half) in
       let p = promoted_bytes mid.narrow mid.taken.bytes in
-      let all : p ≡ promoted_bytes new.narrow new.taken.bytes = ap (λ m. promoted_bytes m mid.taken.bytes) (sym gives.same_type) ∙ ap (promoted_bytes new.narrow) (sym gives.taken) in
-      let gone = half_gone old mid new before now raw bytes count idle four takes none end gives in (search (rules, append-nil, nil_from_length, whole_given, no_zeros, none_pending)
-      )
+      let all : p ≡ promoted_bytes new.narrow new.taken.bytes = cc (gives.same_type, gives.taken) in
+      let gone = half_gone old mid new before now raw bytes count idle four takes none end gives in
+      search (rules, append-nil, nil_from_length, whole_given, no_zeros, none_pending)
     where
       by : (b : Bool) → IsTrue b ↔ (0 < count) → length (listed mid.half) ≡ zeros_given b (listed mid.half)
       by true is = refl
-      by false is = no_half (λ some. false_is_not (is.1 some))
-        where
-          false_is_not : IsTrue false → ⊥
-          false_is_not h = cc
-
-          no_half : (0 < count → ⊥) → length (listed mid.half) ≡ 0
-          no_half none = omega (arith, gives.count_is)
+      by false is = grind (arith, gives.count_is)

@@ -1,21 +1,20 @@
 -- What a source that promotes has given, of what it has read.
-use Rattle.std.proofs.Common.{rules, ◌≡◌, refl, sym, ap, ◌∙◌, ℕ, ◌*◌, ◌%◌, ◌≤◌, ◌<◌, ◌⊎◌, Bool, true, false, IsTrue, List, [], ◌∷◌, ◌++◌, length, replicate, Option, Some, None, append_assoc, append-nil, mul_comm, arith}
-use Rattle.std.{proofs.lemmas.List.{append_cancel_right}, specs.Int.{byte_len}}
+use Rattle.std.{proofs.lemmas.List.{nil_from_length}, proofs.Common.{length-append}, specs.Int.{byte_len}}
+use Rattle.std.proofs.Common.{rules, ◌≡◌, refl, sym, ap, ◌∙◌, ℕ, ◌*◌, ◌%◌, ◌≤◌, ◌<◌, ◌⊎◌, Bool, true, false, IsTrue, List, [], ◌++◌, length, replicate, Option, Some, None, append_assoc, append-nil, mul_comm, arith}
+use Rattle.std.proofs.lemmas.List.{append_cancel_right}
 use Rattle.zf_spec.specs.Grid.{product}
 use Rattle.zf_base.specs.Widths.{width_of}
 use Rattle.zf_header.specs.declared.header.Header.{Header}
 use Rattle.zf_dev.specs.Source.{IsAtEnd}
 use Rattle.zf_parse.specs.Raw.{raw_len, stream_text}
-use Rattle.zf_narrow.{specs.declared.narrow.Narrow.{Narrow}, specs.Values.{size_of}}
-use Rattle.zf_narrow.{specs.RawNarrow.{promoted_bytes, promoted_all}, specs.Promoting.{coming, exposed_by}}
-use Rattle.zf_narrow.specs.Texts.{narrow_text}
+use Rattle.zf_narrow.{specs.Values.{size_of}, specs.Texts.{narrow_text}, specs.Promoting.{coming, exposed_by}}
+use Rattle.zf_narrow.{specs.declared.narrow.Narrow.{Narrow}, specs.RawNarrow.{promoted_bytes, promoted_all}}
 use Rattle.zf_narrow.proofs.Whole.{promoted_bytes-append, promoted_bytes-few, promoted_all-append, no_bytes}
 use Rattle.zf_stream.proofs.LookedAt.{stream_text-zeros, stream_text-more}
 
 -- less than a value has no int32 bytes
 pub promoted_bytes-half : (n : Narrow) (taken half : List ℕ) → length taken % size_of n ≡ 0 → length half < size_of n → promoted_bytes n (taken ++ half) ≡ promoted_bytes n taken
-promoted_bytes-half n taken half whole less =
-    promoted_bytes-append n taken half whole ∙ ap (λ (bs : List ℕ). promoted_bytes n taken ++ bs) (promoted_bytes-few n half less) ∙ append-nil (promoted_bytes n taken)
+promoted_bytes-half n taken half whole less = cc (promoted_bytes-append n taken half whole, promoted_bytes-few n half less, append-nil (promoted_bytes n taken))
 
 -- of the int32 bytes of what was read these were given: all but those of a part of the last value, or all and a zero byte for half a value
 pub record Gave (n : Narrow) (bytes raw : List ℕ) : Type 0 where
@@ -31,8 +30,8 @@ pub gave : (n : Narrow) (spent : Bool) (pending half taken input left raw : List
     → length taken % size_of n ≡ 0 → length half < size_of n → length pending ≤ 3 → (IsTrue spent → pending ≡ []) → (IsTrue spent → left ≡ []) → Gave n (taken ++ half) raw
 gave n false pending half taken input left raw read given whole less few all end =
     let behind = promoted_all n (half ++ left) in
-    let before : promoted_all n input ≡ promoted_bytes n taken ++ behind = ap (promoted_all n) (read ∙ append_assoc taken half left) ∙ promoted_all-append n taken (half ++ left) whole in
-    let same : raw ++ pending ≡ promoted_bytes n taken = append_cancel_right (raw ++ pending) (promoted_bytes n taken) behind (append_assoc raw pending behind ∙ sym given ∙ before) in
+    let before : promoted_all n input ≡ promoted_bytes n taken ++ behind = cc (append_assoc taken half left, promoted_all-append n taken (half ++ left) whole) in
+    let same = append_cancel_right (raw ++ pending) (promoted_bytes n taken) behind (cc (append_assoc raw pending behind)) in
     let none = promoted_bytes-half n taken half whole less in search (rules, append-nil)
 gave n true pending half taken input left raw read given whole less few all end = search (rules, append-nil)
 
@@ -43,8 +42,7 @@ source_ended n true pending half (Some left) end spent_end = spent_end refl
 source_ended n false pending half (Some left) end spent_end = behind half left (no_bytes n (half ++ left) (behind pending (promoted_all n (half ++ left)) end))
   where
     behind : (xs ys : List ℕ) → xs ++ ys ≡ [] → ys ≡ []
-    behind [] ys none = none
-    behind (x ∷ xs) ys none = absurd (omega (arith, ap (length {A = ℕ}) none))
+    behind xs ys none = nil_from_length ys (omega (arith, length-append xs ys, ap length none))
 
 -- ---- the stream of what was given
 
@@ -55,7 +53,7 @@ module _ (n : Narrow) (h : Header) (pending taken : List ℕ) (zeros : ℕ) wher
 
   -- with what was lost and what is pending they make the stream of all
   pub part_given_text : (raw lost : List ℕ) → IsGiven (raw ++ lost) → stream_text h (raw ++ (lost ++ pending)) ≡ narrow_text n h taken
-  part_given_text raw lost given = ap (stream_text h) (sym (append_assoc raw lost pending) ∙ given) ∙ stream_text-zeros h (promoted_bytes n taken) zeros
+  part_given_text raw lost given = cc (append_assoc raw lost pending, stream_text-zeros h (promoted_bytes n taken) zeros)
 
   -- where as many were given as the array has, they do so alone
   pub all_given_text : (raw : List ℕ) → IsGiven raw → raw_len h ≤ length raw → stream_text h raw ≡ narrow_text n h taken

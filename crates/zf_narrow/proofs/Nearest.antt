@@ -6,14 +6,12 @@ use Rattle.zf_spec.proofs.RawValues.{length-raw, values_from-raw}
 use Rattle.zf_base.{specs.Widths.{width_of}, specs.declared.lane.Ty.{Ty}}
 use Rattle.zf_base.specs.declared.lane.Ty.TheVariants.{I32}
 use Rattle.zf_parse.{specs.Parsing.{Said, parse}, proofs.Parts.{said_fit, text_of_said}}
-use Rattle.zf_narrow.{specs.declared.narrow.Narrow.{Narrow}, specs.declared.narrow.Narrow.TheVariants.{I8}}
-use Rattle.zf_narrow.{specs.Values.{IsNarrow, nearest}, specs.RawNarrow.{raw_narrow, demoted_bytes}}
-use Rattle.zf_narrow.specs.Texts.{narrow_restored}
+use Rattle.zf_narrow.{specs.declared.narrow.Narrow.{Narrow}, specs.Values.{IsNarrow, nearest}}
+use Rattle.zf_narrow.{specs.RawNarrow.{raw_narrow, demoted_bytes}, specs.Texts.{narrow_restored}}
 
 -- no number of the type is nearer
 pub none_nearer : (n : Narrow) (v x : ℤ) → IsNarrow n x → unsigned_abs (nearest n v -ℤ v) ≤ unsigned_abs (x -ℤ v)
-none_nearer I8 v x is = let low = is.at_least in let high = is.at_most in omega (arith, ints, clamps)
-none_nearer n v x is = let low = is.at_least in let high = is.at_most in omega (arith, ints, clamps)
+none_nearer n v x is = grind (arith, ints, clamps)
 
 -- the raw bytes of int32 values as those of the numbers that they stand for
 demoted_values : (n : Narrow) (values : List ℤ) → AreValues w32 values → demoted_bytes n (raw w32 values) ≡ raw_narrow n values
@@ -25,6 +23,4 @@ pub restored_values : (n : Narrow) (bytes : List ℕ) (said : Said) → parse by
     → narrow_restored n bytes ≡ raw_narrow n said.values
 restored_values n bytes said good int32 =
     let fit = subst (λ (t : Ty). AreValues (width_of t) said.values) int32 (said_fit bytes said good) in
-    ap (demoted_bytes n) (text_of_said bytes said good)
-    ∙ ap (λ (t : Ty). demoted_bytes n (raw (width_of t) said.values)) int32
-    ∙ demoted_values n said.values fit
+    cc (text_of_said bytes said good, demoted_values n said.values fit)

@@ -1,27 +1,21 @@
 -- One value more, of bytes and as bytes.
-use Rattle.std.proofs.Common.{rules, ◌≡◌, refl, ap, ◌∙◌, ℕ, ◌+◌, ◌*◌, ◌≤◌, ℤ, List, [], ◌∷◌, ◌++◌, map, length, take, drop, append-nil, suc-mul}
-use Rattle.std.{proofs.lemmas.List.{map_push, take_at, length-take-le}, proofs.Math.Seq.{take-append-add}}
+use Rattle.std.proofs.Common.{rules, ◌≡◌, ap, ◌∙◌, ℕ, ◌+◌, ◌*◌, ◌≤◌, ℤ, List, [], ◌∷◌, ◌++◌, map, length, take, drop, append-nil, suc-mul, arith}
+use Rattle.std.{proofs.lemmas.List.{map_push}}
 use Rattle.std.specs.Int.{Width, w32, byte_len, to_le_bytes, from_le_bytes, cast_unsigned, cast_signed}
-use borrow.Rule.Slice.PartMut.{put_mid}
 use Rattle.zf_spec.{specs.Stream.{raw, values_from}, proofs.Bytes.{length-to_le_bytes}}
 use Rattle.zf_stream.{proofs.LittleEndian.{values_from-more}, proofs.RawValues.{raw-append}}
-use Rattle.zf_narrow.{specs.declared.narrow.Narrow.{Narrow}, specs.declared.narrow.Narrow.TheVariants.{I8}}
+use Rattle.zf_narrow.{specs.declared.narrow.Narrow.{Narrow}}
 use Rattle.zf_narrow.specs.Values.{width_of, size_of, promoted, demoted}
 use Rattle.zf_narrow.specs.RawNarrow.{value_of, narrow_bytes, values_in, raw_narrow}
 
 pub size_is : (n : Narrow) → byte_len (width_of n) ≡ size_of n
-size_is I8 = refl
-size_is n = refl
+size_is n = grind arith
 
 pub length-narrow_bytes : (n : Narrow) (v : ℤ) → length (narrow_bytes n v) ≡ size_of n
 length-narrow_bytes n v = length-to_le_bytes (width_of n) (cast_unsigned (width_of n) v) ∙ size_is n
 
 pub one_more : (i k : ℕ) → (i + 1) * k ≡ i * k + k
 one_more i k = search (rules, suc-mul)
-
--- the prefix of a list up to the end of a part that was put there
-pub put_part : (buf part : List ℕ) (at room end : ℕ) → at ≤ length buf → end ≡ at + length part → take end (put_mid at room buf part) ≡ take at buf ++ part
-put_part buf part at room end within is = search (rules, length-take-le, take-append-add, take_at)
 
 raw-push : (w : Width) (xs : List ℤ) (v : ℤ) → raw w (xs ++ v ∷ []) ≡ raw w xs ++ to_le_bytes w (cast_unsigned w v)
 raw-push w xs v = raw-append w xs (v ∷ []) ∙ ap (λ (bs : List ℕ). raw w xs ++ bs) (append-nil (to_le_bytes w (cast_unsigned w v)))

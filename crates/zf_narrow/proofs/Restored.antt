@@ -1,7 +1,7 @@
 -- How a restoration of narrow values ends, from how that of their int32 bytes does.
-use Rattle.std.proofs.Common.{rules, ◌≡◌, ◌≢◌, refl, sym, ap, subst, ◌∙◌, ℕ, ◌*◌, ◌%◌, ◌≤◌, inl, inr, ⊎_elim, Bool, true, false, List, [], ◌∷◌, ◌++◌, length, take, drop, Option, Some, None, Result, Ok, Err, append_assoc, append-nil, length-append, take-append-drop, arith}
+use Rattle.std.proofs.Common.{rules, ◌≡◌, ◌≢◌, refl, sym, ap, subst, ◌∙◌, ℕ, ◌*◌, ◌%◌, ◌≤◌, inl, inr, ⊎_elim, Bool, true, false, List, [], ◌++◌, length, take, drop, Option, Some, None, Result, Ok, Err, append_assoc, append-nil, length-append, take-append-drop, arith}
 use Rattle.std.{specs.Prelude.{IsErrAnd}, proofs.lemmas.List.{nil_from_length, length-take}}
-use Rattle.std.specs.Int.{byte_len}
+use Rattle.std.{specs.Int.{byte_len}, proofs.lemmas.Option.{same_Some}}
 use Rattle.zf_base.{specs.Widths.{width_of}, specs.declared.lane.Ty.{Ty}}
 use Rattle.zf_base.specs.declared.lane.Ty.TheVariants.{I32, I64}
 use Rattle.zf_header.{specs.declared.header.HeaderFault.{HeaderFault}, specs.HeaderFaults.{header_fault}}
@@ -11,7 +11,7 @@ use Rattle.zf_parse.{specs.declared.fault.StreamFault.{StreamFault}, proofs.Step
 use Rattle.zf_parse.specs.Parsing.{header_of, restore_answer, restored_text}
 use Rattle.zf_parse.proofs.Enough.{length-restored_text}
 use Rattle.zf_parse.specs.declared.fault.StreamFault.TheVariants as faults
-use Rattle.zf_stream.{specs.Outcomes.{Answers, LeavesPrefix}, specs.Restoring.{still}}
+use Rattle.zf_stream.{specs.Outcomes.{Answers, LeavesPrefix}}
 use Rattle.zf_stream.specs.Typed.{answer_of_types, typed_answer, CanRefuseTyped, RestoresTyped, HasOtherType, RestoredWhere}
 use Rattle.zf_stream.specs.Outcomes as outcomes
 use Rattle.zf_narrow.{specs.declared.narrow.Narrow.{Narrow}, specs.declared.fault.NarrowFault.{NarrowFault}}
@@ -30,10 +30,7 @@ narrow_of (Err e) = Err (Stream e)
 
 -- both say the same of an input
 same_answer : (fault : Option HeaderFault) (ty : Ty) (answer : Result (Unit {0}) StreamFault) → narrow_of (header_or fault (answer_of_types I32 ty answer)) ≡ answer_behind fault ty answer
-same_answer (Some f) ty answer = refl
-same_answer None I32 (Ok done) = refl
-same_answer None I32 (Err e) = refl
-same_answer None I64 answer = refl
+same_answer fault ty answer = search rules
 
 answer_is : (input : List ℕ) → narrow_of (typed_answer I32 input) ≡ restore_narrow_answer input
 answer_is input = same_answer (header_fault input) (header_of input).ty (restore_answer input)
@@ -64,16 +61,11 @@ wide_answer None I64 answer good other = refl
 -- ---- what was written
 
 prefix_empty : (xs ys : List ℕ) → xs ++ ys ≡ [] → xs ≡ []
-prefix_empty [] ys none = refl
-prefix_empty (x ∷ xs) ys none = absurd (omega (arith, ap (length {A = ℕ}) none))
-
-some_inj : {xs ys : List ℕ} → Some xs ≡ Some ys → xs ≡ ys
-some_inj same = ap still same
+prefix_empty xs ys none = nil_from_length xs (omega (arith, length-append xs ys, ap length none))
 
 -- the text is whole values
 whole_bytes : (ty : Ty) (count : ℕ) → (byte_len (width_of ty) * count) % 4 ≡ 0
-whole_bytes I32 count = omega arith
-whole_bytes I64 count = omega arith
+whole_bytes ty count = grind arith
 
 no_text : (bytes : List ℕ) (f : HeaderFault) → header_fault bytes ≡ Some f → restored_text bytes ≡ []
 unfolding restored_text
@@ -102,13 +94,9 @@ module _ (n : Narrow) {start now : Option (List ℕ)} {given owed taken part : L
   prefix_written : (text : List ℕ) → AppendsPrefix (Some []) (Some (taken ++ part)) text → AppendsPrefix start now (demoted_bytes n text)
   prefix_written text prefix =
       let rest = part ++ drop prefix.0 text in
-      let text_is : text ≡ taken ++ rest =
-      sym (take-append-drop prefix.0 text) ∙ ap (λ (bs : List ℕ). bs ++ drop prefix.0 text) (sym prefix.2) ∙ append_assoc taken part (drop prefix.0 text) in
-      let is : given ++ (owed ++ demoted_bytes n rest) ≡ demoted_bytes n text =
-      sym (append_assoc given owed (demoted_bytes n rest)) ∙ ap (λ (bs : List ℕ). bs ++ demoted_bytes n rest) d.made
-      ∙ sym (demoted_bytes-append n taken rest d.whole) ∙ ap (demoted_bytes n) (sym text_is) in
-      let Written : List ℕ → Type 0 = λ bs. AppendsPrefix start now bs in
-      subst Written is (AppendsPrefix-more start now given (owed ++ demoted_bytes n rest) (AppendsPrefix-all start now given d.written))
+      let text_is : text ≡ taken ++ rest = cc (take-append-drop prefix.0 text, prefix.2, append_assoc taken part (drop prefix.0 text)) in
+      let is : given ++ (owed ++ demoted_bytes n rest) ≡ demoted_bytes n text = cc (append_assoc given owed (demoted_bytes n rest), d.made, demoted_bytes-append n taken rest d.whole) in
+      rw is at (AppendsPrefix-more start now given (owed ++ demoted_bytes n rest) (AppendsPrefix-all start now given d.written))
 
   -- of all of it all, where no byte is owed
   all_written : (text : List ℕ) → owed ≡ [] → taken ++ part ≡ text → length text % 4 ≡ 0 → Appends start now (demoted_bytes n text)
@@ -123,17 +111,13 @@ module _ (n : Narrow) {start now : Option (List ℕ)} {given owed taken part : L
 
   -- the last byte that is owed was not written
   restores_but_one : {src0 src1 : Option (List ℕ)} → RestoresTyped I32 src0 src1 (Some []) (Some (taken ++ part)) → LeavesNarrowPrefix n src0 src1 start now
-  restores_but_one {src0} {src1} fin = record {
-    bytes = fin.bytes;
-    taken = fin.taken;
-    written = prefix_written (restored_text fin.bytes) (AppendsPrefix-all (Some []) (Some (taken ++ part)) (restored_text fin.bytes) fin.written);
-  }
+  restores_but_one {src0} {src1} fin = search (rules, prefix_written, AppendsPrefix-all)
 
   leaves : {src0 src1 : Option (List ℕ)} → LeavesPrefix restored_text src0 src1 (Some []) (Some (taken ++ part)) → LeavesNarrowPrefix n src0 src1 start now
   leaves {src0} {src1} left = search (rules, prefix_written)
 
   leaves_other : {src0 src1 : Option (List ℕ)} → HasOtherType I32 src0 src1 (Some []) (Some (taken ++ part)) → LeavesNarrowPrefix n src0 src1 start now
-  leaves_other {src0} {src1} other = search (rules, nothing_written, some_inj)
+  leaves_other {src0} {src1} other = search (rules, nothing_written, same_Some)
 
   module _ {src0 src1 : Option (List ℕ)} where
     -- all of it was restored, and no byte is owed

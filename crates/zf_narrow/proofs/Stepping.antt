@@ -1,6 +1,7 @@
 -- One read of a source that promotes: what is given is gone from what is to come.
-use Rattle.std.proofs.Common.{rules, ◌≡◌, refl, sym, ap, ◌∙◌, ℕ, zero, suc, ◌%◌, ◌≤◌, ◌<◌, Bool, true, false, IsTrue, List, [], ◌∷◌, ◌++◌, length, take, replicate, Option, Some, None, Result, Ok, Err, append_assoc, append-nil, arith}
-use Rattle.std.{specs.Prelude.{IfOk, OnErr, ◌↔◌}, proofs.lemmas.List.{length-take-le}}
+use Rattle.std.proofs.lemmas.List.{nil_from_length}
+use Rattle.std.proofs.Common.{rules, ◌≡◌, refl, sym, ap, ◌∙◌, ℕ, zero, ◌%◌, ◌≤◌, ◌<◌, Bool, true, false, IsTrue, List, [], ◌∷◌, ◌++◌, length, take, replicate, Option, Some, None, Result, Ok, Err, append_assoc, append-nil, arith}
+use Rattle.std.{specs.Prelude.{IfOk, ◌↔◌}, proofs.lemmas.List.{length-take-le}}
 use Rattle.zf_dev.specs.Source.{Takes, IsAtEnd, EndsAt}
 use Rattle.zf_narrow.{specs.declared.narrow.Narrow.{Narrow}, specs.declared.narrow.Narrow.TheVariants.{I8}}
 use Rattle.zf_narrow.{specs.Values.{size_of}, specs.RawNarrow.{promoted_bytes, promoted_all}}
@@ -8,16 +9,14 @@ use Rattle.zf_narrow.specs.Promoting.{coming, exposed_by, TakesValues}
 use Rattle.zf_narrow.proofs.Whole.{promoted_all-append, promoted_all-few}
 
 some_size : (n : Narrow) → 0 < size_of n
-some_size I8 = omega arith
-some_size n = omega arith
+some_size n = grind arith
 
 -- the bytes of whole values come before those of what is left
 pub values_then : (n : Narrow) (half half_now values bytes left rest : List ℕ) → left ≡ bytes ++ rest → half ++ bytes ≡ values ++ half_now → length values % size_of n ≡ 0
     → promoted_all n (half ++ left) ≡ promoted_bytes n values ++ promoted_all n (half_now ++ rest)
 values_then n half half_now values bytes left rest taken parts whole =
-    ap (λ bs. promoted_all n (half ++ bs)) taken
-    ∙ ap (promoted_all n) (sym (append_assoc half bytes rest) ∙ ap (λ bs. bs ++ rest) parts ∙ append_assoc values half_now rest)
-    ∙ promoted_all-append n values (half_now ++ rest) whole
+    let read = append_assoc half bytes rest in
+    cc (taken, read, parts, append_assoc values half_now rest, promoted_all-append n values (half_now ++ rest) whole)
 
 -- whole values were read, of whose bytes the first were given and the rest are pending
 pub values_given : (n : Narrow) (before now : Option (List ℕ)) (half half_now values first pending : List ℕ) → TakesValues n before now half half_now values → promoted_bytes n values ≡ first ++ pending
@@ -25,8 +24,8 @@ pub values_given : (n : Narrow) (before now : Option (List ℕ)) (half half_now 
 values_given n None now half half_now values first pending takes is = tt
 values_given n (Some left) None half half_now values first pending takes is = absurd takes.taken
 values_given n (Some left) (Some rest) half half_now values first pending takes is =
-    values_then n half half_now values takes.bytes left rest takes.taken takes.parts takes.whole
-    ∙ ap (λ bs. bs ++ promoted_all n (half_now ++ rest)) is ∙ append_assoc first pending (promoted_all n (half_now ++ rest))
+    let then = values_then n half half_now values takes.bytes left rest takes.taken takes.parts takes.whole in
+    cc (then, append_assoc first pending (promoted_all n (half_now ++ rest)))
 
 -- at the end of the source a zero byte is given for half a value
 pub half_given : (n : Narrow) (before now : Option (List ℕ)) (half half_now : List ℕ) (spent : Bool) → length half_now < size_of n → TakesValues n before now half half_now [] → IsAtEnd now → IsTrue spent ↔ (0 < length half_now)
@@ -43,19 +42,12 @@ half_given n (Some left) (Some rest) half half_now spent few takes end is =
     nothing I8 = refl
     nothing n = refl
 
-    none : (xs : List ℕ) → (0 < length xs → ⊥) → xs ≡ []
-    none [] h = refl
-    none (x ∷ xs) h = absurd (h (omega arith))
-
     by : (spent : Bool) → IsTrue spent ↔ (0 < length half_now) → replicate {A = ℕ} (length half_now) 0 ≡ replicate (length half_now) 0 ++ ([] ++ coming n spent half_now rest)
     by true is = sym (append-nil (replicate (length half_now) 0))
     by false is =
-        let no_half : half_now ≡ [] = none half_now (λ some. false_is_not (is.1 some)) in
+        let no_half : half_now ≡ [] = nil_from_length half_now (grind (arith, is.1)) in
         let nothing_comes : promoted_all n (half_now ++ rest) ≡ [] = ap (λ xs. promoted_all n (xs ++ rest)) no_half ∙ ap (promoted_all n) end ∙ promoted_all-few n [] (some_size n) in
         sym (ap (λ bs. replicate (length half_now) 0 ++ bs) nothing_comes ∙ append-nil (replicate (length half_now) 0))
-      where
-        false_is_not : IsTrue false → ⊥
-        false_is_not h = cc
 
 -- nothing comes where nothing is left
 pub none_comes : (n : Narrow) (spent : Bool) (now : Option (List ℕ)) (half : List ℕ) → IsAtEnd now → length half ≡ 0 → IsAtEnd (exposed_by n spent [] half now)
@@ -64,19 +56,10 @@ none_comes n true (Some left) half end none = refl
 none_comes n false (Some left) [] end none = ap (promoted_all n) end ∙ promoted_all-few n [] (some_size n)
 none_comes n false (Some left) (b ∷ half) end none = absurd (omega arith)
 
--- what follows from a fact on each value, or on an error, follows from it on the result
-pub IfOk-more : {T E : Type 0} (r : Result T E) (P Q : T → Type 0) → IfOk r P → ((x : T) → P x → Q x) → IfOk r Q
-IfOk-more (Ok x) P Q is more = more x is
-IfOk-more (Err e) P Q is more = tt
-
-pub OnErr-more : {T E : Type 0} (r : Result T E) (P Q : Type 0) → OnErr r P → (P → Q) → OnErr r Q
-OnErr-more (Ok x) P Q is more = tt
-OnErr-more (Err e) P Q is more = more is
-
 -- the end of a source that promotes is exposed by a read of nothing
 pub ends_at : {E : Type 0} (r : Result ℕ E) (old new : Option (List ℕ)) (buf : List ℕ) → IfOk r (λ k. Takes old new (take k buf)) → IfOk r (λ k. k ≤ length buf) → IfOk r (λ k. k ≡ 0 → IsAtEnd new) → IfOk r (λ k. EndsAt old new k)
 ends_at (Err e) old new buf takes bound end = tt
 ends_at (Ok k) None new buf takes bound end = end
 ends_at (Ok k) (Some left) None buf takes bound end = absurd takes
 ends_at (Ok zero) (Some left) (Some rest) buf takes bound end = (λ z. takes ∙ end refl, λ none. refl)
-ends_at (Ok (suc k)) (Some left) (Some rest) buf takes bound end = search (rules, length-take-le)
+ends_at (Ok k) (Some left) (Some rest) buf takes bound end = search (rules, length-take-le)

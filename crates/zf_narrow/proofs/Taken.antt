@@ -1,5 +1,5 @@
 -- What is read of a source, one piece behind another.
-use Rattle.std.proofs.Common.{rules, ◌≡◌, sym, ap, ◌∙◌, ℕ, ◌+◌, ◌≤◌, ◌%◌, List, ◌++◌, length, take, Option, Result, Ok, Err, append_assoc}
+use Rattle.std.proofs.Common.{rules, ◌≡◌, ℕ, ◌+◌, ◌≤◌, ◌%◌, List, ◌++◌, length, take, Option, Result, Ok, Err, append_assoc}
 use Rattle.std.{specs.Prelude.{IfOk}, proofs.lemmas.List.{length-take-le, take-append-le}}
 use Rattle.std.proofs.Math.Seq.{take-append-add}
 use Rattle.zf_dev.{specs.Source.{Takes}, proofs.Taking.{Takes-append}}
@@ -15,9 +15,6 @@ read_there (Ok k) before now piece buf past at within bound taken = search (rule
 -- two pieces, of which the first ends within a value
 pub two_pieces : (n : Narrow) {before mid now : Option (List ℕ)} {half first one all values half_now : List ℕ} {count more : ℕ} → ReadsBehind before mid half first count → first ≡ one → ReadsBehind mid now one all more
     → all ≡ values ++ half_now → length values % size_of n ≡ 0 → TakesValues n before now half half_now values
-two_pieces n {before} {mid} {now} {half} {first} {one} {all} {values} {half_now} a same b parts whole = record {
-  bytes = a.bytes ++ b.bytes;
-  taken = Takes-append before mid now a.bytes b.bytes a.taken b.taken;
-  parts = sym (append_assoc half a.bytes b.bytes) ∙ ap (λ bs. bs ++ b.bytes) (sym a.all_are ∙ same) ∙ sym b.all_are ∙ parts;
-  whole = whole;
-}
+two_pieces n {before} {mid} {now} {half} {first} {one} {all} {values} {half_now} a same b parts whole =
+    let bytes = append_assoc half a.bytes b.bytes in
+    search (rules, Takes-append, bytes)

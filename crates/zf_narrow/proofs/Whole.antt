@@ -1,37 +1,31 @@
 -- The bytes of whole values, and what follows them.
-use Rattle.std.proofs.Common.{rules, ◌≡◌, refl, sym, ap, ◌∙◌, ℕ, zero, suc, ◌+◌, ◌*◌, ◌/◌, ◌%◌, ◌<◌, ℤ, List, [], ◌++◌, map, length, replicate, append_assoc, length-append, arith}
-use Rattle.std.{proofs.lemmas.List.{nil_from_length, map-append, length-map}, specs.Int.{w32}}
+use Rattle.std.proofs.Common.{rules, ◌≡◌, sym, ap, ◌∙◌, ℕ, ◌+◌, ◌*◌, ◌/◌, ◌%◌, ◌<◌, ℤ, List, [], ◌++◌, map, length, replicate, append_assoc, length-append, arith}
+use Rattle.std.{proofs.lemmas.List.{nil_from_length, map-append, length-map, length-replicate}, specs.Int.{w32}}
 use Rattle.zf_spec.{specs.Stream.{raw}, proofs.RawValues.{length-raw, length-values_from}}
 use Rattle.zf_stream.{proofs.RawValues.{raw-append}, proofs.Rows.{values_from-append}}
-use Rattle.zf_narrow.{specs.declared.narrow.Narrow.{Narrow}, specs.declared.narrow.Narrow.TheVariants.{I8}}
+use Rattle.zf_narrow.{specs.declared.narrow.Narrow.{Narrow}}
 use Rattle.zf_narrow.{specs.Values.{width_of, size_of, promoted, demoted}, proofs.OneMore.{size_is}}
 use Rattle.zf_narrow.specs.RawNarrow.{values_in, promoted_bytes, promoted_all, raw_narrow, demoted_bytes}
 
 -- ---- counts
 
 pub whole_count : (n : Narrow) (a : ℕ) → a % size_of n ≡ 0 → a ≡ a / size_of n * size_of n
-whole_count I8 a whole = omega arith
-whole_count n a whole = omega arith
+whole_count n a whole = grind arith
 
 pub count-add : (n : Narrow) (a b : ℕ) → a % size_of n ≡ 0 → (a + b) / size_of n ≡ a / size_of n + b / size_of n
-count-add I8 a b whole = omega arith
-count-add n a b whole = omega arith
+count-add n a b whole = grind arith
 
 pub rest-add : (n : Narrow) (a b : ℕ) → a % size_of n ≡ 0 → (a + b) % size_of n ≡ b % size_of n
-rest-add I8 a b whole = omega arith
-rest-add n a b whole = omega arith
+rest-add n a b whole = grind arith
 
 pub few_count : (n : Narrow) (a : ℕ) → a < size_of n → a / size_of n ≡ 0
-few_count I8 a few = omega arith
-few_count n a few = omega arith
+few_count n a few = grind arith
 
 pub few_rest : (n : Narrow) (a : ℕ) → a < size_of n → a % size_of n ≡ a
-few_rest I8 a few = omega arith
-few_rest n a few = omega arith
+few_rest n a few = grind arith
 
 none_of_both : (n : Narrow) (a : ℕ) → a / size_of n ≡ 0 → a % size_of n ≡ 0 → a ≡ 0
-none_of_both I8 a none no_rest = omega arith
-none_of_both n a none no_rest = omega arith
+none_of_both n a none no_rest = grind arith
 
 -- ---- narrow values as int32 bytes
 
@@ -43,10 +37,7 @@ promoted_bytes-append n xs ys whole = search (rules, length-append, count-add, v
 
 pub promoted_all-append : (n : Narrow) (xs ys : List ℕ) → length xs % size_of n ≡ 0 → promoted_all n (xs ++ ys) ≡ promoted_bytes n xs ++ promoted_all n ys
 promoted_all-append n xs ys whole =
-    let left : length (xs ++ ys) % size_of n ≡ length ys % size_of n = ap (λ k. k % size_of n) (length-append xs ys) ∙ rest-add n (length xs) (length ys) whole in
-    ap (λ k. promoted_bytes n (xs ++ ys) ++ replicate k 0) left
-    ∙ ap (λ bs. bs ++ replicate (length ys % size_of n) 0) (promoted_bytes-append n xs ys whole)
-    ∙ append_assoc (promoted_bytes n xs) (promoted_bytes n ys) (replicate (length ys % size_of n) 0)
+    search (rules, length-append, rest-add, promoted_bytes-append, append_assoc)
 
 pub length-promoted_bytes : (n : Narrow) (s : List ℕ) → length (promoted_bytes n s) ≡ length s / size_of n * 4
 length-promoted_bytes n s = search (rules, length-raw, length-map, length-values_from)
@@ -58,12 +49,8 @@ promoted_bytes-few n s few = ap (λ k. raw w32 (map (promoted n) (values_in n k 
 pub promoted_all-few : (n : Narrow) (s : List ℕ) → length s < size_of n → promoted_all n s ≡ replicate (length s) 0
 promoted_all-few n s few = ap (λ bs. bs ++ replicate (length s % size_of n) 0) (promoted_bytes-few n s few) ∙ ap (λ k. replicate k 0) (few_rest n (length s) few)
 
-length-zeros : (k : ℕ) → length (replicate {A = ℕ} k 0) ≡ k
-length-zeros zero = refl
-length-zeros (suc k) = ap suc (length-zeros k)
-
 pub length-promoted_all : (n : Narrow) (s : List ℕ) → length (promoted_all n s) ≡ length s / size_of n * 4 + length s % size_of n
-length-promoted_all n s = search (rules, length-append, length-promoted_bytes, length-zeros)
+length-promoted_all n s = search (rules, length-append, length-promoted_bytes, length-replicate)
 
 -- nothing is given for no bytes alone
 pub no_bytes : (n : Narrow) (s : List ℕ) → promoted_all n s ≡ [] → s ≡ []

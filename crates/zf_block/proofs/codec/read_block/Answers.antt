@@ -1,5 +1,4 @@
-use Rattle.std.proofs.Common.{rules, map, refl, ap, ◌∙◌}
-use Rattle.zf_spec.specs.HeldPlanes.{planes_held}
+use Rattle.std.proofs.Common.{rules, refl, ap, ◌∙◌}
 use Rattle.zf_block.proofs.Decoded.{passes_block, lacks_block}
 use Rattle.zf_block.proofs.codec.read_block.Goals as goal
 
@@ -11,9 +10,8 @@ returns g c =
     let d = c.args.d in
     let code = c.args.code.now in
     let back = g.C.BlockCode.back d in
-    let words = map g.P.Plane.words c.read.new.planes in
     let read = c.in_ok-read.ensures.1 in (
       tt,
       passes_block (g.C.BlockCode.len_at code) (g.C.BlockCode.planes_at code) c.args.reader.now c.read.new.reader d g.row.N c.requires.size
-          g.T.Lane.width back _ read.0 (planes_held g.row.N words) read.1 (c.inverse.ensures ∙ ap back (c.from_planes.ensures ∙ rw c.requires.size refl)),
+          g.T.Lane.width back _ read.0 _ read.1 (c.inverse.ensures ∙ ap back (c.from_planes.ensures ∙ rw c.requires.size refl)),
     )

@@ -1,6 +1,4 @@
 use Rattle.std.{proofs.Common.{rules, map, sym, ap, ◌∙◌}, proofs.lemmas.Bool.{false≢true}}
-use Rattle.zf_spec.specs.Planes.{planes_of}
-use Rattle.zf_coef.specs.HeldDigits.{digits_in}
 use Rattle.zf_block.proofs.Decoded.{passes_zeros, passes_block, lacks_block}
 use Rattle.zf_block.proofs.codec.read_row.Goals as goal
 
@@ -19,12 +17,10 @@ returns-in_err-read_four g c = search (rules, false≢true, lacks_block)
 
 pub returns : goal.returns
 returns g c =
-    let n = g.T.Lane.WIDTH in
-    let d = c.args.d in
     let code = c.args.code.now in
-    let back = g.C.BlockCode.back d in
+    let back = g.C.BlockCode.back c.args.d in
     rw (← c.pass_zeros.ensures.unread (λ t. false≢true (sym c.if-pass_zeros.false ∙ t))) (
       tt,
-      passes_block (g.C.BlockCode.len_at code) (g.C.BlockCode.planes_at code) c.pass_zeros.new.reader c.read_four.new.reader d 4 c.requires.size
-          g.T.Lane.width back _ c.in_ok-read_four.ensures.1.0 (planes_of n (digits_in n c.read_four.new.digits)) c.in_ok-read_four.ensures.1.1 (c.inverse.ensures ∙ ap back c.from_digits.ensures),
+      passes_block (g.C.BlockCode.len_at code) (g.C.BlockCode.planes_at code) c.pass_zeros.new.reader c.read_four.new.reader c.args.d 4 c.requires.size
+          g.T.Lane.width back _ c.in_ok-read_four.ensures.1.0 _ c.in_ok-read_four.ensures.1.1 (c.inverse.ensures ∙ ap back c.from_digits.ensures),
     )

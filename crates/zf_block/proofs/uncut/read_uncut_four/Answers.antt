@@ -1,8 +1,6 @@
-use Rattle.std.proofs.Common.{◌≡◌, ◌-◌, ◌≤◌, true, false, length, refl, arith}
-use Rattle.zf_spec.specs.Planes.{planes_of}
-use Rattle.zf_coef.specs.HeldDigits.{digits_in}
+use Rattle.std.proofs.Common.{◌≡◌, ◌≤◌, true, false, length, refl, arith}
 use Rattle.zf_bits.specs.Reader.{rest}
-use Rattle.zf_block.proofs.ReadCodes.{uncut_lacks, uncut_passes, uncut_above}
+use Rattle.zf_block.proofs.ReadCodes.{uncut_lacks, uncut_read}
 use Rattle.zf_block.proofs.uncut.read_uncut_four.Goals as goal
 
 pub returns-in_err-read_four : goal.returns-in_err-read_four
@@ -13,13 +11,7 @@ returns-in_err-read_four c =
 
 pub returns : goal.returns
 returns c =
-    let old = c.args.reader.now in
-    let width = c.args.width in
-    let left : length (rest old) ≤ 18446744073709551615 = omega (arith, c.left-left.ensures.count) in
-    let read = c.in_ok-read_four.ensures in (
-      tt,
-      (
-        uncut_passes c.args.prec 4 old (omega arith) (omega arith) left c.read_four.new.reader _ (λ few. let no : true ≡ false = read.short.1 few in cc) read.count read.reads,
-        uncut_above c.args.prec 4 old (omega arith) (omega arith) left (planes_of width (digits_in width c.read_four.new.digits)) (width - c.args.prec) read.digits,
-      ),
-    )
+    let left : length (rest c.args.reader.now) ≤ 18446744073709551615 = omega (arith, c.left-left.ensures.count) in
+    let read = c.in_ok-read_four.ensures in
+    let uncut = uncut_read c.args.prec 4 c.args.reader.now (omega arith) (omega arith) left c.read_four.new.reader _ _ _ in
+    (tt, uncut (λ few. let no : true ≡ false = read.short.1 few in cc) read.count read.reads read.digits)

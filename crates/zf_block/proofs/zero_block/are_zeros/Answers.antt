@@ -1,4 +1,4 @@
-use Rattle.std.proofs.Common.{false, take, drop, replicate, leb-true, ap, ◌∙◌, arith}
+use Rattle.std.proofs.Common.{false, drop, replicate, leb-true, arith}
 use Rattle.std.proofs.lemmas.List.{length-replicate, take-append-le, take_all}
 use Rattle.zf_bits.specs.Reader.{rest}
 use Rattle.zf_planes.proofs.Peeking.{peeked, zeros_ahead}
@@ -11,6 +11,4 @@ returns-then-from-left-clause-zeros c = λ low.
     let v = c.peek.result in
     let long = length-replicate k false in
     let seen = peeked s v k c.peek.ensures c.requires.in_word (omega (arith, c.from.ensures, c.left.ensures.count, c.if-from-left.true)) in
-    ap (take k) (zeros_ahead s v k k seen (omega arith) (leb-true k _ low) (omega arith))
-    ∙ take-append-le k (replicate k false) (drop k s) (omega arith)
-    ∙ take_all k (replicate k false) (omega arith)
+    cc (zeros_ahead s v k k seen (omega arith) (leb-true k _ low) (omega arith), take-append-le k (replicate k false) (drop k s) (omega arith), take_all k (replicate k false) (omega arith))

@@ -1,5 +1,4 @@
-use Rattle.std.proofs.Common.{ap, subst}
-use Rattle.zf_spec.specs.Grid.{IsDimension}
+use Rattle.std.proofs.Common.{ap}
 use Rattle.zf_block.specs.Block.{PartialBlock}
 use Rattle.zf_block.proofs.partial.Partial.dims.Goals as goal
 
@@ -7,4 +6,4 @@ pub returns-clause-value : goal.returns-clause-value
 returns-clause-value g c = ap (λ (b : PartialBlock). b.d) c.self.view_is
 
 pub returns-clause-dimension : goal.returns-clause-dimension
-returns-clause-dimension g c = let P : PartialBlock → Type 0 = λ b. IsDimension b.d in subst P c.self.view_is c.self.invariant.dimension
+returns-clause-dimension g c = rw (← c.self.view_is) c.self.invariant.dimension

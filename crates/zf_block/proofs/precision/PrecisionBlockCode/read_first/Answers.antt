@@ -3,18 +3,16 @@ use mir.Val.{bits}
 use Rattle.zf_spec.{specs.Planes.{planes_of}, specs.ReadPlanes.{planes_in}}
 use Rattle.zf_coef.specs.HeldDigits.{digits_in}
 use Rattle.zf_bits.specs.Reader.{rest}
-use Rattle.zf_block.{specs.Block.{AreAbove}, specs.Decoding.{PassesCode}, proofs.Widths.{width_bounds}}
-use Rattle.zf_block.specs.ReadBlocks.{prec_planes, prec_len, uncut_len}
-use Rattle.zf_block.proofs.FirstAlone.{uncut_first, passes_first}
+use Rattle.zf_block.{specs.Block.{AreAbove}, proofs.Widths.{width_bounds}}
+use Rattle.zf_block.{specs.ReadBlocks.{prec_planes, prec_len}, proofs.FirstAlone.{uncut_first, passes_first}}
 use Rattle.zf_block.proofs.precision.PrecisionBlockCode.read_first.Goals as goal
 
 pub returns-clause-reads : goal.returns-clause-reads
 unfolding prec_len prec_planes
 returns-clause-reads g c =
     let first = c.in_ok-first.first in
-    let prec : c.min-prec.result ≡ min c.args.self.now.prec (bits g.T.Lane.width) = c.min-prec.ensures ∙ ap (min c.args.self.now.prec) (c.WIDTH-width.ensures ∙ g.met.T.Lane.bits_of_width) in
-    let Passes : ℕ → Type 0 = λ p. PassesCode (uncut_len p c.args.size (rest c.args.reader.now)) c.args.reader.now c.skip.new.self in
-    subst Passes prec (passes_first c.args.size c.min-prec.result first.digits first.len c.args.reader.now c.skip.new.self c.requires.size c.in_ok-first.ensures c.skip.ensures)
+    let prec : c.min-prec.result ≡ min c.args.self.now.prec (bits g.T.Lane.width) = cc (c.min-prec.ensures, c.WIDTH-width.ensures, g.met.T.Lane.bits_of_width) in
+    rw prec at (passes_first c.args.size c.min-prec.result first.digits first.len c.args.reader.now c.skip.new.self c.requires.size c.in_ok-first.ensures c.skip.ensures)
 
 pub returns-clause-planes : goal.returns-clause-planes
 unfolding prec_planes

@@ -7,11 +7,8 @@ use Rattle.zf_block.proofs.rate.RateBlockCode.write_four.Goals as goal
 
 pub returns : goal.returns
 returns g c =
-    let budget = c.from-bits.result in
     let width = c.WIDTH-width.result in
     let planes = planes_of width (digits_in width c.args.digits.now) in
-    let bits = code (take width planes) in
     let whole : take width planes ≡ planes = take_all width planes (omega (arith, length-planes_of width (digits_in width c.args.digits.now))) in
-    let left : budget - c.write_four-used.result ≡ budget - length bits = omega (arith, c.write_four-used.ensures.count) in
-    Appends-same (Appends-append c.write_four-used.ensures.bits c.write_zeros.ensures)
-    (search (rules, first_bits-take))
+    let left : c.from-bits.result - c.write_four-used.result ≡ c.from-bits.result - length (code (take width planes)) = omega (arith, c.write_four-used.ensures.count) in
+    Appends-same (Appends-append c.write_four-used.ensures.bits c.write_zeros.ensures) (search (rules, first_bits-take))

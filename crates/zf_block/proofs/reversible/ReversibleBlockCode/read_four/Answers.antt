@@ -1,4 +1,4 @@
-use Rattle.zf_block.proofs.ReadCodes.{planes-behind_count, passes-behind_count, lacks-behind_count, lacks-count}
+use Rattle.zf_block.proofs.ReadCodes.{held-behind_count, lacks-behind_count, lacks-count}
 use Rattle.zf_block.proofs.reversible.ReversibleBlockCode.read_four.Goals as goal
 
 pub returns-in_err-prec : goal.returns-in_err-prec
@@ -6,13 +6,9 @@ returns-in_err-prec g c = rw c.from_residual.ensures (lacks-count g.T.Lane.width
 
 pub returns-in-Some : goal.returns-in-Some
 returns-in-Some g c =
-    let w = g.T.Lane.width in
-    let prec = c.in_ok-prec.prec in
-    let middle = c.read_count.new.reader in
     let count = c.in_ok-prec.ensures in
-    let behind = c.in-Some.ensures.1 in
-    let planes = planes-behind_count w 4 prec c.args.reader.now middle count.value count.reads in
-    (tt, (passes-behind_count w 4 prec c.args.reader.now middle count.value count.reads c.read_uncut_four.new.reader behind.0, rw (← planes, ← c.WIDTH.ensures) behind.1))
+    let held = held-behind_count g.T.Lane.width 4 c.in_ok-prec.prec c.args.reader.now c.read_count.new.reader count.value count.reads in
+    rw (← c.WIDTH.ensures) (tt, held c.read_uncut_four.new.reader _ c.in-Some.ensures.1)
 
 pub returns-in-None : goal.returns-in-None
 returns-in-None g c =

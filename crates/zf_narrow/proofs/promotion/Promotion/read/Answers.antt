@@ -1,4 +1,4 @@
-use Rattle.std.{proofs.lemmas.Grind.{common_steps}, proofs.Common.{rules, ◌≡◌, ap, length, take, arith}}
+use Rattle.std.{proofs.Common.{rules, ◌≡◌, ap, length, take, arith}}
 use Rattle.zf_stream.proofs.OnErrors.{on_err}
 use Rattle.zf_narrow.{specs.Promotions.{IsIdle}, proofs.Given.{gives_all, gives_half}}
 use Rattle.zf_narrow.proofs.promotion.Promotion.read.Goals as goal
@@ -25,18 +25,3 @@ returns-clause-given g c =
     let idle : IsIdle c.args.self.now = record { all_given = omega (arith, c.if-self-lt4.false, c.args.self.now.within); unspent = search rules } in
     let four : length c.args.self.now.value ≡ 4 = search rules in
     gives_all c.args.self.now c.read_values.new.self (g.S.Source.contents c.args.src.now) (g.S.Source.contents c.read_values.new.src) _ idle four c.in_ok-count.ensures.values
-
-pub returns-then-self-lt4-clause-given : goal.returns-then-self-lt4-clause-given
-returns-then-self-lt4-clause-given g c = grind (arith, common_steps)
-
-pub returns-then-self-clause-end : goal.returns-then-self-clause-end
-returns-then-self-clause-end g c = grind (arith, common_steps)
-
-pub returns-in_err-count-clause-taken : goal.returns-in_err-count-clause-taken
-returns-in_err-count-clause-taken g c = grind (arith, common_steps)
-
-pub returns-then-count-eq0-clause-taken : goal.returns-then-count-eq0-clause-taken
-returns-then-count-eq0-clause-taken g c = grind (arith, common_steps)
-
-pub returns-clause-taken : goal.returns-clause-taken
-returns-clause-taken g c = grind (arith, common_steps)
