@@ -1,5 +1,5 @@
 -- Runs of scripts: what each line keeps, and lines one after the other.
-use Rattle.std.proofs.Common.{◌≡◌, refl, sym, ap, ◌∙◌, ℕ, suc, ◌+◌, Bool, true, false, ◌&&◌, eqb, List, [], ◌∷◌, ◌++◌, length, Option, Some, None, append_assoc, arith}
+use Rattle.std.proofs.Common.{◌≡◌, refl, ap, ℕ, suc, ◌+◌, Bool, true, false, ◌&&◌, eqb, List, [], ◌∷◌, ◌++◌, length, Option, Some, None, append_assoc, arith}
 use Rattle.std.{specs.List.{list_any}, specs.Option.{option_to_list}, specs.Int.{Width}}
 use Rattle.zf_spec.specs.Grid.{IsShape}
 use Rattle.zf_cached.{specs.State.{State}, specs.Arrays.{array_format}, specs.Commands.{Command}}
@@ -21,10 +21,7 @@ run_lines-append {Code} setting starved k (line ∷ lines) more s =
     let e : suc k + length lines ≡ k + suc (length lines) = omega arith in
     let first = run_lines setting starved (suc k) lines one.0 in
     let o = option_to_list one.1 in
-    let then_more = λ (n : ℕ). run_lines setting starved n more first.0 in
-    ap (λ (r : Session Code × List Reply). (r.0, o ++ r.1)) (run_lines-append setting starved (suc k) lines more one.0)
-    ∙ ap (λ (rs : List Reply). ((then_more (suc k + length lines)).0, rs)) (sym (append_assoc o first.1 (then_more (suc k + length lines)).1))
-    ∙ ap (λ (n : ℕ). ((then_more n).0, (o ++ first.1) ++ (then_more n).1)) e
+    cc (run_lines-append setting starved (suc k) lines more one.0, append_assoc o first.1 (run_lines setting starved (suc k + length lines) more first.0).1)
 
 pub step-refused : {Code : Type 0} (setting : Setting Code) (s : Session Code) (c : Command) (starving : Bool) (why : Refusal) → refusal setting s c starving ≡ Some why → step setting s c starving ≡ (s, Some (Reply.refused why))
 step-refused setting s c starving why e = step_by setting s c starving (λ r. r ≡ (s, Some (Reply.refused why))) (λ y is. let same : y ≡ why = cc in ap (λ x. (s, Some (Reply.refused x))) same) (λ none. absurd (cc))
