@@ -1,58 +1,28 @@
 -- `allocate` cuts the new block into empty places, and keeps the right to free it. Assumes `Logic`.
-use mathlib.Core.Path.{◌≡◌, refl, sym, ap, subst}
+use Rattle.zf_lines.proofs.Names.{◌≡◌, refl, sym, ap, subst, ℕ, ◌*◌, ◌<◌, ◌^◌, arith, List, [], ◌∷◌, ◌++◌, Ura, Fn, named, w64, ty_array, inst_fn, Val, vptr, vint, SProp, ent, Lft, Share, ftrue, flft, Incl-trans, Env, Calls, Loops, WpFn, Tables, Logic, fact, Fun, tables, WpFn-mono, FmC, fm_of, Item, ⋆, ‵, raw, ◌⊛◌, later, await, at_ret, ◌$◌, ◌∵◌, !, qed, by, move, keep, use1, use2, split, join, fsplit, fsplit3, fjoin, feq_l, suffices, frame, done, flt_l, flt_i, whole, agg, stop, fld, of_opd, and_then, no_more, first, exec, returns, enter, bin, size_word, align_word, alloc_all, pass_all, free_all, look_at, get, get_in, sets, sets_last, is, env, yes, RattleType, owns, hidden_shr, layout, Ptr, block_ptr, Bor, ShrRef, RefOf, usize, plain, nothing, Clauses, Ended, closing, on_entry, Meets, triple_of, entered, says, needs, Stays, stay_dropped, walk_of, ends_at, Goes-dropped, walk_Meets, after, as_written, Good, word, word-Good, length, None, El, R, elτ, Al, second, uncapped, block_ty, block_size, block_align, P, Memory, align, capped, capped_fits, Routine, ◌⊑◌, Triple}
 use mathlib.Core.Bool.{true, false}
-use Prim.Native.Nat.{ℕ, ◌*◌, ◌<◌, ◌^◌}
-use native.Mathlib.Omega.{arith}
-use mathlib.Core.List.{List, [], ◌∷◌, ◌++◌}
 use lib.Dec.{lit<}
-use seplogic.Ra.Ura.{Ura}
-use mir.Syntax.{Fn, Body, named, w64, ty_array}
-use mir.MapTy.{inst_fn}
-use mir.Val.{Val, vptr, vint, vstruct, vcons, vnil}
-use base.Logic.{SProp, ent}
-use base.Fml.{Lft, Share, ftrue, flft, Incl-trans}
-use prog.Wp.{Env, Calls, Loops, WpFn, Tables, Wp, after_seq, at_return}
-use types.Logic.{Logic}
-use contract.Monad.{fact, Fun}
-use contract.Running.{tables, tables_of}
-use sound.WpLaws.{WpFn-mono, FmC, fm_of}
-use types.Kit.{Item, ⋆, ‵, raw, ◌⊛◌, later, await, at_ret, ◌$◌, ◌∵◌, !, qed, by, move, keep, use0, use1, use2, use3, split, join, fsplit, fsplit3, fjoin, feq_l, suffices, frame, done, flt_l, flt_i, Post as After, any_q}
-use types.Part.{whole, agg}
-use types.Run.{stop, fld, lit, of_opd, and_then, no_more, first, exec, returns, enter, bin, size_word, align_word, switches_on}
-use types.ByLocal.{alloc_all, pass_all, free_all, look_at, get, get_in, sets, sets_last, is, env, get_tag, lands_as}
-use denote.Exit.{yes}
-use denote.RattleType.{RattleType, owns}
-use denote.Memory.{hidden_shr}
-use denote.Param.{layout}
-use denote.RawPtr.{Ptr, block_ptr}
-use denote.Ref.{Bor, ShrRef}
-use denote.Builtin.{RefOf, usize}
-use denote.Signature.{plain}
-use denote.Steps.{nothing, owned}
+use mir.Syntax.{Body}
+use mir.Val.{vstruct, vcons, vnil}
+use prog.Wp.{Wp, after_seq, at_return}
+use contract.Running.{tables_of}
+use types.Kit.{use0, use3, Post as After, any_q}
+use types.Run.{lit, switches_on}
+use types.ByLocal.{get_tag, lands_as}
+use denote.Steps.{owned}
 use denote.Struct.Tuple.{Tuple}
-use denote.Triple.Clauses.{Clauses, Ended, closing}
-use denote.Triple.Entry.{on_entry}
-use denote.Triple.Spec.{Meets, triple_of}
-use denote.Triple.Table.{entered}
-use denote.Triple.Walked.{says, needs, Stays, stay_dropped, walk_of, ends_at, Goes-dropped, walk_Meets}
-use Rattle.std_alloc.{proofs.VecSteps.Shapes.{after, head, arm_body}, proofs.RawLayout.{as_written}}
-use Rattle.std_alloc.{proofs.RcSteps.{Good, word, word-Good, first_Good}, proofs.ResultValues.{ok_of, err_of}}
-use lib.ListN.{length, replicate, length-replicate}
-use Rattle.std.{specs.Prelude.{None, IfOk, Ok, Err}, specs.Vec.Ownership.{FitsInBlock}}
-use Rattle.core.proofs.mem.Param.{El, R, elτ}
-use Rattle.core.proofs.alloc.Calls.{Al, second, Answer-typed, takes_key, Takes, at_takes, Answered, Takes-goes, Takes-gives, answers}
-use Rattle.core.proofs.slots.Leases.{uncapped, block_ty, block_size, block_align, args, P}
+use Rattle.std_alloc.{proofs.VecSteps.Shapes.{head, arm_body}, proofs.RcSteps.{first_Good}}
+use Rattle.std_alloc.proofs.ResultValues.{ok_of, err_of}
+use lib.ListN.{replicate, length-replicate}
+use Rattle.std.{specs.Prelude.{IfOk, Ok, Err}, specs.Vec.Ownership.{FitsInBlock}}
+use Rattle.core.proofs.alloc.Calls.{Answer-typed, takes_key, Takes, at_takes, Answered, Takes-goes, Takes-gives, answers}
+use Rattle.core.proofs.slots.Leases.{args}
 use Rattle.zf_lines.{specs.Ownership.{slots}, specs.contracts.cells.allocate.Key.{name as #self}}
 use Rattle.zf_lines.proofs.Memory.{Cr, Bs, Mark, sz, mark, mark_made, word_made, three_val, three_of, of_room}
-use prog.Memory.{Memory, align, capped}
-use prog.Capped.{capped_fits}
-use prog.Routine.{Routine}
-use contract.BorrowLft.{◌⊑◌}
 use types.Match.{live, vrt, in_variant}
 use denote.Laws.{Is}
 use denote.Struct.Struct.{Struct, Struct-Makes}
 use denote.Struct.Declared as Declared
-use denote.Triple.Statement.{Triple}
 use denote.Triple.Call.{calls_at}
 use Rattle.core.specs.contracts.result.Result as RS
 use Rattle.core.specs.contracts.alloc.AllocError as AE

@@ -1,51 +1,19 @@
 -- `deallocate` makes the block of its places, whatever stands in them, and hands it back with the allocator's token. Assumes `Logic`.
-use mathlib.Core.Path.{◌≡◌, refl, sym, ap, subst, ◌∙◌}
-use Prim.Native.Nat.{ℕ, ◌*◌, ◌<◌, ◌^◌}
-use native.Mathlib.Omega.{arith}
-use mathlib.Core.List.{List, [], ◌∷◌, ◌++◌}
-use seplogic.Ra.Ura.{Ura}
-use mir.Syntax.{Fn, named, w64, ty_unit, ty_array}
-use mir.MapTy.{inst_fn}
-use mir.Val.{Val, vptr, vint, vunit, has_ty, WT}
-use base.Logic.{SProp, ent, never, id⊢}
-use base.Fml.{Lft, Share, ftrue, froom, flft, Incl-trans}
-use prog.Wp.{Env, Calls, Loops, WpFn, Tables}
-use types.Logic.{Logic}
-use contract.Monad.{fact, Fun}
-use contract.Running.{tables, tables_of}
-use sound.WpLaws.{WpFn-mono, FmC, fm_of}
-use types.Kit.{Item, ⋆, ‵, raw, ◌⊛◌, given, later, await, learn, at_ret, ◌$◌, ◌∵◌, !, qed, by, move, keep, use1, split, join, group, rewrite, fsplit, fsplit3, fjoin, feq_i, feq_l, suffices, done, flt_l}
-use types.Part.{whole, sub}
-use types.Run.{stop, fld, unit_lit, of_opd, and_then, no_more, first, blocks, exec, returns, enter, bin, size_word, align_word}
-use types.ByLocal.{alloc_all, pass_all, free_all, look_at, get, get_in, sets, is, env, lands_last}
-use denote.Exit.{yes, no}
-use denote.RattleType.{RattleType, owns}
-use denote.Memory.{hidden_shr}
-use denote.RawPtr.{Ptr, ptr_val, in_a_block}
-use denote.Ref.{Bor, ShrRef}
-use denote.Builtin.{RefOf, usize}
-use denote.Signature.{plain}
-use denote.Steps.{nothing}
-use denote.Triple.Clauses.{Clauses, Ended, closing}
-use denote.Triple.Entry.{on_entry}
-use denote.Triple.Spec.{Meets, triple_of}
-use denote.Triple.Table.{entered}
-use denote.Triple.Walked.{needs, Stays, stay_dropped, walk_of, ends_at, Goes-dropped, walk_Meets}
-use Rattle.core.proofs.alloc.Calls.{Goes-blank, Al, second, token, gives_key, Gives, at_gives, Gives-goes, Gives-Gives}
-use Rattle.core.proofs.mem.Param.{El, R, elτ}
-use Rattle.core.proofs.slots.Leases.{uncapped, block_ty, block_size, block_align, args, P}
-use Rattle.std_alloc.{proofs.VecSteps.Shapes.{after}, proofs.RcSteps.{word, word-Good}}
+use Rattle.zf_lines.proofs.Names.{◌≡◌, refl, sym, ap, subst, ◌∙◌, ℕ, ◌*◌, ◌<◌, ◌^◌, arith, List, [], ◌∷◌, ◌++◌, Ura, Fn, named, w64, ty_array, inst_fn, Val, vptr, vint, vunit, SProp, ent, never, id⊢, Lft, Share, ftrue, flft, Incl-trans, Env, Calls, Loops, WpFn, Tables, Logic, fact, Fun, tables, WpFn-mono, FmC, fm_of, Item, ⋆, ‵, raw, ◌⊛◌, later, await, at_ret, ◌$◌, ◌∵◌, !, qed, by, move, keep, use1, split, join, group, rewrite, fsplit, fsplit3, fjoin, feq_i, feq_l, suffices, done, flt_l, whole, sub, stop, fld, unit_lit, of_opd, and_then, no_more, first, blocks, exec, returns, enter, bin, size_word, align_word, alloc_all, pass_all, free_all, look_at, get, get_in, sets, is, env, yes, no, RattleType, owns, hidden_shr, Ptr, in_a_block, Bor, ShrRef, RefOf, usize, plain, nothing, Clauses, Ended, closing, on_entry, Meets, triple_of, entered, needs, Stays, stay_dropped, walk_of, ends_at, Goes-dropped, walk_Meets, Al, second, El, R, elτ, uncapped, block_ty, block_size, block_align, P, after, word, word-Good, length, Memory, align, capped, capped_fits, Routine, ◌⊑◌, Triple}
+use mir.Syntax.{ty_unit}
+use mir.Val.{has_ty, WT}
+use base.Fml.{froom}
+use contract.Running.{tables_of}
+use types.Kit.{given, learn}
+use types.ByLocal.{lands_last}
+use denote.RawPtr.{ptr_val}
+use Rattle.core.proofs.alloc.Calls.{Goes-blank, token, gives_key, Gives, at_gives, Gives-goes, Gives-Gives}
+use Rattle.core.proofs.slots.Leases.{args}
 use Rattle.std_alloc.proofs.RawLayout.{as_raw}
 use Rattle.zf_lines.specs.Ownership.{cells_own, deed_owns}
 use Rattle.zf_lines.proofs.Memory.{Cr, Bs, sz, mark, mark_had, word_had, to_room}
 use Rattle.zf_lines.specs.contracts.cells.deallocate.Key.{name as #self}
 use lib.Dec.{T}
-use lib.ListN.{length}
-use prog.Memory.{Memory, align, capped}
-use prog.Capped.{capped_fits}
-use prog.Routine.{Routine}
-use contract.BorrowLft.{◌⊑◌}
-use denote.Triple.Statement.{Triple}
 use denote.Triple.Call.{calls_at_last}
 use Rattle.zf_lines.specs.contracts.cells.Deed as D-type
 use Rattle.zf_lines.specs.contracts.cells.deallocate as F

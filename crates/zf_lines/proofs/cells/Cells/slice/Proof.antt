@@ -1,49 +1,13 @@
 -- `slice` shows a run of values that the places lend. Assumes `Logic`.
-use mathlib.Core.Path.{◌≡◌, refl, sym, ap, subst, ◌∙◌}
-use Prim.Native.Nat.{ℕ, ◌+◌, ◌*◌, ◌<◌, ◌^◌}
-use native.Mathlib.Omega.{arith}
-use mathlib.Core.List.{List, [], ◌∷◌, ◌++◌, map}
-use seplogic.Ra.Ura.{Ura}
-use base.Fraction.{full_share}
-use mir.Syntax.{Fn, named, w64}
-use mir.MapTy.{inst_fn}
-use mir.Val.{Val, vptr, vint}
-use base.Logic.{SProp, ent, never, id⊢}
-use base.Fml.{Lft, Share, ftrue, fat, flft}
-use prog.Wp.{Env, Calls, Loops, WpFn, Tables}
-use types.Logic.{Logic}
-use contract.Monad.{fact}
-use contract.Running.{tables, tables_of}
-use sound.WpLaws.{WpFn-mono}
-use types.Kit.{Item, ⋆, ‵, ◌⊛◌, at_ret, ◌$◌, ◌∵◌, !, qed, by, move, keep, drop, use1, split, join, rewrite, fsplit, fjoin, feq_i, feq_l, suffices, frame, done, flt_l, flt_i}
-use types.Part.{whole, sub, agg}
-use types.Run.{stop, fld, of_opd, and_then, no_more, first, blocks, exec, returns, enter, bin, size_word}
-use types.ByLocal.{alloc_all, pass_all, free_all, look_at, get, get_in, sets, sets_last, is, env, take_at, give_at}
-use denote.Exit.{yes, no}
-use denote.RattleType.{owns}
-use denote.Memory.{hidden_shr}
-use denote.Param.{layout}
-use denote.RawPtr.{Ptr, in_a_block}
-use denote.Ref.{Bor, ShrRef}
-use denote.Builtin.{RefOf, usize, SliceRefOf}
-use denote.Signature.{plain}
+use Rattle.zf_lines.proofs.Names.{◌≡◌, refl, sym, ap, subst, ◌∙◌, ℕ, ◌+◌, ◌*◌, ◌<◌, ◌^◌, arith, List, [], ◌∷◌, ◌++◌, map, Ura, full_share, Fn, named, w64, inst_fn, Val, vptr, vint, SProp, ent, never, id⊢, Lft, Share, ftrue, fat, flft, Env, Calls, Loops, WpFn, Tables, Logic, fact, tables, WpFn-mono, Item, ⋆, ‵, ◌⊛◌, at_ret, ◌$◌, ◌∵◌, !, qed, by, move, keep, use1, split, join, rewrite, fsplit, fjoin, feq_i, feq_l, suffices, frame, done, flt_l, flt_i, whole, sub, agg, stop, fld, of_opd, and_then, no_more, first, blocks, exec, returns, enter, bin, size_word, alloc_all, pass_all, free_all, look_at, get, get_in, sets, sets_last, is, env, take_at, give_at, yes, no, owns, hidden_shr, layout, Ptr, in_a_block, Bor, ShrRef, RefOf, usize, plain, nothing, spared, Clauses, Ended, closing, on_entry, Meets, triple_of, entered, run_framed, says, needs, Stays, stay_dropped, walk_of, ends_at, Goes-dropped, walk_Meets, after, word, word-Good, length, take, length-take, length-drop, drop_l, Some, length-map, El, R, args, el_x, times_below, uncapped, slice_val}
+use contract.Running.{tables_of}
+use types.Kit.{drop}
+use denote.Builtin.{SliceRefOf}
 use denote.Opens.{hide, unhide}
-use denote.Steps.{nothing}
-use denote.Triple.Carry.{spared}
-use denote.Triple.Clauses.{Clauses, Ended, closing}
-use denote.Triple.Entry.{on_entry}
-use denote.Triple.Spec.{Meets, triple_of}
-use denote.Triple.Table.{entered, run_framed}
-use denote.Triple.Walked.{says, needs, Stays, stay_dropped, walk_of, ends_at, Goes-dropped, walk_Meets}
-use Rattle.std_alloc.{proofs.VecSteps.Shapes.{after}, proofs.RcSteps.{word, word-Good}}
-use lib.ListN.{length, take, length-take, length-drop, drop as drop_l}
-use Rattle.std.{specs.Prelude.{Some}, proofs.lemmas.List.{length-map}}
-use Rattle.core.{proofs.mem.Param.{El, R, args, el_x}, proofs.ptr.Rows.{times_below}}
-use Rattle.core.proofs.slots.Leases.{uncapped}
 use Rattle.zf_lines.{specs.Places.{IsRun}, specs.Ownership.{cells_lent}}
 use Rattle.zf_lines.proofs.Memory.{Cr, Bs, sz, word_had, run_seen}
 use Rattle.zf_lines.specs.contracts.cells.Cells.slice.Key.{name as #self}
-use denote.Slice.{ShrSlice, slice_val, elements_shared}
+use denote.Slice.{ShrSlice, elements_shared}
 use Rattle.zf_lines.proofs.cells.Cells.slice.Statement as stated
 use Rattle.zf_lines.proofs.cells.Cells.slice.Code as code
 

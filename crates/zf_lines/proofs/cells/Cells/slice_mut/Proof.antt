@@ -1,52 +1,18 @@
 -- `slice_mut` lends a run of values, and the places follow it. Assumes `Logic`.
-use mathlib.Core.Path.{◌≡◌, refl, sym, ap, subst, ◌∙◌}
-use Prim.Native.Nat.{ℕ, ◌+◌, ◌*◌, ◌<◌, ◌≤◌, ◌^◌}
-use native.Mathlib.Omega.{arith}
-use mathlib.Core.List.{List, [], ◌∷◌, ◌++◌, map}
-use seplogic.Ra.Ura.{Ura}
-use base.Fraction.{full_share}
-use mir.Syntax.{Fn, named, w64}
-use mir.MapTy.{inst_fn}
-use mir.Val.{Val, vptr, vint}
-use base.Logic.{SProp, ent, sep, never, id⊢}
-use base.Fml.{Lft, GName, Share, Fml, ftrue, fsep, fat, flft, fobs, fbor}
-use prog.Wp.{Env, Calls, Loops, WpFn, Tables}
-use types.Logic.{Logic, sem}
-use contract.Monad.{fact}
-use contract.Running.{tables, tables_of}
-use sound.WpLaws.{WpFn-mono}
-use types.Kit.{Item, ⋆, ‵, raw, ◌⊛◌, some, later, await, pick, at_ret, ◌$◌, ◌∵◌, !, qed, by, move, keep, use1, use2, split, join, group, rewrite, fsplit, fsplit3, fjoin, fjoin3, fpack, feq_l, suffices, frame, done, flt_l, flt_i}
-use types.Part.{whole, sub, agg}
-use types.Run.{stop, fld, of_opd, and_then, no_more, first, blocks, exec, returns, enter, bin, size_word}
-use types.ByLocal.{alloc_all, pass_all, free_all, look_at, get, get_in, sets, sets_last, is, env, take_at, give_at}
-use types.SemTy.{Body as Borrowed, cells}
-use denote.Exit.{no}
-use denote.RattleType.{owns}
-use denote.Memory.{mem, cell_at, part_of}
-use denote.Param.{layout}
-use denote.RawPtr.{Ptr, block_ptr, in_a_block}
-use denote.Ref.{MutBor, MutRef}
-use denote.Builtin.{RefMutOf, usize, SliceRefMutOf}
-use denote.Signature.{plain, mut_ref_to}
-use denote.Steps.{nothing, opens}
-use denote.Triple.Carry.{spared}
-use denote.Triple.Clauses.{Clauses, Ended, closing}
-use denote.Triple.Entry.{on_entry}
-use denote.Triple.Spec.{Meets, triple_of}
-use denote.Triple.Table.{entered, run_framed}
-use denote.Triple.Walked.{says, needs, Stays, stay_dropped, walk_of, ends_at, Goes-dropped, Goes-spent_ref, walk_Meets}
-use Rattle.std_alloc.{proofs.VecSteps.Shapes.{after}, proofs.RcSteps.{word, word-Good}}
-use lib.ListN.{length, take, length-take, length-drop, length-append, drop as drop_l}
-use Rattle.std.{specs.Prelude.{Some}, proofs.lemmas.List.{length-map}, specs.List.{refill}}
-use Rattle.core.{proofs.mem.Param.{El, R, args, el_x}, proofs.ptr.Rows.{times_below}}
-use Rattle.core.proofs.slots.Leases.{uncapped}
+use Rattle.zf_lines.proofs.Names.{◌≡◌, refl, sym, ap, subst, ◌∙◌, ℕ, ◌+◌, ◌*◌, ◌<◌, ◌^◌, arith, List, [], ◌∷◌, ◌++◌, map, Ura, full_share, Fn, named, w64, inst_fn, Val, vptr, vint, SProp, ent, sep, never, id⊢, Lft, GName, Share, Fml, ftrue, fsep, fat, flft, fobs, fbor, Env, Calls, Loops, WpFn, Tables, Logic, sem, fact, tables, WpFn-mono, Item, ⋆, ‵, raw, ◌⊛◌, some, later, await, pick, at_ret, ◌$◌, ◌∵◌, !, qed, by, move, keep, use1, use2, split, join, group, rewrite, fsplit, fsplit3, fjoin, fjoin3, fpack, feq_l, suffices, frame, done, flt_l, flt_i, whole, sub, agg, stop, fld, of_opd, and_then, no_more, first, blocks, exec, returns, enter, bin, size_word, alloc_all, pass_all, free_all, look_at, get, get_in, sets, sets_last, is, env, take_at, give_at, Borrowed, no, owns, mem, cell_at, layout, Ptr, block_ptr, in_a_block, MutBor, MutRef, RefMutOf, usize, plain, mut_ref_to, nothing, opens, spared, Clauses, Ended, closing, on_entry, Meets, triple_of, entered, run_framed, says, needs, Stays, stay_dropped, walk_of, ends_at, Goes-dropped, Goes-spent_ref, walk_Meets, after, word, word-Good, length, take, length-take, length-drop, drop_l, Some, length-map, El, R, args, el_x, times_below, uncapped, slice_val, follows}
+use Prim.Native.Nat.{◌≤◌}
+use contract.Running.{tables_of}
+use types.SemTy.{cells}
+use denote.Memory.{part_of}
+use denote.Builtin.{SliceRefMutOf}
+use lib.ListN.{length-append}
+use Rattle.std.specs.List.{refill}
 use Rattle.zf_lines.{specs.Places.{somes, IsRun}, specs.Ownership.{slots, cells_own}}
 use Rattle.zf_lines.proofs.Memory.{Cr, Bs, Mark, sz, Place, word_had, Around, run_out, run_in, to_cells, of_cells}
 use Rattle.zf_lines.specs.Lends.{with_slots, spliced}
 use Rattle.zf_lines.specs.contracts.cells.Cells.slice_mut.Key.{name as #self}
 use denote.Array.{Array}
-use denote.Slice.{MutSlice, slice_val}
-use denote.Follow.{follows}
+use denote.Slice.{MutSlice}
 use denote.FollowSlice.{Elements, lends_Elements}
 use lib.Seq.{take_at as take_prefix}
 use Rattle.zf_lines.proofs.cells.Cells.slice_mut.Statement as stated
