@@ -8,7 +8,7 @@ use Rattle.zf_spec.specs.Stream.{fill_len, to_bits}
 use Rattle.zf_base.specs.Widths.{width_of}
 use Rattle.zf_header.{specs.declared.header.Header.{Header}, specs.declared.header.Mode.TheVariants.{Rate}}
 use Rattle.zf_parse.{specs.declared.fault.StreamFault.{StreamFault}, specs.ReadStreams.{BeginsWithHeader}}
-use Rattle.zf_parse.specs.Parsing.{read_code, read_codes, values_of_blocks, fill_answer, parse}
+use Rattle.zf_parse.specs.Parsing.{read_code, read_codes, fill_answer, parse}
 use Rattle.zf_parse.proofs.Steps.{read_codes-suc, values_or_fault, codes_answer, values_said, values_err}
 use Rattle.zf_parse.{proofs.Codes.{joined-more}, proofs.Fill.{fill_short, fill_one, fill_more}}
 use Rattle.zf_parse.{proofs.Parsed.{parse_is}, proofs.ParseOfStream.{end_to_end, ReadsBack, read_codes-codes}}
@@ -91,19 +91,14 @@ module _ (bytes : List ℕ) (h : Header) (len budget : ℕ) (begun : BeginsWithH
   parse_cut some short =
       let s = drop len (to_bits bytes) in
       let first : 0 + length s / budget ≡ length s / budget = omega arith in
-      parse_err bytes (faults.Truncated (length s / budget))
-      (parse_is bytes h len begun
-      ∙ ap (codes_answer h (length (to_bits bytes))) (read_codes-cut h budget 0 (blocks h.shape) s is some short ∙ ap (λ (k : ℕ). Err k) first))
+      parse_err bytes (faults.Truncated (length s / budget)) (cc (parse_is bytes h len begun, read_codes-cut h budget 0 (blocks h.shape) s is some short))
 
   -- the codes are there, and the fill has a fault
   parse_fill : (e : StreamFault) → blocks h.shape * budget ≤ length (drop len (to_bits bytes))
       → Err e ≡ fill_answer h (length (to_bits bytes) - length (behind_codes h len budget bytes)) (behind_codes h len budget bytes) → parse bytes ≡ Err e
   parse_fill e long fault =
-      let s = drop len (to_bits bytes) in
-      let all = length (to_bits bytes) in
-      let values = values_of_blocks h.shape (map (λ b. read_rate (width_of h.ty) (extent_of h.shape b) (code_cut budget s b)) (upto (blocks h.shape))) in
-      parse_err bytes e
-      (parse_is bytes h len begun ∙ ap (codes_answer h all) (read_codes-rate h budget s is long) ∙ ap (values_or_fault values) (sym fault))
+      let read = read_codes-rate h budget (drop len (to_bits bytes)) is long in
+      parse_err bytes e (parse_is bytes h len begun ∙ ap (codes_answer h (length (to_bits bytes))) read ∙ ap (values_or_fault _) (sym fault))
 
   used_is : len ≤ length (to_bits bytes) → blocks h.shape * budget ≤ length (drop len (to_bits bytes))
       → length (to_bits bytes) - length (behind_codes h len budget bytes) ≡ len + blocks h.shape * budget
