@@ -40,9 +40,15 @@ pub count_fits : (ty : Ty) (s : List Bool) → (number (take (count_bits (width_
 count_fits I32 s = (omega (arith, number_small 5 s), omega arith)
 count_fits I64 s = (omega (arith, number_small 6 s), omega arith)
 
-reads_rev : (ty : Ty) (es : List ℕ) (s : List Bool) → longest_rev (bits (width_of ty)) (length es) ≤ length s → Reads (read_rev (width_of ty) es s) (longest_rev (bits (width_of ty)) (length es))
-unfolding read_rev
-reads_rev ty es s enough =
+-- the longest code of a block in a mode
+longest : Ty → Mode → ℕ → ℕ
+longest ty Reversible d = longest_rev (bits (width_of ty)) d
+longest ty (Rate b) d = b
+longest ty (Precision p) d = longest_prec (bits (width_of ty)) d
+
+reads_code : (ty : Ty) (mode : Mode) (es : List ℕ) (s : List Bool) → longest ty mode (length es) ≤ length s → Reads (read_code (width_of ty) mode es s) (longest ty mode (length es))
+unfolding longest read_rev read_prec
+reads_code ty Reversible es s enough =
     let w = width_of ty in
     let count = count_fits ty s in
     let fit = planes_fit (number (take (count_bits w) s) + 1) (4 ^ length es) (bits w) (drop (count_bits w) s) count.0 in
@@ -51,16 +57,6 @@ reads_rev ty es s enough =
     let within : ltb (length s) len ≡ false = le-ltb (length s) len (omega (arith, fit, count.1)) in
     let found : List ℤ × ℕ = (existing_values es (unlorenzo w (length es) (coefficients_of w (length es) ps)), len) in
     record { code = found; is = ap (λ t. cond t None (Some found)) within; fits = omega (arith, fit, count.1) }
-
--- the longest code of a block in a mode
-longest : Ty → Mode → ℕ → ℕ
-longest ty Reversible d = longest_rev (bits (width_of ty)) d
-longest ty (Rate b) d = b
-longest ty (Precision p) d = longest_prec (bits (width_of ty)) d
-
-reads_code : (ty : Ty) (mode : Mode) (es : List ℕ) (s : List Bool) → longest ty mode (length es) ≤ length s → Reads (read_code (width_of ty) mode es s) (longest ty mode (length es))
-unfolding longest read_prec
-reads_code ty Reversible es s enough = reads_rev ty es s enough
 reads_code ty (Rate b) es s enough = grind (arith, le-ltb (length s) b enough)
 reads_code ty (Precision p) es s enough = search (rules, planes_fit, le-ltb)
 

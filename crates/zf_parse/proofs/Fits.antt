@@ -47,25 +47,20 @@ module _ (w : Width) where
   along_fits : (step : ℕ) (block : List ℤ) → Fit (along (unlift_line w) step block)
   unfolding along
   along_fits step block =
-      All-map (λ v. FitsSigned w v) (line_value (unlift_line w) step block) (upto (length block)) (λ k e inside. value (get_or (upto (length block)) k e))
-    where
-      value : (p : ℕ) → FitsSigned w (line_value (unlift_line w) step block p)
-      value p =
-          let i = p / step % 4 in
-          let at : ℕ → ℤ = λ k. get_or block (p - step * i + step * k) (pos 0) in
-          line_fits (at 0) (at 1) (at 2) (at 3) i (omega arith)
+      All-map (λ v. FitsSigned w v) (line_value (unlift_line w) step block) (upto (length block))
+      (λ k e inside.
+      let p = get_or (upto (length block)) k e in
+      let at : ℕ → ℤ = λ j. get_or block (p - step * (p / step % 4) + step * j) (pos 0) in
+      line_fits (at 0) (at 1) (at 2) (at 3) (p / step % 4) (omega arith))
 
   axes_fit : (step d : ℕ) (block : List ℤ) → Fit block → Fit (along_axes_back (unlift_line w) step d block)
   axes_fit step zero block fit = fit
   axes_fit step (suc d) block fit = along_fits step (along_axes_back (unlift_line w) (4 * step) d block)
 
-  unlift_fits : (d : ℕ) (block : List ℤ) → Fit block → Fit (unlift w d block)
-  unlift_fits d block fit = axes_fit 1 d block fit
-
   -- ---- what reading a code gives
 
   lifted_fits : (es : List ℕ) (planes : List (List Bool)) → Fit (existing_values es (unlift w (length es) (coefficients_of w (length es) planes)))
-  lifted_fits es planes = existing_fit es (unlift w (length es) (coefficients_of w (length es) planes)) (unlift_fits (length es) (coefficients_of w (length es) planes) (coefficients_fit (length es) planes))
+  lifted_fits es planes = existing_fit es (unlift w (length es) (coefficients_of w (length es) planes)) (axes_fit 1 (length es) (coefficients_of w (length es) planes) (coefficients_fit (length es) planes))
 
   read_rate_fits : (es : List ℕ) (s : List Bool) → Fit (read_rate w es s)
   unfolding read_rate

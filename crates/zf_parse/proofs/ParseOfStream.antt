@@ -47,13 +47,7 @@ read_codes-codes h code back b n more reads =
 
 fill_good : (h : Header) (used n : ℕ) → n ≡ fill_len used → fill_answer h used (replicate n false) ≡ Ok tt
 fill_good h used n is =
-    cc (
-      length-replicate n false,
-      le-ltb (length (replicate n false)) n (omega (arith, (length-replicate n false))),
-      le-ltb n (length (replicate n false)) (omega (arith, (length-replicate n false))),
-      take-length (replicate n false),
-      has_one-zeros n,
-    )
+    cc (length-replicate n false, le-ltb n n (omega arith), take-length (replicate n false), has_one-zeros n)
 
 -- ---- the whole stream
 

@@ -41,9 +41,9 @@ found_again : {A : Type 0} (of : List (List Bool) → A) (prefix : ℕ) (s t : L
 found_again {A} of prefix s t ps qs b k long same count is =
     cc (le-ltb (length t) (prefix + length (code ps)) (omega (arith, long, count)))
 
-read_rev-prefix : (w : Width) (es : List ℕ) (s : List Bool) (block : List ℤ) (k : ℕ) → read_rev w es s ≡ Some (block, k) → read_rev w es (take k s) ≡ Some (block, k)
-unfolding read_rev
-read_rev-prefix w es s block k e =
+pub read_code-prefix : (w : Width) (mode : Mode) (es : List ℕ) (s : List Bool) (block : List ℤ) (k : ℕ) → read_code w mode es s ≡ Some (block, k) → read_code w mode es (take k s) ≡ Some (block, k)
+unfolding read_rev read_prec
+read_code-prefix w Reversible es s block k e =
     let n = count_bits w in
     let size = 4 ^ length es in
     let p = number (take n s) + 1 in
@@ -59,10 +59,6 @@ read_rev-prefix w es s block k e =
     let qs = planes_in (number (take n t) + 1) size (drop n t) in
     let same : qs ≡ ps = cc (number_same, rest_same, planes_prefix p size rest (omega (arith, enough, length-drop n s))) in
     found_again of n s t ps qs block k long same is.count is.same
-
-pub read_code-prefix : (w : Width) (mode : Mode) (es : List ℕ) (s : List Bool) (block : List ℤ) (k : ℕ) → read_code w mode es s ≡ Some (block, k) → read_code w mode es (take k s) ≡ Some (block, k)
-unfolding read_prec
-read_code-prefix w Reversible es s block k e = read_rev-prefix w es s block k e
 read_code-prefix w (Rate b) es s block k e = search (rules, found_some, ltb-false, le-ltb, length-take-le, take-take)
 read_code-prefix w (Precision p) es s block k e =
     search (rules, found_some, ltb-false, length-take-le, planes_prefix, found_again)

@@ -39,10 +39,14 @@ cond_some false x y e = (refl, cc)
 rev_of : Width → List ℕ → List (List Bool) → List ℤ × ℕ
 rev_of w es ps = (existing_values es (unlorenzo w (length es) (coefficients_of w (length es) ps)), count_bits w + length (code ps))
 
-read_rev_more : (w : Width) (es : List ℕ) (s more : List Bool) (found : List ℤ × ℕ) → read_rev w es s ≡ Some found
-    → (read_rev w es (s ++ more) ≡ Some found) × (found.1 ≤ length s)
-unfolding read_rev rev_of
-read_rev_more w es s more found e =
+-- the same of planes alone
+prec_of : Width → List ℕ → List (List Bool) → List ℤ × ℕ
+prec_of w es ps = (existing_values es (unlift w (length es) (coefficients_of w (length es) ps)), length (code ps))
+
+pub read_code_more : (w : Width) (mode : Mode) (es : List ℕ) (s more : List Bool) (found : List ℤ × ℕ) → read_code w mode es s ≡ Some found
+    → (read_code w mode es (s ++ more) ≡ Some found) × (found.1 ≤ length s)
+unfolding read_rev rev_of read_prec prec_of
+read_code_more w Reversible es s more found e =
     let n = count_bits w in
     let size = 4 ^ length es in
     let rest = drop n s in
@@ -56,15 +60,6 @@ read_rev_more w es s more found e =
     let longer : ltb (length (s ++ more)) len ≡ false = le-ltb (length (s ++ more)) len (omega (arith, within, length-append s more)) in
     let bits : len ≡ found.1 = ap (λ (c : List ℤ × ℕ). c.1) parts.1 in
     (cc, omega (arith, within, bits))
-
--- the same of planes alone
-prec_of : Width → List ℕ → List (List Bool) → List ℤ × ℕ
-prec_of w es ps = (existing_values es (unlift w (length es) (coefficients_of w (length es) ps)), length (code ps))
-
-pub read_code_more : (w : Width) (mode : Mode) (es : List ℕ) (s more : List Bool) (found : List ℤ × ℕ) → read_code w mode es s ≡ Some found
-    → (read_code w mode es (s ++ more) ≡ Some found) × (found.1 ≤ length s)
-unfolding read_prec prec_of
-read_code_more w Reversible es s more found e = read_rev_more w es s more found e
 read_code_more w (Precision p) es s more found e =
     search (rules, cond_some, prec_of, ltb-false, full_more, le-ltb, length-append)
 read_code_more w (Rate b) es s more found e =
