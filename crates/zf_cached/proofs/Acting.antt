@@ -11,15 +11,11 @@ use Rattle.zf_cached.proofs.Placed.{touch-consistent, touch_for_writing-consiste
 
 module _ {Code : Type 0} (w : Width) (format : Format Code) where
   -- the code of a block that isn't dirty stays
-  changed-codes : (s : State Code) (c p : ℕ) (change : ℤ → ℤ) (b : ℕ) → s.dirty b ≡ false → (changed format s c p change).codes b ≡ s.codes b
-  unfolding touch_for_writing_at soiled with_values
-  changed-codes s c p change b clean = (touch-left_clean direct format s c b clean).code
-
   pub acted-codes : (s : State Code) (a : Act) (b : ℕ) → s.dirty b ≡ false → (acted w format s a).codes b ≡ s.codes b
-  unfolding acted discard
+  unfolding acted discard touch_for_writing_at soiled with_values
   acted-codes s (Act.get c p) b clean = (touch-left_clean direct format s c b clean).code
-  acted-codes s (Act.set c p v) b clean = changed-codes s c p (λ old. v) b clean
-  acted-codes s (Act.add c p v) b clean = changed-codes s c p (λ old. wrap w (old +ℤ v)) b clean
+  acted-codes s (Act.set c p v) b clean = (touch-left_clean direct format s c b clean).code
+  acted-codes s (Act.add c p v) b clean = (touch-left_clean direct format s c b clean).code
   acted-codes s Act.flush b clean = (flush-clean format s b clean).0
   acted-codes s Act.discard b clean = refl
 

@@ -26,15 +26,12 @@ get_or-zeros x k = refl
 
 -- ---- planes of zeros
 
-plane_code-blank : (k : ℕ) → plane_code 0 (replicate (suc k) false) ≡ false ∷ []
-plane_code-blank k = tail-zeros k
-
 reach-blank : (size : ℕ) → reach (replicate size false) ≡ 0
 reach-blank size = reach_none (replicate size false) (has_one-zeros size)
 
 code-blanks : (p k : ℕ) → code_from 0 (replicate p (replicate (suc k) false)) ≡ replicate p false
 code-blanks zero k = refl
-code-blanks (suc p) k = cc (reach-blank (suc k), plane_code-blank k, code-blanks p k)
+code-blanks (suc p) k = cc (reach-blank (suc k), tail-zeros k, code-blanks p k)
 
 begins-blank : (m n : ℕ) → Begins (replicate m false) (replicate n false)
 begins-blank zero n = tt

@@ -136,18 +136,14 @@ module _ (line : Line) (may_hold : ℕ → ℕ → ℕ → Type 0) (placing : Is
 
     pub soiled-consistent : (format : Format Code) (s : State Code) (b : ℕ) → s.held (line_in line s b) ≡ Some b → IsConsistent line owned format s → IsConsistent line owned format (soiled s b)
     unfolding soiled
-    soiled-consistent format s b here h = record {
-      some_line = h.some_line;
-      in_its_line = found;
-      held_is_owned = h.held_is_owned;
-      dirty_is_here = λ n. at_change (λ m d. d ≡ true → s.held (line_in line (soiled s b) m) ≡ Some m) s.dirty b true n (λ e. here_again s (soiled s b) refl found b here)
-          (λ ne dirty. here_again s (soiled s b) refl found n (h.dirty_is_here n dirty));
-      clean_is_coded = λ n own. at_change (λ m d. d ≡ false → s.values m ≡ meant format m (s.codes m)) s.dirty b true n (λ e. absurd (cc)) (λ ne. h.clean_is_coded n own);
-      whole = h.whole;
-    }
-      where
-        found : IsFound (soiled s b)
-        found = found_again s (soiled s b) refl refl h.in_its_line
+    soiled-consistent format s b here h =
+        let found : IsFound (soiled s b) = found_again s (soiled s b) refl refl h.in_its_line in
+        let at_home : (n : ℕ) → with_at s.dirty b true n ≡ true → s.held (line_in line (soiled s b) n) ≡ Some n =
+        λ n. at_change (λ m d. d ≡ true → s.held (line_in line (soiled s b) m) ≡ Some m) s.dirty b true n (λ e. here_again s (soiled s b) refl found b here)
+        (λ ne dirty. here_again s (soiled s b) refl found n (h.dirty_is_here n dirty)) in
+        let coded : (n : ℕ) → owned n ≡ true → with_at s.dirty b true n ≡ false → s.values n ≡ meant format n (s.codes n) =
+        λ n own. at_change (λ m d. d ≡ false → s.values m ≡ meant format m (s.codes m)) s.dirty b true n (λ e. absurd (cc)) (λ ne. h.clean_is_coded n own) in
+        search rules
 
     pub touch_for_writing-consistent : (format : Format Code) (s : State Code) (b : ℕ) → owned b ≡ true → IsConsistent line owned format s → IsConsistent line owned format (touch_for_writing_at line format s b)
     unfolding touch_for_writing_at
@@ -156,14 +152,12 @@ module _ (line : Line) (may_hold : ℕ → ℕ → ℕ → Type 0) (placing : Is
 
     pub with_values-consistent : (format : Format Code) (s : State Code) (b : ℕ) (values : List ℤ) → s.dirty b ≡ true → existing_of format b values ≡ values → IsConsistent line owned format s → IsConsistent line owned format (with_values s b values)
     unfolding with_values
-    with_values-consistent format s b values dirty whole h = record {
-      some_line = h.some_line;
-      in_its_line = h.in_its_line;
-      held_is_owned = h.held_is_owned;
-      dirty_is_here = h.dirty_is_here;
-      clean_is_coded = λ n own. at_change (λ m vs. s.dirty m ≡ false → vs ≡ meant format m (s.codes m)) s.values b values n (λ clean. true_is_not_false (s.dirty b) dirty clean) (λ ne. h.clean_is_coded n own);
-      whole = λ n own. at_change (λ m vs. existing_of format m vs ≡ vs) s.values b values n whole (λ ne. h.whole n own);
-    }
+    with_values-consistent format s b values dirty whole h =
+        let coded : (n : ℕ) → owned n ≡ true → s.dirty n ≡ false → with_at s.values b values n ≡ meant format n (s.codes n) =
+        λ n own. at_change (λ m vs. s.dirty m ≡ false → vs ≡ meant format m (s.codes m)) s.values b values n (λ clean. true_is_not_false (s.dirty b) dirty clean) (λ ne. h.clean_is_coded n own) in
+        let all : (n : ℕ) → owned n ≡ true → existing_of format n (with_at s.values b values n) ≡ with_at s.values b values n =
+        λ n own. at_change (λ m vs. existing_of format m vs ≡ vs) s.values b values n whole (λ ne. h.whole n own) in
+        search rules
 
     -- ---- changes of a whole array
 

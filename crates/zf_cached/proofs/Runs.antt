@@ -75,22 +75,16 @@ module _ (at : Line) (may_hold : ℕ → ℕ → ℕ → Type 0) (placing : IsPl
   run_script-sound setting starved shape s script cached is h =
       run_lines-sound setting starved 0 (lines_of script) _ cached (record { shape = is; state = h; window = LiesIn-whole shape is.not_zero; split = λ e. absurd (cc); views = λ i lt. absurd (omega (arith, lt)) })
 
-  ended-sound : {Code : Type 0} (setting : Setting Code) (s : Session Code) → IsSound at setting s → IsSound at setting (ended setting s)
-  unfolding ended joined
-  ended-sound setting s h =
-      let t = joined setting s in
-      let k = joined-sound at may_hold placing setting s h in
-      record { shape = k.shape; state = flush-consistent at may_hold placing every (format_of setting t) t.state k.state; window = k.window; split = λ e. absurd (cc); views = λ i lt. absurd (omega (arith, lt)) }
-
-  ended-empty : {Code : Type 0} (setting : Setting Code) (s : Session Code) → IsSound at setting s → IsEmpty (ended setting s).state
-  unfolding ended
-  ended-empty setting s h = let t = joined setting s in flush-empty at may_hold placing every (format_of setting t) t.state (joined-sound at may_hold placing setting s h).state
-
   pub run-sound : {Code : Type 0} (setting : Setting Code) (starved shape : List ℕ) (s : State Code) (script : List ℕ) → IsCached at setting → IsShape shape → IsConsistent at every (array_format setting.coding shape) s → IsSound at setting (run setting starved shape s script).0
-  unfolding run
-  run-sound setting starved shape s script cached is h = ended-sound setting (run_script setting starved shape s script).0 (run_script-sound setting starved shape s script cached is h)
+  unfolding run ended joined
+  run-sound setting starved shape s script cached is h =
+      let t = joined setting (run_script setting starved shape s script).0 in
+      let k = joined-sound at may_hold placing setting _ (run_script-sound setting starved shape s script cached is h) in
+      record { shape = k.shape; state = flush-consistent at may_hold placing every (format_of setting t) t.state k.state; window = k.window; split = λ e. absurd (cc); views = λ i lt. absurd (omega (arith, lt)) }
 
   -- nothing is dirty after a run
   pub run-empty : {Code : Type 0} (setting : Setting Code) (starved shape : List ℕ) (s : State Code) (script : List ℕ) → IsCached at setting → IsShape shape → IsConsistent at every (array_format setting.coding shape) s → IsEmpty (run setting starved shape s script).0.state
-  unfolding run
-  run-empty setting starved shape s script cached is h = ended-empty setting (run_script setting starved shape s script).0 (run_script-sound setting starved shape s script cached is h)
+  unfolding run ended
+  run-empty setting starved shape s script cached is h =
+      let t = joined setting (run_script setting starved shape s script).0 in
+      flush-empty at may_hold placing every (format_of setting t) t.state (joined-sound at may_hold placing setting _ (run_script-sound setting starved shape s script cached is h)).state

@@ -81,21 +81,17 @@ module _ {Code : Type 0} (format : Format Code) where
       let coded : (b : ℕ) → owned b ≡ true → v.dirty b ≡ false → v.values b ≡ meant format b (j b) = λ b own clean. h.clean_is_coded b own clean ∙ ap (meant format b) (sym (same b own)) in
       search rules
 
-  opened_view-consistent : (codes : ℕ → Code) (lines : ℕ) (owns : ℕ → Bool) → 1 ≤ lines → IsConsistent direct owns format (with_codes (opened_view format codes lines owns) codes)
-  unfolding opened_view
-  opened_view-consistent codes lines owns some =
-      empty-consistent direct IsDirect direct_placing owns format (with_codes (opened_view format codes lines owns) codes) some (record { none_dirty = λ b. refl; none_held = λ l b e. absurd (cc) })
-      (λ b own. ap (λ t. cond t (meant format b (codes b)) []) own)
-
   opened_views-consistent : (codes : ℕ → Code) (lines n : ℕ) → 1 ≤ lines → (i : ℕ) → i < length (opened_views format codes lines n)
       → IsConsistent direct (is_owner format.blocks (length (opened_views format codes lines n)) i) format (with_codes (view_at (opened_views format codes lines n) i) codes)
-  unfolding opened_views
+  unfolding opened_views opened_view
   opened_views-consistent codes lines n some i lt =
       let made : ℕ → View = λ k. opened_view format codes lines (is_owner format.blocks n k) in
       let long : length (map made (upto n)) ≡ n = length-map-upto made n in
       let at : view_at (map made (upto n)) i ≡ made i = get_or-map-upto made n i no_view (subst (λ m. i < m) long lt) in
       subst (λ m. IsConsistent direct (is_owner format.blocks m i) format (with_codes (view_at (map made (upto n)) i) codes)) (sym long)
-      (subst (λ v. IsConsistent direct (is_owner format.blocks n i) format (with_codes v codes)) (sym at) (opened_view-consistent codes lines (is_owner format.blocks n i) some))
+      (subst (λ v. IsConsistent direct (is_owner format.blocks n i) format (with_codes v codes)) (sym at)
+      (empty-consistent direct IsDirect direct_placing (is_owner format.blocks n i) format (with_codes (made i) codes) some (record { none_dirty = λ b. refl; none_held = λ l b e. absurd (cc) })
+      (λ b own. ap (λ t. cond t (meant format b (codes b)) []) own)))
 
   -- the views after an act of one of them
   viewed : (w : Width) (views : List View) (codes : ℕ → Code) (i : ℕ) (act : Act) → i < length views → IsPossible (is_owner format.blocks (length views) i) format act
@@ -189,19 +185,15 @@ module _ (line : Line) (may_hold : ℕ → ℕ → ℕ → Type 0) (placing : Is
 
   -- ---- private views
 
-  -- the values are those that the codes mean, and no block is in a line
-  coded-sound : {Code : Type 0} (format : Format Code) (s : State Code) (codes : ℕ → Code) → 1 ≤ s.lines → IsConsistent line every format (coded format s codes) × IsEmpty (coded format s codes)
-  unfolding coded
-  coded-sound format s codes some =
-      let e : IsEmpty (coded format s codes) = record { none_dirty = λ b. refl; none_held = λ l b e. absurd (cc) } in
-      (empty-consistent line may_hold placing every format (coded format s codes) some e (λ b own. refl), e)
-
   by_view-sound : {Code : Type 0} (setting : Setting Code) (s : Session Code) (i : ℕ) (act : Act) → i < length (views_of s) → IsPossible (owner_in setting s i) (format_of setting s) act
       → IsSound line setting s → IsSound line setting (by_view setting s i act).0
   unfolding by_view with_view coded
   by_view-sound setting s i act lt may h =
-      let k = coded-sound (format_of setting s) s.state (acted setting.width (format_of setting s) (state_of_view s i) act).codes h.state.some_line in
-      record { shape = h.shape; state = k.0; window = h.window; split = λ e. k.1; views = viewed (format_of setting s) setting.width (views_of s) s.state.codes i act lt may h.views }
+      let format = format_of setting s in
+      let t = coded format s.state (acted setting.width format (state_of_view s i) act).codes in
+      let e : IsEmpty t = record { none_dirty = λ b. refl; none_held = λ l b e. absurd (cc) } in
+      let k = empty-consistent line may_hold placing every format t h.state.some_line e (λ b own. refl) in
+      record { shape = h.shape; state = k; window = h.window; split = λ x. e; views = viewed (format_of setting s) setting.width (views_of s) s.state.codes i act lt may h.views }
 
   pub flushed_views-sound : {Code : Type 0} (setting : Setting Code) (s : Session Code) (n : ℕ) → n ≤ length (views_of s) → IsSound line setting s → IsSound line setting (flushed_views setting s n)
   unfolding flushed_views
