@@ -1,11 +1,10 @@
 -- What `Lines` are once a run of their values was lent.
 use Rattle.std.proofs.Common.{◌≡◌, ℕ, ◌+◌, ◌-◌, ◌*◌, ◌<◌, ◌≤◌, List, [], ◌∷◌, map, length, take, drop, get_or, slice_set, Some, None, sym, ap, subst, ◌∙◌, arith, length-take, length-drop, drop-drop, append-nil, rules}
 use Rattle.std.proofs.lemmas.List.{length-map, drop_all, drop-take, take-take, get_or-take, get_or-drop}
-use Rattle.std.{specs.List.{refill, length_refill}, specs.declared.alloc.Global.{Global}}
+use Rattle.std.specs.List.{refill, length_refill}
 use Rattle.zf_lines.{specs.Places.{somes, IsHeld, IsRun}, specs.Lends.{with_slots, spliced}}
 use Rattle.zf_lines.{specs.Rows.{rows, line_at, part, with_line, with_part}, specs.Filled.{IsFilled}}
-use Rattle.zf_lines.{specs.declared.cells.Base.{Base}, specs.declared.cells.Cells.{Cells}}
-use Rattle.zf_lines.specs.declared.cells.Deed.{Deed}
+use Rattle.zf_lines.{specs.declared.lines.Lines.TheInside.{Inside}, specs.declared.cells.Cells.{Cells}}
 use Rattle.zf_lines.proofs.Blocks.{splice, length-splice, length-rows, line_at-rows, rows-splice, line_within}
 use Rattle.zf_lines.proofs.Runs.{somes-map, run_of, same_values, spliced_map, held_at, held_value, set_spliced}
 
@@ -15,7 +14,9 @@ part_of_taken a m n xs le =
     let on : n ≡ a + (n - a) = omega arith in
     ap (λ k. take m (drop a (take k xs))) on ∙ ap (take m) (drop-take a (n - a) xs) ∙ take-take m (n - a) (drop a xs) (omega arith)
 
-module _ {X : Type 0} (base : Base X) (lines len : ℕ) (cells : Cells X) (deed : Deed X Global) (alloc : Global) (h : IsFilled base lines len cells deed alloc) where
+module _ {X : Type 0} (fields : Inside X) (h : IsFilled fields.base fields.lines fields.len fields.cells fields.deed fields.alloc) where
+  open fields use {base, lines, len, cells, deed, alloc}
+
   abbrev xs : List X
   xs = somes cells.slots
 
