@@ -1,5 +1,5 @@
 -- `allocate` cuts the new block into empty places, and keeps the right to free it. Assumes `Logic`.
-use Rattle.zf_lines.proofs.Names.{◌≡◌, refl, sym, ap, subst, ℕ, ◌*◌, ◌<◌, ◌^◌, arith, List, [], ◌∷◌, ◌++◌, Ura, Fn, named, w64, ty_array, inst_fn, Val, vptr, vint, SProp, ent, Lft, Share, ftrue, flft, Incl-trans, Env, Calls, Loops, WpFn, Tables, Logic, fact, Fun, tables, WpFn-mono, FmC, fm_of, Item, ⋆, ‵, raw, ◌⊛◌, later, await, at_ret, ◌$◌, ◌∵◌, !, qed, by, move, keep, use1, use2, split, join, fsplit, fsplit3, fjoin, feq_l, suffices, frame, done, flt_l, flt_i, whole, agg, stop, fld, of_opd, and_then, no_more, first, exec, returns, enter, bin, size_word, align_word, alloc_all, pass_all, free_all, look_at, get, get_in, sets, sets_last, is, env, yes, RattleType, owns, hidden_shr, layout, Ptr, block_ptr, Bor, ShrRef, RefOf, usize, plain, nothing, Clauses, Ended, closing, on_entry, Meets, triple_of, entered, says, needs, Stays, stay_dropped, walk_of, ends_at, Goes-dropped, walk_Meets, after, as_written, Good, word, word-Good, length, None, El, R, elτ, Al, second, uncapped, block_ty, block_size, block_align, P, Memory, align, capped, capped_fits, Routine, ◌⊑◌, Triple}
+use Rattle.zf_lines.proofs.Names.{◌≡◌, refl, sym, ap, subst, ℕ, ◌*◌, ◌<◌, ◌^◌, arith, List, [], ◌∷◌, ◌++◌, Ura, Fn, named, w64, ty_array, inst_fn, Val, vptr, vint, SProp, ent, Lft, Share, ftrue, flft, Incl-trans, Env, Calls, Loops, WpFn, Tables, Logic, fact, Fun, tables, WpFn-mono, FmC, fm_of, Item, ⋆, ‵, raw, ◌⊛◌, later, await, at_ret, ◌$◌, ◌∵◌, !, qed, by, move, keep, use1, use2, split, join, fsplit, fsplit3, fjoin, feq_l, suffices, frame, done, flt_l, flt_i, whole, agg, stop, fld, of_opd, and_then, no_more, first, exec, returns, enter, bin, size_word, align_word, alloc_all, pass_all, free_all, look_at, get, get_in, sets, sets_last, is, env, yes, RattleType, owns, hidden_shr, layout, Ptr, block_ptr, Bor, ShrRef, RefOf, usize, plain, nothing, Clauses, Ended, on_entry, triple_of, entered, says, needs, Stays, stay_dropped, walk_of, ends_at, Goes-dropped, walk_Meets, after, as_written, Good, word, word-Good, length, None, El, R, elτ, Al, second, uncapped, block_ty, block_size, block_align, P, Memory, align, capped, capped_fits, Routine, ◌⊑◌, Triple}
 use mathlib.Core.Bool.{true, false}
 use lib.Dec.{lit<}
 use mir.Syntax.{Body}
@@ -133,16 +133,6 @@ module _ (E : El) (Z : Al) {M : Type 1} {𝓤 : Ura M} (𝓛 : Logic 𝓤) (at_m
       move ! (1 ∷ []) $ fsplit ! $ feq_l ! (λ e1. flt_l ! (λ fits. keep ! (0 ∷ 2 ∷ 3 ∷ []) $
       by ! (subst (λ (ws : List Val × List Val). ent 𝓤 (⋆ 𝓛 Had) (WpFn 𝓤 H C Λ (function E Z) (ws.0 ++ (ws.1 ++ [])) Post)) (λ j. (sym e0 j, sym e1 j)) (walk asked fits)))))
 
-meets : (E : El) (Z : Al) {M : Type 1} {𝓤 : Ura M} (𝓛 : Logic 𝓤) (at_mem : Memory → SProp 𝓤) (run : Routine → Fun 𝓤) (𝓣 : Tables 𝓤 𝓛.H) → Triple 𝓤 (𝓣.C (takes_key Z)) (Takes Z 𝓛 at_mem run)
-    → Meets 𝓛 (ended E Z).signature (WpFn 𝓤 𝓛.H 𝓣.C 𝓣.Λ (function E Z)) (closing 𝓛 (ended E Z) (clauses E Z 𝓛 at_mem run))
-meets E Z {𝓤 = 𝓤} 𝓛 at_mem run 𝓣 callee =
-    walk_Meets 𝓛 (ended E Z) (stayed E Z) (Goes-dropped 𝓛 3 (RefOf (0 ∷ []) tt (plain (λ _. P E Z)) (λ _. tt)) yes (λ κs x f. refl), (Goes-dropped 𝓛 3 (plain (λ _. usize)) yes (λ κs x f. refl), tt))
-    (clauses E Z 𝓛 at_mem run) (WpFn 𝓤 𝓛.H 𝓣.C 𝓣.Λ (function E Z)) (WpFn-mono 𝓤 𝓛.H 𝓛.laws 𝓣 (function E Z))
-    (λ z. let κs = z.0.0 in let qs = z.0.1 in let a = z.0.3 in let vss = z.0.4 in let On : SProp 𝓤 = on_entry 𝓛 (ended E Z).signature κs qs a vss in
-    let asks = FitsInBlock (R E) a.1.0 in
-    second 𝓤 (κs.1.0 ⊑ E.row.lives) (κs.1.1.0 ⊑ Z.row.lives) On (fact 𝓤 asks) (λ within. needs 𝓤 asks On
-    (entry E Z 𝓛 at_mem run 𝓣.C 𝓣.Λ (fm_of 𝓤 𝓛.H 𝓛.laws 𝓣) callee κs.0 κs.1.0 κs.1.1.0 qs.0 qs.1.0 qs.1.1.0 z.0.2.0 within a.0.ref_ptr.0 a.0.ref_ptr.1 a.0.now a.1.0 vss.0 vss.1.0)))
-
 pub allocate_spec : {M : Type 1} → stated.statement M
 unfolding tables_of
 allocate_spec 𝓤 𝓛 𝓜 𝓡 wired X W LX LW g d dd met md =
@@ -150,4 +140,9 @@ allocate_spec 𝓤 𝓛 𝓜 𝓡 wired X W LX LW g d dd met md =
     let Z : Al = record { row = W; laws = LW; g = g; d = d; drops = dd } in
     let 𝓣 : Tables 𝓤 𝓛.H = tables_of 𝓤 𝓛.H 𝓜 (tables 𝓤 𝓛.H 𝓜 𝓡 𝓡.env) in
     entered 𝓤 𝓛.H (triple_of 𝓛 (ended E Z).signature (F.spec X W g d dd 𝓛 𝓜.mem 𝓡.returns)) 𝓣.C 𝓣.Λ (#self (args E Z)) (function E Z) (code.unfolded 𝓤 𝓛.H 𝓜 𝓡 wired (X, (W, tt)) d dd)
-    (meets E Z 𝓛 𝓜.mem 𝓡.returns 𝓣 (met.allocate dd))
+    (walk_Meets 𝓛 (ended E Z) (stayed E Z) (Goes-dropped 𝓛 3 (RefOf (0 ∷ []) tt (plain (λ _. P E Z)) (λ _. tt)) yes (λ κs x f. refl), (Goes-dropped 𝓛 3 (plain (λ _. usize)) yes (λ κs x f. refl), tt))
+    (clauses E Z 𝓛 𝓜.mem 𝓡.returns) (WpFn 𝓤 𝓛.H 𝓣.C 𝓣.Λ (function E Z)) (WpFn-mono 𝓤 𝓛.H 𝓛.laws 𝓣 (function E Z))
+    (λ z. let κs = z.0.0 in let qs = z.0.1 in let a = z.0.3 in let vss = z.0.4 in let On : SProp 𝓤 = on_entry 𝓛 (ended E Z).signature κs qs a vss in
+    let asks = FitsInBlock (R E) a.1.0 in
+    second 𝓤 (κs.1.0 ⊑ E.row.lives) (κs.1.1.0 ⊑ Z.row.lives) On (fact 𝓤 asks) (λ within. needs 𝓤 asks On
+    (entry E Z 𝓛 𝓜.mem 𝓡.returns 𝓣.C 𝓣.Λ (fm_of 𝓤 𝓛.H 𝓛.laws 𝓣) (met.allocate dd) κs.0 κs.1.0 κs.1.1.0 qs.0 qs.1.0 qs.1.1.0 z.0.2.0 within a.0.ref_ptr.0 a.0.ref_ptr.1 a.0.now a.1.0 vss.0 vss.1.0))))
