@@ -42,13 +42,10 @@ IsWritten format s t b = (s.dirty b ≡ true) × (t.dirty b ≡ false) × (t.val
 fate : {Code : Type 0} (format : Format Code) (s : State Code) (n b : ℕ) → IsKept s (write_back_lines format s n) b ⊎ IsWritten format s (write_back_lines format s n) b
 unfolding write_back_lines write_back rounded
 fate format s zero b = inl (refl, refl, refl)
-fate {Code} format s (suc n) b = let before = fate format s n b in write_back_line_by format t n P (λ a held dirty. written a dirty (cases_eq b a) before) (λ a held clean. before) (λ nothing. before)
+fate {Code} format s (suc n) b = let before = fate format s n b in write_back_line_by format t n (λ u. IsKept s u b ⊎ IsWritten format s u b) (λ a held dirty. written a dirty (cases_eq b a) before) (λ a held clean. before) (λ nothing. before)
   where
     t : State Code
     t = write_back_lines format s n
-
-    P : State Code → Type 0
-    P u = IsKept s u b ⊎ IsWritten format s u b
 
     written : (a : ℕ) → t.dirty a ≡ true → (b ≡ a) ⊎ (b ≡ a → ⊥) → IsKept s t b ⊎ IsWritten format s t b → IsKept s (write_back format t a) b ⊎ IsWritten format s (write_back format t a) b
     written a dirty (inl e) (inl kept) =

@@ -75,10 +75,6 @@ found_at test (x ∷ cs) (suc k) c others lt same passes =
     let parts = and_parts (not (test x)) (list_all (λ other. not (test other)) (take k cs)) others in
     cond-false (test x) (Some x) (find test cs) (not-true (test x) parts.0) ∙ found_at test cs k c parts.1 (omega arith) same passes
 
--- a command's own text is it
-own_line : (d : ℕ) (c : Command) → is_writable d c ≡ true → is_line d (line_of c) c ≡ true
-own_line d c ok = and_from (bytes_eq (line_of c) (line_of c)) (is_writable d c) ((bytes_eq-Decides (line_of c) (line_of c)).1 refl) ok
-
 position_back : (d : ℕ) (p : List ℕ) → 1 ≤ d → has_axes d p ≡ true → numbers_in comma (numbers_text comma p) ≡ p
 position_back d p some ok =
     let parts = axes-parts d p ok in
@@ -99,7 +95,9 @@ number_back n small = number-decimal n (ltb-true n _ small)
 -- the candidate at place k, where those before it fail
 in_place : (d : ℕ) (c : Command) (k : ℕ) → is_writable d c ≡ true → list_all (λ x. not (is_line d (line_of c) x)) (take k (candidates (words_of c))) ≡ true
     → k < length (candidates (words_of c)) → get_or (candidates (words_of c)) k c ≡ c → find (is_line d (line_of c)) (candidates (words_of c)) ≡ Some c
-in_place d c k ok others lt same = found_at (is_line d (line_of c)) (candidates (words_of c)) k c others lt same (own_line d c ok)
+in_place d c k ok others lt same =
+    let own = and_from (bytes_eq (line_of c) (line_of c)) (is_writable d c) ((bytes_eq-Decides (line_of c) (line_of c)).1 refl) ok in
+    found_at (is_line d (line_of c)) (candidates (words_of c)) k c others lt same own
 
 -- ---- the candidates on a view, which begin alike
 -- words of which the first byte or the second word is another
