@@ -14,7 +14,7 @@ use Rattle.zf_header.{specs.declared.header.Header.{Header}}
 use Rattle.zf_header.{specs.declared.header.Mode.{Mode}, specs.HeaderFaults.{header_fault}}
 use Rattle.zf_header.specs.declared.header.Mode.TheVariants.{Reversible, Rate, Precision}
 use Rattle.zf_block.specs.Room.{longest_rev, longest_prec}
-use Rattle.zf_parse.specs.Raw.{raw_len, raw_bytes}
+use Rattle.zf_parse.specs.Raw.{raw_len}
 use Rattle.zf_parse.specs.Parsing.{read_code, read_codes, values_of_blocks, header_of, code_bits, longest_code, longest_codes, restored_text}
 use Rattle.zf_parse.proofs.Steps.{with_block, read_next, read_codes-suc}
 
@@ -108,15 +108,10 @@ enough_for_all h s =
 pub length-values_of_blocks : (ns : List ℕ) (bs : List (List ℤ)) → length (values_of_blocks ns bs) ≡ product ns
 length-values_of_blocks ns bs = length-map-upto _ (product ns)
 
-length-raw_bytes : (h : Header) (bs : List (List ℤ)) → length (raw_bytes h (values_of_blocks h.shape bs)) ≡ raw_len h
-length-raw_bytes h bs =
-    length-raw (width_of h.ty) (values_of_blocks h.shape bs)
-    ∙ ap (λ n. n * byte_len (width_of h.ty)) (length-values_of_blocks h.shape bs)
-    ∙ mul_comm (product h.shape) (byte_len (width_of h.ty))
-
 pub length-restored_text : (bytes : List ℕ) → header_fault bytes ≡ None → length (restored_text bytes) ≡ raw_len (header_of bytes)
 unfolding restored_text
 length-restored_text bytes good =
     let h = header_of bytes in
     let read = enough_for_all h (code_bits bytes) in
-    cc (read.is, length-raw_bytes h read.all.0)
+    let size = mul_comm (product h.shape) (byte_len (width_of h.ty)) in
+    cc (read.is, length-raw (width_of h.ty) (values_of_blocks h.shape read.all.0), length-values_of_blocks h.shape read.all.0)
