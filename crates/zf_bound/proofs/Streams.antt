@@ -105,15 +105,14 @@ stream_close h budget m codes contents shape is these premise =
     code_is : (b : ℕ) → b < blocks h.shape → get_or codes b [] ≡ code b
     code_is b below = ap (λ (cs : List (List Bool)). get_or cs b []) (sym codes_are) ∙ get_or-map-upto code (blocks h.shape) b [] below
 
-    whole : (b : ℕ) → b < blocks h.shape → rate_whole_from (width_of h.ty) (length h.shape) (code b) ≤ k
-    whole b below = subst (λ c. rate_whole_from (width_of h.ty) (length h.shape) c ≤ k) (code_is b below) (plane_of-most (width_of h.ty) (length h.shape) codes b (omega (arith, below, ap length codes_are, length-map-upto code (blocks h.shape))))
-
     each : (b : ℕ) → AreClose e (get_or (blocks_of h.shape contents) b []) (get_or (blocks_read h codes) b [])
     each b = ⊎_elim
         (λ below.
         subst (λ (vs : List ℤ). AreClose e vs (get_or (blocks_read h codes) b [])) (sym (get_or-map-upto (block_of h.shape contents) (blocks h.shape) b [] below))
         (subst (λ (vs : List ℤ). AreClose e (block_of h.shape contents b) vs)
         (sym (get_or-map-upto _ (blocks h.shape) b [] below ∙ ap (read_rate (width_of h.ty) (extent_of h.shape b)) (code_is b below)))
-        (block_close (width_of h.ty) budget h.shape contents b m k shape below these.small (whole b below) (plane_of-le (width_of h.ty) (length h.shape) codes) premise)))
+        (block_close (width_of h.ty) budget h.shape contents b m k shape below these.small
+        (subst (λ c. rate_whole_from (width_of h.ty) (length h.shape) c ≤ k) (code_is b below) (plane_of-most (width_of h.ty) (length h.shape) codes b (omega (arith, below, ap length codes_are, length-map-upto code (blocks h.shape)))))
+        (plane_of-le (width_of h.ty) (length h.shape) codes) premise)))
         (search (rules, get_or_past, length-map-upto, zero_within))
         (cases_lt b (blocks h.shape))

@@ -32,7 +32,7 @@ pub use denote.Steps.{nothing, opens}
 pub use denote.Triple.Carry.{spared}
 pub use denote.Triple.Clauses.{Clauses, Ended, closing}
 pub use denote.Triple.Entry.{on_entry}
-pub use denote.Triple.Spec.{Meets, triple_of}
+pub use denote.Triple.Spec.{triple_of}
 pub use denote.Triple.Table.{entered, run_framed}
 pub use denote.Triple.Walked.{says, needs, Stays, stay_dropped, walk_of, ends_at, Goes-dropped, Goes-spent_ref, walk_Meets}
 pub use Rattle.std_alloc.proofs.VecSteps.Shapes.{after}
