@@ -131,18 +131,13 @@ flushed_views-count setting s (suc n) = length-set (views_of (flushed_views sett
 
 module _ (line : Line) (may_hold : ℕ → ℕ → ℕ → Type 0) (placing : IsPlacing line may_hold) where
   -- what holds of the state of a touch, and where the block is then
-  record IsTouched {Code : Type 0} (format : Format Code) (b : ℕ) (t : State Code) : Type 0 where
-    consistent : IsConsistent line every format t
-    here : t.held (line_in line t b) ≡ Some b
-
-  touched_state : {Code : Type 0} (setting : Setting Code) (s : Session Code) (b : ℕ) → IsCached line setting → IsSound line setting s → IsTouched (format_of setting s) b (touched setting s b).state
+  touched_state : {Code : Type 0} (setting : Setting Code) (s : Session Code) (b : ℕ) → IsCached line setting → IsSound line setting s
+      → let t = (touched setting s b).state in IsConsistent line every (format_of setting s) t × (t.held (line_in line t b) ≡ Some b)
   unfolding touched
   touched_state setting s b cached h =
       let format = format_of setting s in
-      subst (λ f. IsTouched format b (f format s.state b)) (sym cached.touches) (record {
-        consistent = touch-consistent line may_hold placing every format s.state b refl h.state;
-        here = touched_here line may_hold placing every format s.state b refl h.state;
-      })
+      subst (λ f. let t = f format s.state b in IsConsistent line every format t × (t.held (line_in line t b) ≡ Some b)) (sym cached.touches)
+      (touch-consistent line may_hold placing every format s.state b refl h.state, touched_here line may_hold placing every format s.state b refl h.state)
 
   -- the sizes and the window are not changed by a touch
   with_state : {Code : Type 0} (setting : Setting Code) (s : Session Code) (t : State Code) → is_split s ≡ false → IsSound line setting s → IsConsistent line every (format_of setting s) t → IsSound line setting (record s { state = t })
@@ -150,7 +145,7 @@ module _ (line : Line) (may_hold : ℕ → ℕ → ℕ → Type 0) (placing : Is
 
   pub touched-sound : {Code : Type 0} (setting : Setting Code) (s : Session Code) (b : ℕ) → IsCached line setting → is_split s ≡ false → IsSound line setting s → IsSound line setting (touched setting s b)
   unfolding touched
-  touched-sound setting s b cached none h = with_state setting s _ none h (touched_state setting s b cached h).consistent
+  touched-sound setting s b cached none h = with_state setting s _ none h (touched_state setting s b cached h).0
 
   -- a change that keeps a block's values whole
   changed-sound : {Code : Type 0} (setting : Setting Code) (s : Session Code) (b : ℕ) (change : List ℤ → List ℤ) → ((vs : List ℤ) → existing_of (format_of setting s) b vs ≡ vs → existing_of (format_of setting s) b (change vs) ≡ change vs)
@@ -159,7 +154,7 @@ module _ (line : Line) (may_hold : ℕ → ℕ → ℕ → Type 0) (placing : Is
   changed-sound {Code} setting s b change whole cached none h =
       let k = touched_state setting s b cached h in
       let t : State Code = soiled (touched setting s b).state b in
-      let soil : IsConsistent line every (format_of setting s) t = soiled-consistent line may_hold placing every (format_of setting s) (touched setting s b).state b k.here k.consistent in
+      let soil : IsConsistent line every (format_of setting s) t = soiled-consistent line may_hold placing every (format_of setting s) (touched setting s b).state b k.1 k.0 in
       with_state setting s _ none h (with_values-consistent line may_hold placing every (format_of setting s) t b (change (t.values b)) (with_at-same (touched setting s b).state.dirty b true) (whole (t.values b) (soil.whole b refl)) soil)
 
   changed_at-sound : {Code : Type 0} (setting : Setting Code) (s : Session Code) (ps : List ℕ) (change : ℤ → ℤ) → length ps ≡ length s.shape → is_inside s.shape ps ≡ true

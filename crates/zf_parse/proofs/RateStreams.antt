@@ -1,6 +1,6 @@
 -- What a stream of a fixed rate says: each code has as many bits, so it is cut by places alone.
-use Rattle.std.proofs.Common.{◌≡◌, ◌≢◌, refl, sym, ap, ◌∙◌, ℕ, zero, suc, ◌+◌, ◌-◌, ◌*◌, ◌/◌, ◌<◌, ◌≤◌, Bool, true, false, cond, ltb, ℤ, Option, Some, None, Result, Ok, Err, List, [], ◌++◌, map, length, take, drop, length-append, length-drop, arith, suc-mul, rules}
-use Rattle.std.{specs.Int.{Width}, proofs.lemmas.Bool.{ltb-true, ltb-false}, proofs.Math.Seq.{take-add}}
+use Rattle.std.proofs.Common.{◌≡◌, ◌≢◌, refl, sym, ap, ◌∙◌, ℕ, zero, suc, ◌+◌, ◌-◌, ◌*◌, ◌/◌, ◌<◌, ◌≤◌, Bool, true, false, cond, ltb, ℤ, Option, Some, None, Ok, Err, List, [], ◌++◌, map, length, take, drop, length-append, length-drop, arith, suc-mul, rules}
+use Rattle.std.{proofs.lemmas.Bool.{ltb-true, ltb-false}, proofs.Math.Seq.{take-add}}
 use Rattle.std.proofs.lemmas.List.{take-append-drop, length-take-le, take_at}
 use Rattle.std.proofs.Math.Nat.{div-eq-sub-div, div-eq_of_lt, mul-le-mul_right}
 use Rattle.zf_spec.{specs.Grid.{upto, blocks, extent_of}, specs.Codes.{read_rate}, specs.Numbers.{number}}
@@ -56,20 +56,11 @@ pub read_codes-cut : (h : Header) (budget b n : ℕ) (s : List Bool) → h.mode 
 read_codes-cut h budget b zero s is some short = absurd (omega arith)
 read_codes-cut h budget b (suc n) s is some short = by (ltb (length s) budget) refl (read_codes-cut h budget (suc b) n (drop budget s) is some)
   where
-    w : Width
-    w = width_of h.ty
-
-    es : List ℕ
-    es = extent_of h.shape b
-
-    behind : List Bool → Result (List (List ℤ) × List Bool) ℕ
-    behind = read_codes h (suc b) n
-
     code : Bool → Option (List ℤ × ℕ)
-    code t = cond t None (Some (read_rate w es (take budget s), budget))
+    code t = cond t None (Some (read_rate (width_of h.ty) (extent_of h.shape b) (take budget s), budget))
 
-    read : (t : Bool) → ltb (length s) budget ≡ t → read_code w h.mode es s ≡ code t
-    read t e = ap (λ m. read_code w m es s) is ∙ ap code e
+    read : (t : Bool) → ltb (length s) budget ≡ t → read_code (width_of h.ty) h.mode (extent_of h.shape b) s ≡ code t
+    read t e = ap (λ m. read_code (width_of h.ty) m (extent_of h.shape b) s) is ∙ ap code e
 
     by : (t : Bool) → ltb (length s) budget ≡ t → (length (drop budget s) < n * budget → read_codes h (suc b) n (drop budget s) ≡ Err (suc b + length (drop budget s) / budget)) → read_codes h b (suc n) s ≡ Err (b + length s / budget)
     by true e next = search (rules, div-eq_of_lt, ltb-true, read_codes-suc)
