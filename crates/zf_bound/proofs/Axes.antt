@@ -14,33 +14,24 @@ use Rattle.zf_bound.proofs.Lines.{IsNear, zero_within, of_four, lift_line_within
 lift_within : (n : Width) (s : ℕ) (block : List ℤ) (m : ℕ) → 8 * (m + 4) < 2 ^ hbits n → AreWithin m block → AreWithin (m + 4) (along (lift_line n) s block)
 lift_within n s block m room small p = ⊎_elim
     (λ inside. subst (λ v. unsigned_abs v ≤ m + 4) (sym (get_or-along (lift_line n) s block p inside))
-    (lift_line_within n (value 0) (value 1) (value 2) (value 3) m room (at 0) (at 1) (at 2) (at 3) (p / s % 4)))
-    (λ past. subst (λ v. unsigned_abs v ≤ m + 4) (sym (get_or_past (along (lift_line n) s block) p (pos 0) (past_end past))) (zero_within (m + 4)))
+    (lift_line_within n (value 0) (value 1) (value 2) (value 3) m room (small _) (small _) (small _) (small _) (p / s % 4)))
+    (λ past. subst (λ v. unsigned_abs v ≤ m + 4) (sym (get_or_past (along (lift_line n) s block) p (pos 0) (omega (arith, past, length-along (lift_line n) s block)))) (zero_within (m + 4)))
     (cases_lt p (length block))
   where
     value : ℕ → ℤ
     value k = get_or block (line_start s p + s * k) (pos 0)
 
-    at : (k : ℕ) → unsigned_abs (value k) ≤ m
-    at k = small (line_start s p + s * k)
-
-    past_end : length block ≤ p → length (along (lift_line n) s block) ≤ p
-    past_end h = omega (arith, h, length-along (lift_line n) s block)
-
 -- the member of a line at its place among four
 four_of : (value : ℕ → ℤ) (i : ℕ) → i < 4 → of_four (value 0) (value 1) (value 2) (value 3) i ≡ value i
-four_of value zero h = refl
-four_of value (suc zero) h = refl
-four_of value (suc (suc zero)) h = refl
-four_of value (suc (suc (suc zero))) h = refl
 four_of value (suc (suc (suc (suc i)))) h = absurd (omega arith)
+four_of value i h = refl
 
 unlift_near : (n : Width) (s : ℕ) (block turned : List ℤ) (m e : ℕ) → 0 < s → length block % (4 * s) ≡ 0 → length turned ≡ length block → 8 * (m + 4 + e) < 2 ^ hbits n
     → AreWithin m block → AreClose e (along (lift_line n) s block) turned → AreClose (4 * e + 4) block (along (unlift_line n) s turned)
 unlift_near n s block turned m e some groups same room small near p = ⊎_elim
     (λ inside. at_place inside)
     (λ past. subst (λ v. IsNear (4 * e + 4) v (get_or (along (unlift_line n) s turned) p (pos 0))) (sym (get_or_past block p (pos 0) past))
-    (subst (λ v. IsNear (4 * e + 4) (pos 0) v) (sym (get_or_past (along (unlift_line n) s turned) p (pos 0) (past_end past))) (zero_within (4 * e + 4))))
+    (subst (λ v. IsNear (4 * e + 4) (pos 0) v) (sym (get_or_past (along (unlift_line n) s turned) p (pos 0) (omega (arith, past, same, length-along (unlift_line n) s turned)))) (zero_within (4 * e + 4))))
     (cases_lt p (length block))
   where
     start : ℕ
@@ -51,9 +42,6 @@ unlift_near n s block turned m e some groups same room small near p = ⊎_elim
 
     number : ℕ → ℤ
     number k = get_or turned (line_start s p + s * k) (pos 0)
-
-    past_end : length block ≤ p → length (along (unlift_line n) s turned) ≤ p
-    past_end h = omega (arith, h, same, length-along (unlift_line n) s turned)
 
     coefficient : p < length block → (k : ℕ) → k < 4 → IsNear e (get_or (lift_line n (value 0) (value 1) (value 2) (value 3)) k (pos 0)) (of_four (number 0) (number 1) (number 2) (number 3) k)
     coefficient inside k below =

@@ -1,6 +1,6 @@
 -- How far what a fixed rate makes of a block is from the block, where planes from some plane up are kept whole.
 use Rattle.std.proofs.Common.{◌≡◌, refl, sym, ap, subst, ◌∙◌, ℕ, zero, suc, ◌+◌, ◌-◌, ◌*◌, ◌^◌, ◌<◌, ◌≤◌, Bool, ℤ, List, length, take, All, arith, rules}
-use Rattle.std.{specs.Int.{Width, w8, w16, w32, w64, w128}, proofs.lemmas.Bool.{cases_lt}}
+use Rattle.std.{specs.Int.{Width, w8}, proofs.lemmas.Bool.{cases_lt}}
 use Rattle.std.proofs.lemmas.List.{get_or_past}
 use mir.Val.{bits, hbits}
 use Rattle.zf_spec.{specs.Padding.{pad}, specs.Lift.{lift, lift_line, unlift}, specs.Kept.{kept_planes}}
@@ -16,10 +16,7 @@ use Rattle.zf_bound.proofs.LostDigits.{coefficients_close}
 
 bits_less_one : (w : Width) → hbits w ≡ bits w - 1
 bits_less_one w8 = refl
-bits_less_one w16 = refl
-bits_less_one w32 = refl
-bits_less_one w64 = refl
-bits_less_one w128 = refl
+bits_less_one w = refl
 
 pub power_half : (w : Width) → 2 ^ hbits w ≡ 2 ^ (bits w - 1)
 power_half w = ap (λ n. 2 ^ n) (bits_less_one w)

@@ -1,6 +1,6 @@
 -- What is certified of a file whose codes an index has.
 use Rattle.std.proofs.Common.{◌≡◌, sym, ap, subst, ◌∙◌, ℕ, ◌+◌, ◌*◌, ◌<◌, ◌≤◌, Bool, ℤ, Some, List, length, take, rules}
-use Rattle.std.{specs.Prelude.{IfOk}, specs.Int.{Width}, proofs.lemmas.Option.{none-some}}
+use Rattle.std.{specs.Prelude.{IfOk}, specs.Int.{Width}, proofs.lemmas.Option.{none-some, same_Some}}
 use mir.Val.{bits}
 use Rattle.zf_spec.{specs.Grid.{IsShape, extent_of}, specs.Codes.{read_rate}, specs.Stream.{to_bits}}
 use Rattle.zf_spec.{proofs.Bytes.{length-to_bits}, proofs.Counting.{map-upto_same, get_or-map-upto}}
@@ -16,13 +16,10 @@ use Rattle.zf_bound.{specs.Spans.{AreInside}, proofs.Streams.{blocks_read, strea
 
 -- ---- a fixed rate
 
-some_same : (a b : ℕ) → Some a ≡ Some b → a ≡ b
-some_same a b e = cc
-
 -- what is found of a code at a fixed rate, where one is found
 rate_found : (w : Width) (b n : ℕ) (es : List ℕ) (s : List Bool) → len_read (read_code w (Rate b) es s) ≡ Some n
     → (n ≡ b) × (block_read (read_code w (Rate b) es s) ≡ read_rate w es (take n s))
-rate_found w b n es s = search (rules, none-some, some_same)
+rate_found w b n es s = search (rules, none-some, same_Some)
 
 -- ---- a file
 

@@ -12,7 +12,6 @@
 --     Indexed      what is certified of a file whose codes an index has
 --     LineLaws     the two facts of a line, as the laws state them
 --     Certificates what is certified is there once its parts are
---     Growth       how large the error is at most
 pub mod WholeLines
 pub mod NoWrap
 pub mod Lines
@@ -24,6 +23,5 @@ pub mod Streams
 pub mod Stored
 pub mod Cuts
 pub mod Indexed
-pub mod Growth
 pub mod LineLaws
 pub mod Certificates

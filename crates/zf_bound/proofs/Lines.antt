@@ -1,5 +1,5 @@
 -- The two facts of a line: how large its coefficients are, and how far what comes back is from it, where they have an error.
-use Rattle.std.proofs.Common.{sym, subst, ℕ, zero, suc, ◌+◌, ◌*◌, ◌^◌, ◌<◌, ◌≤◌, ℤ, pos, ◌-ℤ◌, List, [], ◌∷◌, get_or, arith}
+use Rattle.std.proofs.Common.{sym, subst, ℕ, suc, ◌+◌, ◌*◌, ◌^◌, ◌<◌, ◌≤◌, ℤ, pos, ◌-ℤ◌, List, [], ◌∷◌, get_or, arith, rules}
 use Rattle.std.{specs.Int.RustNames.{unsigned_abs}, specs.Int.{Width}, proofs.lemmas.Int.{ints}}
 use mir.Val.{hbits}
 use Rattle.zf_spec.specs.Lift.{lift_line, unlift_line}
@@ -24,18 +24,12 @@ abbrev pub of_four : ℤ → ℤ → ℤ → ℤ → ℕ → ℤ
 of_four x y z w i = get_or (x ∷ y ∷ z ∷ w ∷ []) i (pos 0)
 
 four_within : (a b c d : ℤ) (m i : ℕ) → unsigned_abs a ≤ m → unsigned_abs b ≤ m → unsigned_abs c ≤ m → unsigned_abs d ≤ m → unsigned_abs (of_four a b c d i) ≤ m
-four_within a b c d m zero f g h k = f
-four_within a b c d m (suc zero) f g h k = g
-four_within a b c d m (suc (suc zero)) f g h k = h
-four_within a b c d m (suc (suc (suc zero))) f g h k = k
 four_within a b c d m (suc (suc (suc (suc i)))) f g h k = omega (arith, ints)
+four_within a b c d m i f g h k = search rules
 
 four_near : (x y z w x' y' z' w' : ℤ) (e i : ℕ) → IsNear e x x' → IsNear e y y' → IsNear e z z' → IsNear e w w' → IsNear e (of_four x y z w i) (of_four x' y' z' w' i)
-four_near x y z w x' y' z' w' e zero f g h k = f
-four_near x y z w x' y' z' w' e (suc zero) f g h k = g
-four_near x y z w x' y' z' w' e (suc (suc zero)) f g h k = h
-four_near x y z w x' y' z' w' e (suc (suc (suc zero))) f g h k = k
 four_near x y z w x' y' z' w' e (suc (suc (suc (suc i)))) f g h k = omega (arith, ints)
+four_near x y z w x' y' z' w' e i f g h k = search rules
 
 -- fact 1: of a line within m each coefficient is within m + 4
 pub lift_line_within : (n : Width) (x y z w : ℤ) (m : ℕ) → 8 * (m + 4) < 2 ^ hbits n
@@ -47,39 +41,27 @@ lift_line_within n x y z w m room f g h k i =
     (a_within _ _ _ _ _ _ _ _ m line.lifts f g h k) (b_within _ _ _ _ _ _ _ _ m line.lifts f g h k)
     (c_within _ _ _ _ _ _ _ _ m line.lifts f g h k) (d_within _ _ _ _ _ _ _ _ m line.lifts f g h k))
 
--- what comes back of a line, where nothing wraps
-turned_near : (n : Width) (x y z w a b c d : ℤ) (e : ℕ) (there : IsLifted n x y z w) (back : IsUnlifted n a b c d)
-    → IsNear e there.a a → IsNear e there.b b → IsNear e there.c c → IsNear e there.d d
-    → (i : ℕ) → IsNear (4 * e + 4) (of_four x y z w i) (get_or (unlift_line n a b c d) i (pos 0))
-turned_near n x y z w a b c d e there back na nb nc nd i =
-    subst (λ (l : List ℤ). IsNear (4 * e + 4) (of_four x y z w i) (get_or l i (pos 0))) (sym back.line)
-    (four_near x y z w back.x back.y back.z back.w (4 * e + 4) i
-    (x_near _ _ _ _ _ _ _ _ _ _ _ _ _ _ _ _ e there.lifts back.unlifts na nb nc nd)
-    (near_more y back.y (4 * e) (4 * e + 4) (omega arith) (y_near _ _ _ _ _ _ _ _ _ _ _ _ _ _ _ _ e there.lifts back.unlifts na nb nc nd))
-    (near_more z back.z (4 * e + 1) (4 * e + 4) (omega arith) (z_near _ _ _ _ _ _ _ _ _ _ _ _ _ _ _ _ e there.lifts back.unlifts na nb nc nd))
-    (near_more w back.w (4 * e + 3) (4 * e + 4) (omega arith) (w_near _ _ _ _ _ _ _ _ _ _ _ _ _ _ _ _ e there.lifts back.unlifts na nb nc nd)))
+module _ (n : Width) (x y z w a b c d : ℤ) (m e : ℕ) (there : IsLifted n x y z w) (room : 8 * (m + 4 + e) < 2 ^ hbits n)
+    (f : unsigned_abs x ≤ m) (g : unsigned_abs y ≤ m) (h : unsigned_abs z ≤ m) (k : unsigned_abs w ≤ m)
+    (na : IsNear e there.a a) (nb : IsNear e there.b b) (nc : IsNear e there.c c) (nd : IsNear e there.d d) where
+  -- nothing wraps on the way back
+  back : IsUnlifted n a b c d
+  back =
+      unlifted n a b c d (m + 4 + e) room
+      (within_of_near there.a a (m + 4) e (a_within _ _ _ _ _ _ _ _ m there.lifts f g h k) na)
+      (within_of_near there.b b (m + 4) e (b_within _ _ _ _ _ _ _ _ m there.lifts f g h k) nb)
+      (within_of_near there.c c (m + 4) e (c_within _ _ _ _ _ _ _ _ m there.lifts f g h k) nc)
+      (within_of_near there.d d (m + 4) e (d_within _ _ _ _ _ _ _ _ m there.lifts f g h k) nd)
 
--- nothing wraps on the way back
-turned_whole : (n : Width) (x y z w a b c d : ℤ) (m e : ℕ) (there : IsLifted n x y z w) → 8 * (m + 4 + e) < 2 ^ hbits n
-    → unsigned_abs x ≤ m → unsigned_abs y ≤ m → unsigned_abs z ≤ m → unsigned_abs w ≤ m
-    → IsNear e there.a a → IsNear e there.b b → IsNear e there.c c → IsNear e there.d d → IsUnlifted n a b c d
-turned_whole n x y z w a b c d m e there room f g h k na nb nc nd =
-    unlifted n a b c d (m + 4 + e) room
-    (within_of_near there.a a (m + 4) e (a_within _ _ _ _ _ _ _ _ m there.lifts f g h k) na)
-    (within_of_near there.b b (m + 4) e (b_within _ _ _ _ _ _ _ _ m there.lifts f g h k) nb)
-    (within_of_near there.c c (m + 4) e (c_within _ _ _ _ _ _ _ _ m there.lifts f g h k) nc)
-    (within_of_near there.d d (m + 4) e (d_within _ _ _ _ _ _ _ _ m there.lifts f g h k) nd)
-
-near_of_line : (n : Width) (x y z w a b c d : ℤ) (m e : ℕ) (there : IsLifted n x y z w) → 8 * (m + 4 + e) < 2 ^ hbits n
-    → unsigned_abs x ≤ m → unsigned_abs y ≤ m → unsigned_abs z ≤ m → unsigned_abs w ≤ m
-    → ((k : ℕ) → k < 4 → IsNear e (of_four there.a there.b there.c there.d k) (of_four a b c d k))
-    → (i : ℕ) → IsNear (4 * e + 4) (of_four x y z w i) (get_or (unlift_line n a b c d) i (pos 0))
-near_of_line n x y z w a b c d m e there room f g h k near i =
-    let na = near 0 (omega arith) in
-    let nb = near 1 (omega arith) in
-    let nc = near 2 (omega arith) in
-    let nd = near 3 (omega arith) in
-    turned_near n x y z w a b c d e there (turned_whole n x y z w a b c d m e there room f g h k na nb nc nd) na nb nc nd i
+  -- what comes back of a line
+  turned_near : (i : ℕ) → IsNear (4 * e + 4) (of_four x y z w i) (get_or (unlift_line n a b c d) i (pos 0))
+  turned_near i =
+      subst (λ (l : List ℤ). IsNear (4 * e + 4) (of_four x y z w i) (get_or l i (pos 0))) (sym back.line)
+      (four_near x y z w back.x back.y back.z back.w (4 * e + 4) i
+      (x_near _ _ _ _ _ _ _ _ _ _ _ _ _ _ _ _ e there.lifts back.unlifts na nb nc nd)
+      (near_more y back.y (4 * e) (4 * e + 4) (omega arith) (y_near _ _ _ _ _ _ _ _ _ _ _ _ _ _ _ _ e there.lifts back.unlifts na nb nc nd))
+      (near_more z back.z (4 * e + 1) (4 * e + 4) (omega arith) (z_near _ _ _ _ _ _ _ _ _ _ _ _ _ _ _ _ e there.lifts back.unlifts na nb nc nd))
+      (near_more w back.w (4 * e + 3) (4 * e + 4) (omega arith) (w_near _ _ _ _ _ _ _ _ _ _ _ _ _ _ _ _ e there.lifts back.unlifts na nb nc nd)))
 
 -- fact 2: where each number is within e of a coefficient of the line, each value that comes back is within 4 * e + 4 of the line's
 pub unlift_line_near : (n : Width) (x y z w a b c d : ℤ) (m e : ℕ) → 8 * (m + 4 + e) < 2 ^ hbits n
@@ -88,5 +70,5 @@ pub unlift_line_near : (n : Width) (x y z w a b c d : ℤ) (m e : ℕ) → 8 * (
     → (i : ℕ) → IsNear (4 * e + 4) (of_four x y z w i) (get_or (unlift_line n a b c d) i (pos 0))
 unlift_line_near n x y z w a b c d m e room f g h k near i =
     let there = lifted n x y z w m (omega (arith, room)) f g h k in
-    near_of_line n x y z w a b c d m e there room f g h k
-    (λ j small. subst (λ (l : List ℤ). IsNear e (get_or l j (pos 0)) (of_four a b c d j)) there.line (near j small)) i
+    let at = λ (j : ℕ) (small : j < 4). subst (λ (l : List ℤ). IsNear e (get_or l j (pos 0)) (of_four a b c d j)) there.line (near j small) in
+    turned_near n x y z w a b c d m e there room f g h k (at 0 (omega arith)) (at 1 (omega arith)) (at 2 (omega arith)) (at 3 (omega arith)) i

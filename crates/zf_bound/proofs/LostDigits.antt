@@ -19,9 +19,8 @@ use Rattle.zf_bound.proofs.Lines.{IsNear, zero_within}
 digit_apart : (d e : Bool) (s t : ℤ) (k : ℕ) → unsigned_abs (t -ℤ s) ≤ 2 ^ k - 1
     → unsigned_abs ((pos (digit_value e) +ℤ negsuc 1 *ℤ t) -ℤ (pos (digit_value d) +ℤ negsuc 1 *ℤ s)) ≤ 2 ^ suc k - 1
 digit_apart true true s t k h = omega (arith, ints, h, pow-suc 2 k, one-le-pow k 2 (omega arith))
-digit_apart true false s t k h = omega (arith, ints, h, pow-suc 2 k, one-le-pow k 2 (omega arith))
-digit_apart false true s t k h = omega (arith, ints, h, pow-suc 2 k, one-le-pow k 2 (omega arith))
 digit_apart false false s t k h = omega (arith, ints, h, pow-suc 2 k, one-le-pow k 2 (omega arith))
+digit_apart d e s t k h = omega (arith, ints, h, pow-suc 2 k, one-le-pow k 2 (omega arith))
 
 -- digits that are the same from digit k up
 abbrev pub AreSameFrom : ℕ → List Bool → List Bool → Type 0
@@ -29,21 +28,19 @@ AreSameFrom k ds es = (i : ℕ) → k ≤ i → get_or ds i false ≡ get_or es 
 
 same_digits : (ds es : List Bool) → length ds ≡ length es → AreSameFrom 0 ds es → ds ≡ es
 same_digits [] [] l same = refl
-same_digits [] (e ∷ es) l same = absurd (omega arith)
-same_digits (d ∷ ds) [] l same = absurd (omega arith)
 same_digits (d ∷ ds) (e ∷ es) l same =
     let first : d ≡ e = same 0 (omega arith) in
     let rest = same_digits ds es (omega arith) (λ i h. same (suc i) (omega arith)) in
     cc
+same_digits ds es l same = absurd (omega arith)
 
 -- the sums of such digits are less than 2^k apart
 pub digits_apart : (k : ℕ) (ds es : List Bool) → length ds ≡ length es → AreSameFrom k ds es → unsigned_abs (digits_sum es -ℤ digits_sum ds) ≤ lost_below k
 digits_apart zero ds es l same = let e = ap digits_sum (same_digits ds es l same) in omega (arith, ints, e)
 digits_apart (suc k) [] [] l same = omega (arith, ints)
-digits_apart (suc k) [] (e ∷ es) l same = absurd (omega arith)
-digits_apart (suc k) (d ∷ ds) [] l same = absurd (omega arith)
 digits_apart (suc k) (d ∷ ds) (e ∷ es) l same =
     digit_apart d e (digits_sum ds) (digits_sum es) k (digits_apart k ds es (omega arith) (λ i h. same (suc i) (omega arith)))
+digits_apart k ds es l same = absurd (omega arith)
 
 -- ---- values
 
@@ -53,7 +50,7 @@ sum_of_near v δ m n k room f g = omega (arith, ints, room, f, g)
 -- a value whose digits from k up stay: nothing wraps where the value is small
 pub value_near : (w : Width) (v : ℤ) (es : List Bool) (m k : ℕ) → m + lost_below k < 2 ^ hbits w → unsigned_abs v ≤ m → length es ≡ bits w → AreSameFrom k (digits (bits w) v) es
     → IsNear (lost_below k) v (value_of w es)
-value_near w v es m k room small l same = apart (value_of w es) is
+value_near w v es m k room small l same = plain (value_of w es) v δ (lost_below k) is lost
   where
     δ : ℤ
     δ = digits_sum es -ℤ digits_sum (digits (bits w) v)
@@ -61,12 +58,9 @@ value_near w v es m k room small l same = apart (value_of w es) is
     lost : unsigned_abs δ ≤ lost_below k
     lost = digits_apart k (digits (bits w) v) es (length-digits (bits w) v ∙ sym l) same
 
-    again : (s t : ℤ) → s +ℤ (t -ℤ s) ≡ t
-    again s t = omega (arith, ints)
-
     -- the sum of the digits is v and what is lost, but for a multiple
     same_number : IsSameModulo (bits w) (digits_sum es) (v +ℤ δ)
-    same_number = subst (λ s. IsSameModulo (bits w) s (v +ℤ δ)) (again (digits_sum (digits (bits w) v)) (digits_sum es))
+    same_number = let again : digits_sum (digits (bits w) v) +ℤ δ ≡ digits_sum es = omega (arith, ints) in subst (λ s. IsSameModulo (bits w) s (v +ℤ δ)) again
         (same_modulo_add (bits w) (digits_sum (digits (bits w) v)) v δ δ (digits_sum-digits (bits w) v) (same_modulo_refl (bits w) δ))
 
     is : value_of w es ≡ v +ℤ δ
@@ -74,9 +68,6 @@ value_near w v es m k room small l same = apart (value_of w es) is
 
     plain : (u v δ : ℤ) (n : ℕ) → u ≡ v +ℤ δ → unsigned_abs δ ≤ n → unsigned_abs (u -ℤ v) ≤ n
     plain u v δ n e f = omega (arith, ints, e, f)
-
-    apart : (u : ℤ) → u ≡ v +ℤ δ → IsNear (lost_below k) v u
-    apart u e = plain u v δ (lost_below k) e lost
 
 -- ---- coefficients
 

@@ -1,5 +1,5 @@
 -- The places of a line, in a block that is made of whole groups of lines.
-use Rattle.std.proofs.Common.{◌≡◌, ℕ, ◌+◌, ◌*◌, ◌/◌, ◌%◌, ◌<◌, ◌≤◌, ℤ, pos, List, length, get_or, ap, ◌∙◌, ◌⊎◌, inl, inr, arith, rules}
+use Rattle.std.proofs.Common.{◌≡◌, ℕ, ◌+◌, ◌*◌, ◌/◌, ◌%◌, ◌<◌, ◌≤◌, ℤ, pos, List, length, get_or, ap, ◌∙◌, ⊎_elim, arith, rules}
 use Rattle.std.{proofs.lemmas.Bool.{cases_lt}, proofs.lemmas.Nat.{div-mul-add}}
 use Rattle.std.proofs.Math.Nat.{mul-le-mul_left, mod-lt}
 use Rattle.zf_spec.specs.Lift.{along}
@@ -9,14 +9,9 @@ use Rattle.zf_axes.proofs.LineByLine.{get_or-along}
 module _ (s p n : ℕ) (some : 0 < s) (groups : n % (4 * s) ≡ 0) (inside : p < n) where
   -- the group of the line is one of the block's
   group_below : p / s / 4 < n / s / 4
-  group_below = by (cases_lt (p / s / 4) (n / s / 4))
-    where
-      by : (p / s / 4 < n / s / 4) ⊎ (n / s / 4 ≤ p / s / 4) → p / s / 4 < n / s / 4
-      by (inl below) = below
-      by (inr past) =
-          let more = mul-le-mul_left (4 * s) past in
-          let start = line_start-is s p some in
-          absurd (omega (arith, more, start, groups_are_whole s n some groups))
+  group_below = ⊎_elim (λ below. below)
+      (λ past. absurd (omega (arith, mul-le-mul_left (4 * s) past, line_start-is s p some, groups_are_whole s n some groups)))
+      (cases_lt (p / s / 4) (n / s / 4))
 
   -- so each of the four places is in the block
   pub member_inside : (k : ℕ) → k < 4 → line_start s p + s * k < n
@@ -41,7 +36,5 @@ pub get_or-member : (f : ℤ → ℤ → ℤ → ℤ → List ℤ) (s : ℕ) (bl
     get_or (along f s block) (line_start s p + s * k) (pos 0) ≡ get_or (f (value 0) (value 1) (value 2) (value 3)) k (pos 0)
 get_or-member f s block p k some groups inside small =
     let q = line_start s p + s * k in
-    let line = λ (start : ℕ). f (get_or block (start + s * 0) (pos 0)) (get_or block (start + s * 1) (pos 0)) (get_or block (start + s * 2) (pos 0)) (get_or block (start + s * 3) (pos 0)) in
-    get_or-along f s block q (member_inside s p (length block) some groups inside k small)
-    ∙ ap (λ start. get_or (line start) (q / s % 4) (pos 0)) (member_start s p (length block) some groups inside k small)
-    ∙ ap (λ i. get_or (line (line_start s p)) i (pos 0)) (member_index s p (length block) some groups inside k small)
+    let along_is = get_or-along f s block q (member_inside s p (length block) some groups inside k small) in
+    cc (member_start s p (length block) some groups inside k small, member_index s p (length block) some groups inside k small)

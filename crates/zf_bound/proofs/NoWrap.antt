@@ -19,16 +19,17 @@ floor_half_is v = search (rules, floor_half_at_most, floor_half_above, ints)
 pub whole_half : (n : Width) (v : ℤ) → unsigned_abs v < 2 ^ hbits n → IsHalf v (half n v)
 whole_half n v h = subst (λ u. IsHalf v (floor_half u)) (sym (whole n v h)) (floor_half_is v)
 
+-- a sum of small numbers
+sum_fits : (u v : ℤ) (m n k : ℕ) → m + n < k → unsigned_abs u ≤ m → unsigned_abs v ≤ n → unsigned_abs (u +ℤ v) < k
+sum_fits u v m n k room f g = omega (arith, ints, room, f, g)
+
 -- two numbers within m are averaged
 pub averaged : (n : Width) (u v : ℤ) (m : ℕ) → 2 * m < 2 ^ hbits n → unsigned_abs u ≤ m → unsigned_abs v ≤ m
     → Averages u v (half n (u +ℤ v)) (wrap n (v -ℤ half n (u +ℤ v)))
 averaged n u v m room f g =
-    let is = whole_half n (u +ℤ v) (sum_fits u v f g) in
+    let is = whole_half n (u +ℤ v) (sum_fits u v m m _ (omega (arith, room)) f g) in
     record { half_is = is; rest_is = whole n (v -ℤ half n (u +ℤ v)) (rest_fits (half n (u +ℤ v)) is) }
   where
-    sum_fits : (u v : ℤ) → unsigned_abs u ≤ m → unsigned_abs v ≤ m → unsigned_abs (u +ℤ v) < 2 ^ hbits n
-    sum_fits u v f g = omega (arith, ints, f, g, room)
-
     rest_fits : (h : ℤ) → IsHalf (u +ℤ v) h → unsigned_abs (v -ℤ h) < 2 ^ hbits n
     rest_fits h is = omega (arith, ints, f, g, room, is.least, is.most)
 
@@ -43,10 +44,7 @@ pub record IsLifted (n : Width) (x y z w : ℤ) : Type 0 where
   pub line : lift_line n x y z w ≡ a ∷ b ∷ c ∷ d ∷ []
   pub lifts : Lifts x y z w a b c d
 
--- a sum and a difference of small numbers
-sum_fits : (u v : ℤ) (m n k : ℕ) → m + n < k → unsigned_abs u ≤ m → unsigned_abs v ≤ n → unsigned_abs (u +ℤ v) < k
-sum_fits u v m n k room f g = omega (arith, ints, room, f, g)
-
+-- a difference of small numbers, and how large it and a sum are
 difference_fits : (u v : ℤ) (m n k : ℕ) → m + n < k → unsigned_abs u ≤ m → unsigned_abs v ≤ n → unsigned_abs (u -ℤ v) < k
 difference_fits u v m n k room f g = omega (arith, ints, room, f, g)
 

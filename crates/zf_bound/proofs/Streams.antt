@@ -1,5 +1,5 @@
 -- How far the values of a stream are from whatever contents have its codes.
-use Rattle.std.proofs.Common.{◌≡◌, refl, sym, ap, subst, ◌∙◌, ℕ, zero, suc, ◌-◌, ◌^◌, ◌<◌, ◌≤◌, Bool, ℤ, pos, List, [], ◌∷◌, map, length, get_or, take, All, ⊎_elim, arith, rules}
+use Rattle.std.proofs.Common.{◌≡◌, sym, ap, subst, ◌∙◌, ℕ, zero, suc, ◌-◌, ◌^◌, ◌<◌, ◌≤◌, Bool, ℤ, List, [], ◌∷◌, map, length, get_or, take, All, ⊎_elim, arith, rules}
 use Rattle.std.{specs.Int.{Width}, proofs.lemmas.Bool.{cases_lt}, proofs.lemmas.List.{get_or_past}}
 use mir.Val.{bits}
 use Rattle.zf_spec.{specs.Grid.{IsShape, blocks, extent_of, block_of, blocks_of, upto}, specs.Padding.{pad}}
@@ -74,10 +74,6 @@ block_close w budget ns values b m k shape below small from inside premise =
 
 -- ---- all blocks
 
-nothing : (k : ℕ) → get_or {A = ℤ} [] k (pos 0) ≡ pos 0
-nothing zero = refl
-nothing (suc k) = refl
-
 -- blocks that are close make values that are close
 joined_close : (ns : List ℕ) (e : ℕ) (as' bs : List (List ℤ)) → ((b : ℕ) → AreClose e (get_or as' b []) (get_or bs b [])) → AreClose e (values_of_blocks ns as') (values_of_blocks ns bs)
 joined_close ns e as' bs near k = search (rules, get_or-map-upto, get_or_past, length-map-upto, zero_within, cases_lt)
@@ -91,15 +87,9 @@ pub stream_close : (h : Header) (budget m : ℕ) (codes : List (List Bool)) (con
     → let k = plane_of (width_of h.ty) (length h.shape) codes in
     IsSmallEnough (bits (width_of h.ty)) m (error_of (length h.shape) k) → AreClose (error_of (length h.shape) k) contents (values_of_blocks h.shape (blocks_read h codes))
 stream_close h budget m codes contents shape is these premise =
-    subst (λ (vs : List ℤ). AreClose e vs (values_of_blocks ns (blocks_read h codes))) (values_of_blocks-blocks ns contents these.count)
-    (joined_close ns e (blocks_of ns contents) (blocks_read h codes) each)
+    subst (λ (vs : List ℤ). AreClose e vs (values_of_blocks h.shape (blocks_read h codes))) (values_of_blocks-blocks h.shape contents these.count)
+    (joined_close h.shape e (blocks_of h.shape contents) (blocks_read h codes) each)
   where
-    w : Width
-    w = width_of h.ty
-
-    ns : List ℕ
-    ns = h.shape
-
     k : ℕ
     k = plane_of (width_of h.ty) (length h.shape) codes
 
@@ -115,21 +105,14 @@ stream_close h budget m codes contents shape is these premise =
     code_is : (b : ℕ) → b < blocks h.shape → get_or codes b [] ≡ code b
     code_is b below = ap (λ (cs : List (List Bool)). get_or cs b []) (sym codes_are) ∙ get_or-map-upto code (blocks h.shape) b [] below
 
-    count : length codes ≡ blocks h.shape
-    count = ap length (sym codes_are) ∙ length-map-upto code (blocks h.shape)
-
-    whole : (b : ℕ) → b < blocks h.shape → rate_whole_from w (length h.shape) (code b) ≤ k
-    whole b below = subst (λ c. rate_whole_from w (length h.shape) c ≤ k) (code_is b below) (plane_of-most w (length h.shape) codes b (omega (arith, below, count)))
-
-    back : ℕ → List ℤ
-    back b = read_rate (width_of h.ty) (extent_of h.shape b) (get_or codes b [])
-
     each : (b : ℕ) → AreClose e (get_or (blocks_of h.shape contents) b []) (get_or (blocks_read h codes) b [])
     each b = ⊎_elim
         (λ below.
         subst (λ (vs : List ℤ). AreClose e vs (get_or (blocks_read h codes) b [])) (sym (get_or-map-upto (block_of h.shape contents) (blocks h.shape) b [] below))
         (subst (λ (vs : List ℤ). AreClose e (block_of h.shape contents b) vs)
-        (sym (get_or-map-upto back (blocks h.shape) b [] below ∙ ap (read_rate w (extent_of h.shape b)) (code_is b below)))
-        (block_close w budget h.shape contents b m k shape below these.small (whole b below) (plane_of-le w (length h.shape) codes) premise)))
-        (search (rules, get_or_past, length-map-upto, nothing, zero_within))
+        (sym (get_or-map-upto _ (blocks h.shape) b [] below ∙ ap (read_rate (width_of h.ty) (extent_of h.shape b)) (code_is b below)))
+        (block_close (width_of h.ty) budget h.shape contents b m k shape below these.small
+        (subst (λ c. rate_whole_from (width_of h.ty) (length h.shape) c ≤ k) (code_is b below) (plane_of-most (width_of h.ty) (length h.shape) codes b (omega (arith, below, ap length codes_are, length-map-upto code (blocks h.shape)))))
+        (plane_of-le (width_of h.ty) (length h.shape) codes) premise)))
+        (search (rules, get_or_past, length-map-upto, zero_within))
         (cases_lt b (blocks h.shape))

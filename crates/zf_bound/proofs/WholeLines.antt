@@ -1,6 +1,6 @@
 -- The lift of a line and the way back over whole numbers, where nothing wraps: how large the coefficients are,
 -- and how far what comes back is from the line, where the coefficients have an error.
-use Rattle.std.proofs.Common.{◌≡◌, ℕ, ◌+◌, ◌*◌, ◌≤◌, ℤ, pos, ◌+ℤ◌, ◌-ℤ◌, ◌≤ℤ◌, le_trans, arith, rules}
+use Rattle.std.proofs.Common.{◌≡◌, ℕ, ◌+◌, ◌*◌, ◌≤◌, ℤ, pos, ◌+ℤ◌, ◌-ℤ◌, ◌≤ℤ◌, le_trans, arith}
 use Rattle.std.{specs.Int.RustNames.{unsigned_abs}, proofs.lemmas.Int.{ints}}
 
 -- h is half of s, rounded down
@@ -104,20 +104,15 @@ module _ (x y z w a b c d : ℤ) (m : ℕ) (lifts : Lifts x y z w a b c d)
 
 -- ---- the way back. Each lemma has plain numbers, since `omega` reads all that is there.
 
--- the rotation of two coefficients b and d: its two bounds at once, since step by step they would come out too large
-rotation_y : (y1 w2 y2 half_y d half_d b b' d' half_d' y1' half_y' w1' y2' : ℤ) (e : ℕ)
-    → y2 ≡ y1 -ℤ w2 → IsHalf y2 half_y → d ≡ w2 +ℤ half_y → IsHalf d half_d → b ≡ y2 -ℤ half_d
-    → IsHalf d' half_d' → y1' ≡ b' +ℤ half_d' → IsHalf y1' half_y' → w1' ≡ d' -ℤ half_y' → y2' ≡ y1' +ℤ w1'
-    → unsigned_abs (b' -ℤ b) ≤ e → unsigned_abs (d' -ℤ d) ≤ e → unsigned_abs (y2' -ℤ y1) ≤ 2 * e
-rotation_y y1 w2 y2 half_y d half_d b b' d' half_d' y1' half_y' w1' y2' e f1 h1 f2 h2 f3 h3 f4 h4 f5 f6 n1 n2 =
-    omega (arith, ints, f1, h1.least, h1.most, f2, h2.least, h2.most, f3, h3.least, h3.most, f4, h4.least, h4.most, f5, f6, n1, n2)
-
-rotation_w : (y1 w2 y2 half_y d half_d b b' d' half_d' y1' half_y' w1' y2' w2' : ℤ) (e : ℕ)
+-- the rotation of two coefficients b and d: its bounds at once, since step by step they would come out too large
+rotation : (y1 w2 y2 half_y d half_d b b' d' half_d' y1' half_y' w1' y2' w2' : ℤ) (e : ℕ)
     → y2 ≡ y1 -ℤ w2 → IsHalf y2 half_y → d ≡ w2 +ℤ half_y → IsHalf d half_d → b ≡ y2 -ℤ half_d
     → IsHalf d' half_d' → y1' ≡ b' +ℤ half_d' → IsHalf y1' half_y' → w1' ≡ d' -ℤ half_y' → y2' ≡ y1' +ℤ w1' → w2' ≡ w1' +ℤ w1' -ℤ y2'
-    → unsigned_abs (b' -ℤ b) ≤ e → unsigned_abs (d' -ℤ d) ≤ e → unsigned_abs (w2' -ℤ (w2 +ℤ w2 -ℤ y1)) ≤ 2 * e + 1
-rotation_w y1 w2 y2 half_y d half_d b b' d' half_d' y1' half_y' w1' y2' w2' e f1 h1 f2 h2 f3 h3 f4 h4 f5 f6 f7 n1 n2 =
-    omega (arith, ints, f1, h1.least, h1.most, f2, h2.least, h2.most, f3, h3.least, h3.most, f4, h4.least, h4.most, f5, f6, f7, n1, n2)
+    → unsigned_abs (b' -ℤ b) ≤ e → unsigned_abs (d' -ℤ d) ≤ e → (unsigned_abs (y2' -ℤ y1) ≤ 2 * e) × (unsigned_abs (w2' -ℤ (w2 +ℤ w2 -ℤ y1)) ≤ 2 * e + 1)
+rotation y1 w2 y2 half_y d half_d b b' d' half_d' y1' half_y' w1' y2' w2' e f1 h1 f2 h2 f3 h3 f4 h4 f5 f6 f7 n1 n2 = (
+  omega (arith, ints, f1, h1.least, h1.most, f2, h2.least, h2.most, f3, h3.least, h3.most, f4, h4.least, h4.most, f5, f6, n1, n2),
+  omega (arith, ints, f1, h1.least, h1.most, f2, h2.least, h2.most, f3, h3.least, h3.most, f4, h4.least, h4.most, f5, f6, f7, n1, n2),
+)
 
 -- the sum and the difference of a and c
 sum_near : (z1 a c a' c' z1' : ℤ) (e : ℕ) → c ≡ z1 -ℤ a → z1' ≡ c' +ℤ a' → unsigned_abs (a' -ℤ a) ≤ e → unsigned_abs (c' -ℤ c) ≤ e → unsigned_abs (z1' -ℤ z1) ≤ 2 * e
@@ -146,11 +141,10 @@ line_x x w x1 w1 y1 w2 a z1 x' w' x1' w2' e j f h k g i n1 n2 = omega (arith, in
 -- the coefficients that are turned back are within e of those of the line
 module _ (x y z w a b c d : ℤ) (a' b' c' d' x' y' z' w' : ℤ) (e : ℕ) (there : Lifts x y z w a b c d) (back : Unlifts a' b' c' d' x' y' z' w')
     (a_near : unsigned_abs (a' -ℤ a) ≤ e) (b_near : unsigned_abs (b' -ℤ b) ≤ e) (c_near : unsigned_abs (c' -ℤ c) ≤ e) (d_near : unsigned_abs (d' -ℤ d) ≤ e) where
-  y1_near : unsigned_abs (back.y2 -ℤ there.y1) ≤ 2 * e
-  y1_near = search (rules, rotation_y)
-
-  w1_near : unsigned_abs (back.w2 -ℤ (there.w2 +ℤ there.w2 -ℤ there.y1)) ≤ 2 * e + 1
-  w1_near = search (rules, rotation_w)
+  turned : (unsigned_abs (back.y2 -ℤ there.y1) ≤ 2 * e) × (unsigned_abs (back.w2 -ℤ (there.w2 +ℤ there.w2 -ℤ there.y1)) ≤ 2 * e + 1)
+  turned =
+      rotation _ _ _ _ _ _ _ _ _ _ _ _ _ _ _ e there.rests.rest_is there.half_y_is there.d_is there.half_d_is there.b_is
+      back.half_d_is back.y1_is back.half_y_is back.w1_is back.y2_is back.w2_is b_near d_near
 
   z1_near : unsigned_abs (back.z1 -ℤ there.z1) ≤ 2 * e
   z1_near = sum_near _ _ _ _ _ _ e there.sums.rest_is back.z1_is a_near c_near
@@ -159,13 +153,13 @@ module _ (x y z w a b c d : ℤ) (a' b' c' d' x' y' z' w' : ℤ) (e : ℕ) (ther
   x1_near = difference_near _ _ _ _ _ _ _ e there.sums.rest_is back.z1_is back.x1_is a_near c_near
 
   pub y_near : unsigned_abs (y' -ℤ y) ≤ 4 * e
-  y_near = line_y _ _ _ _ _ _ e there.inner.rest_is back.y_is y1_near z1_near
+  y_near = line_y _ _ _ _ _ _ e there.inner.rest_is back.y_is turned.0 z1_near
 
   pub z_near : unsigned_abs (z' -ℤ z) ≤ 4 * e + 1
-  z_near = line_z _ _ _ _ _ _ _ _ e there.inner.half_is there.inner.rest_is back.y_is back.z_is y1_near z1_near
+  z_near = line_z _ _ _ _ _ _ _ _ e there.inner.half_is there.inner.rest_is back.y_is back.z_is turned.0 z1_near
 
   pub w_near : unsigned_abs (w' -ℤ w) ≤ 4 * e + 3
-  w_near = line_w _ _ _ _ _ _ _ _ _ _ e there.outer.rest_is there.rests.half_is there.sums.half_is back.w_is w1_near x1_near
+  w_near = line_w _ _ _ _ _ _ _ _ _ _ e there.outer.rest_is there.rests.half_is there.sums.half_is back.w_is turned.1 x1_near
 
   pub x_near : unsigned_abs (x' -ℤ x) ≤ 4 * e + 4
-  x_near = line_x _ _ _ _ _ _ _ _ _ _ _ _ e there.outer.half_is there.outer.rest_is there.rests.half_is there.sums.half_is back.w_is back.x_is w1_near x1_near
+  x_near = line_x _ _ _ _ _ _ _ _ _ _ _ _ e there.outer.half_is there.outer.rest_is there.rests.half_is there.sums.half_is back.w_is back.x_is turned.1 x1_near

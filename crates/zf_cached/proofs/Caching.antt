@@ -49,13 +49,10 @@ write_back_line-clean format s l b here = write_back_line_by format s l (λ t. t
 pub write_back_line-other : {Code : Type 0} (format : Format Code) (s : State Code) (l b : ℕ) → (s.held l ≡ Some b → ⊥) →
     ((write_back_line format s l).dirty b ≡ s.dirty b) × ((write_back_line format s l).values b ≡ s.values b) × ((write_back_line format s l).codes b ≡ s.codes b)
 unfolding write_back
-write_back_line-other {Code} format s l b away = write_back_line_by format s l P
+write_back_line-other format s l b away = write_back_line_by format s l (λ t. (t.dirty b ≡ s.dirty b) × (t.values b ≡ s.values b) × (t.codes b ≡ s.codes b))
     (λ a held dirty. let ne : b ≢ a = λ e. away (held ∙ ap Some (sym e)) in
     (with_at-other s.dirty a false b ne, with_at-other s.values a _ b ne, with_at-other s.codes a _ b ne))
     (λ a held clean. (refl, refl, refl)) (λ nothing. (refl, refl, refl))
-  where
-    P : State Code → Type 0
-    P t = (t.dirty b ≡ s.dirty b) × (t.values b ≡ s.values b) × (t.codes b ≡ s.codes b)
 
 -- what a line holds
 pub is_block-true : (o : Option ℕ) (b : ℕ) → is_block o b ≡ true → o ≡ Some b
@@ -73,13 +70,10 @@ is_block-some o b e = ap (λ p. is_block p b) e ∙ eq-eqb b b refl
 pub write_back_line-keeps_clean : {Code : Type 0} (format : Format Code) (s : State Code) (l b : ℕ) → s.dirty b ≡ false →
     ((write_back_line format s l).dirty b ≡ false) × ((write_back_line format s l).values b ≡ s.values b) × ((write_back_line format s l).codes b ≡ s.codes b)
 unfolding write_back
-write_back_line-keeps_clean {Code} format s l b clean = write_back_line_by format s l P
+write_back_line-keeps_clean format s l b clean = write_back_line_by format s l (λ t. (t.dirty b ≡ false) × (t.values b ≡ s.values b) × (t.codes b ≡ s.codes b))
     (λ a held dirty. let ne : b ≢ a = λ e. true_is_not_false (s.dirty a) dirty (sym (ap s.dirty e) ∙ clean) in
     (with_at-other s.dirty a false b ne ∙ clean, with_at-other s.values a _ b ne, with_at-other s.codes a _ b ne))
     (λ a held clean_too. (clean, refl, refl)) (λ nothing. (clean, refl, refl))
-  where
-    P : State Code → Type 0
-    P t = (t.dirty b ≡ false) × (t.values b ≡ s.values b) × (t.codes b ≡ s.codes b)
 
 -- the block in a line that is written back, where it is dirty
 pub write_back_line-rounded : {Code : Type 0} (format : Format Code) (s : State Code) (l b : ℕ) → s.held l ≡ Some b → s.dirty b ≡ true → IsRounded format s (write_back_line format s l) b

@@ -1,7 +1,8 @@
 -- The code of zeros: bits that are all 0 read as a block of zeros.
-use Rattle.std.proofs.Common.{◌≡◌, refl, sym, ap, subst, ◌∙◌, ℕ, zero, suc, ◌-◌, ◌*◌, ◌/◌, ◌%◌, ◌^◌, ◌≤◌, Bool, true, false, ◌==◌, cond, ℤ, pos, negsuc, ◌+ℤ◌, ◌*ℤ◌, List, [], ◌∷◌, map, length, get_or, replicate, reverse, All, arith, rules}
+use Rattle.std.proofs.Common.{◌≡◌, refl, sym, ap, subst, ◌∙◌, ℕ, zero, suc, ◌-◌, ◌*◌, ◌/◌, ◌%◌, ◌^◌, ◌≤◌, false, ◌==◌, cond, ℤ, pos, negsuc, ◌+ℤ◌, ◌*ℤ◌, List, [], ◌∷◌, map, length, get_or, replicate, reverse, All, arith, rules}
 use Rattle.std.{proofs.Math.Path.{fun_ext}, proofs.Math.Nat.{one-le-pow}, specs.Int.{Width, w8, int_wrap}}
-use Rattle.std.{proofs.lemmas.List.{length-replicate, get_or-replicate}, specs.List.{position_or_len}}
+use Rattle.std.{proofs.lemmas.List.{length-replicate, get_or-replicate}, proofs.lemmas.Bool.{cond_both}}
+use Rattle.std.specs.List.{position_or_len}
 use mir.Val.{bits}
 use Rattle.zf_spec.{specs.Numbers.{digits_sum, value_of}, specs.Grid.{upto, places, indices, is_inside}}
 use Rattle.zf_spec.specs.Lift.{unlift_line, line_value, along, along_axes_back, unlift}
@@ -25,15 +26,12 @@ get_or-zeros x k = refl
 
 -- ---- planes of zeros
 
-plane_code-blank : (k : ℕ) → plane_code 0 (replicate (suc k) false) ≡ false ∷ []
-plane_code-blank k = tail-zeros k
-
 reach-blank : (size : ℕ) → reach (replicate size false) ≡ 0
 reach-blank size = reach_none (replicate size false) (has_one-zeros size)
 
 code-blanks : (p k : ℕ) → code_from 0 (replicate p (replicate (suc k) false)) ≡ replicate p false
 code-blanks zero k = refl
-code-blanks (suc p) k = cc (reach-blank (suc k), plane_code-blank k, code-blanks p k)
+code-blanks (suc p) k = cc (reach-blank (suc k), tail-zeros k, code-blanks p k)
 
 begins-blank : (m n : ℕ) → Begins (replicate m false) (replicate n false)
 begins-blank zero n = tt
@@ -106,12 +104,8 @@ existing_values-zeros : (es : List ℕ) (n : ℕ) → existing_values es (zeros 
 unfolding existing_values zeros
 existing_values-zeros es n =
     let same : (λ (p : ℕ). cond (is_inside es (indices (length es) p)) (get_or (zeros (upto n)) p (pos 0)) (pos 0)) ≡ (λ (p : ℕ). pos 0) =
-    fun_ext (λ p. ap (λ v. cond (is_inside es (indices (length es) p)) v (pos 0)) (get_or-zeros (upto n) p) ∙ either (is_inside es (indices (length es) p))) in
+    fun_ext (λ p. ap (λ v. cond (is_inside es (indices (length es) p)) v (pos 0)) (get_or-zeros (upto n) p) ∙ cond_both (is_inside es (indices (length es) p)) (pos 0) (pos 0) (λ v. v ≡ pos 0) (λ yes. refl) (λ no. refl)) in
     ap (λ f. map f (places (length es))) same
-  where
-    either : (t : Bool) → cond t (pos 0) (pos 0) ≡ pos 0
-    either true = refl
-    either false = refl
 
 zeros-replicate : {X : Type 0} (xs : List X) → zeros xs ≡ replicate (length xs) (pos 0)
 unfolding zeros

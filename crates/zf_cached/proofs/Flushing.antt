@@ -1,5 +1,5 @@
 -- What a flush and a discard leave.
-use Rattle.std.proofs.Common.{◌≡◌, refl, sym, ap, ◌∙◌, ℕ, zero, suc, ◌<◌, true, false, Some, ◌⊎◌, inl, inr, arith, rules}
+use Rattle.std.proofs.Common.{◌≡◌, refl, sym, ap, ◌∙◌, ℕ, zero, suc, ◌<◌, true, false, Some, ◌⊎◌, inl, inr, ⊎_elim, arith, rules}
 use Rattle.std.proofs.lemmas.Bool.{cases_eq}
 use Rattle.zf_base.specs.Formats.{Format, meant, encoded, rounded}
 use Rattle.zf_base.proofs.Formats.{with_at-same, with_at-other}
@@ -42,13 +42,10 @@ IsWritten format s t b = (s.dirty b ≡ true) × (t.dirty b ≡ false) × (t.val
 fate : {Code : Type 0} (format : Format Code) (s : State Code) (n b : ℕ) → IsKept s (write_back_lines format s n) b ⊎ IsWritten format s (write_back_lines format s n) b
 unfolding write_back_lines write_back rounded
 fate format s zero b = inl (refl, refl, refl)
-fate {Code} format s (suc n) b = let before = fate format s n b in write_back_line_by format t n P (λ a held dirty. written a dirty (cases_eq b a) before) (λ a held clean. before) (λ nothing. before)
+fate {Code} format s (suc n) b = let before = fate format s n b in write_back_line_by format t n (λ u. IsKept s u b ⊎ IsWritten format s u b) (λ a held dirty. written a dirty (cases_eq b a) before) (λ a held clean. before) (λ nothing. before)
   where
     t : State Code
     t = write_back_lines format s n
-
-    P : State Code → Type 0
-    P u = IsKept s u b ⊎ IsWritten format s u b
 
     written : (a : ℕ) → t.dirty a ≡ true → (b ≡ a) ⊎ (b ≡ a → ⊥) → IsKept s t b ⊎ IsWritten format s t b → IsKept s (write_back format t a) b ⊎ IsWritten format s (write_back format t a) b
     written a dirty (inl e) (inl kept) =
@@ -73,14 +70,7 @@ flush-dirty_codes {Code} format s b cleaned dirty = search (rules, fate, true_is
 pub flush-clean : {Code : Type 0} (format : Format Code) (s : State Code) (b : ℕ) → s.dirty b ≡ false
     → ((flush format s).codes b ≡ s.codes b) × ((flush format s).values b ≡ s.values b)
 unfolding flush emptied
-flush-clean {Code} format s b clean = by (fate format s s.lines b)
-  where
-    t : State Code
-    t = write_back_lines format s s.lines
-
-    by : IsKept s t b ⊎ IsWritten format s t b → (t.codes b ≡ s.codes b) × (t.values b ≡ s.values b)
-    by (inl kept) = (kept.2, kept.1)
-    by (inr was) = true_is_not_false (s.dirty b) was.0 clean
+flush-clean format s b clean = ⊎_elim (λ kept. (kept.2, kept.1)) (λ was. true_is_not_false (s.dirty b) was.0 clean) (fate format s s.lines b)
 
 -- lines with nothing in them are not written back
 nothing_held : {Code : Type 0} (format : Format Code) (s : State Code) (n : ℕ) → write_back_lines format (emptied s) n ≡ emptied s

@@ -1,6 +1,6 @@
 -- The end of a split: each view's dirty blocks are rounded, and all other codes stay.
-use Rattle.std.proofs.Common.{◌≡◌, ◌≢◌, refl, sym, ap, subst, ◌∙◌, ℕ, zero, suc, ◌<◌, ◌≤◌, Bool, true, false, length, ◌⊎◌, inl, inr, arith, rules}
-use Rattle.std.{proofs.lemmas.Bool.{cases_eq}, proofs.lemmas.List.{get_or-set_other}}
+use Rattle.std.proofs.Common.{◌≡◌, ◌≢◌, refl, sym, ap, subst, ◌∙◌, ℕ, zero, suc, ◌<◌, ◌≤◌, true, false, length, ◌⊎◌, inl, inr, arith, rules}
+use Rattle.std.{proofs.lemmas.Bool.{cases_eq, false_from_ne_true}, proofs.lemmas.List.{get_or-set_other}}
 use Rattle.zf_base.specs.Formats.{Format, meant, encoded, rounded}
 use Rattle.zf_cached.{specs.State.{State}, specs.Changes.{flush}, specs.Arrays.{array_format}}
 use Rattle.zf_cached.specs.Placing.{Line, IsPlacing, direct, IsDirect, direct_placing}
@@ -63,11 +63,7 @@ module _ (line : Line) (may_hold : ℕ → ℕ → ℕ → Type 0) (placing : Is
   owner i b lt dirty = let k = h.views i lt in k.held_is_owned _ b (k.dirty_is_here b dirty)
 
   other_clean : (i m b : ℕ) → i < n → m < n → i ≢ m → (seen i).dirty b ≡ true → (seen m).dirty b ≡ false
-  other_clean i m b lt below ne dirty = by ((seen m).dirty b) refl
-    where
-      by : (d : Bool) → (seen m).dirty b ≡ d → (seen m).dirty b ≡ false
-      by false e = e
-      by true e = absurd (one_owner f.blocks n (omega (arith, lt)) i m b ne (owner i b lt dirty) (owner m b below e))
+  other_clean i m b lt below ne dirty = false_from_ne_true ((seen m).dirty b) (λ e. one_owner f.blocks n (omega (arith, lt)) i m b ne (owner i b lt dirty) (owner m b below e))
 
   written : (m : ℕ) → m ≤ n → (i b : ℕ) → i < m → (seen i).dirty b ≡ true → (u m).state.codes b ≡ encoded f b ((seen i).values b)
   written zero most i b lt dirty = absurd (omega (arith, lt))

@@ -35,13 +35,9 @@ number-decimal n small = digits_value-decimal own n small
 first_is_not : (n byte : ℕ) → n < 2 ^ 64 → IsNoDigit byte → (get_or (decimal n) 0 0 == byte) ≡ false
 first_is_not n byte small no_digit = ne_eqb (get_or (decimal n) 0 0) byte (digit_is_not n byte 0 small no_digit (decimal_nonempty n small))
 
-no_minus : IsNoDigit 45
-no_minus r = omega arith
-
-no_plus : IsNoDigit 43
-no_plus r = omega arith
-
 -- a sign and digits say the value
 pub value-signed : (v : ℤ) → is_value v ≡ true → signed_digits_value 10 (signed_decimal v) ≡ v
-value-signed (pos n) small = search (rules, ltb-true, first_is_not, no_minus, no_plus, number-decimal)
+value-signed (pos n) small =
+    let no_minus : IsNoDigit 45 = λ r. omega arith in let no_plus : IsNoDigit 43 = λ r. omega arith in
+    search (rules, ltb-true, first_is_not, number-decimal)
 value-signed (negsuc n) small = rw (number-decimal (suc n) (ltb-true (suc n) _ small)) refl

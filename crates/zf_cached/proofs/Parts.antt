@@ -4,12 +4,9 @@ use Rattle.std.{proofs.lemmas.Bool.{and_parts, ltb-true, leb-true, cases_lt}, pr
 use Rattle.std.proofs.Math.Nat.{div-mul-le_self, mul-le-mul_right}
 use Rattle.zf_cached.{specs.Ownership.{Owns, first_of, count_of}, specs.Splits.{is_owner}}
 
-div_le : (m n k : ℕ) → 0 < k → m ≤ n → m / k ≤ n / k
-div_le m n k some le = le-div (m / k) n k some (omega (arith, le, div-mul-le_self m k))
-
 module _ (n k : ℕ) (some : 0 < k) where
   pub rising : (i j : ℕ) → i ≤ j → first_of n k i ≤ first_of n k j
-  rising i j le = div_le (i * n) (j * n) k some (mul-le-mul_right n le)
+  rising i j le = le-div (i * n / k) (j * n) k some (omega (arith, mul-le-mul_right n le, div-mul-le_self (i * n) k))
 
   pub part_end : (i : ℕ) → first_of n k i + count_of n k i ≡ first_of n k (i + 1)
   part_end i = omega (arith, rising i (i + 1) (omega arith))

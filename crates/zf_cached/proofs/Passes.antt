@@ -1,5 +1,5 @@
 -- A pass over all blocks misses each of them, where each line has two blocks or more.
-use Rattle.std.proofs.Common.{◌≡◌, refl, sym, ap, subst, ◌∙◌, ℕ, zero, suc, ◌+◌, ◌*◌, ◌%◌, ◌<◌, ◌≤◌, Option, Some, ◌⊎◌, inl, inr, mod-lt, mod-eq_of_lt, arith, rules}
+use Rattle.std.proofs.Common.{◌≡◌, refl, sym, ap, subst, ◌∙◌, ℕ, zero, suc, ◌+◌, ◌*◌, ◌%◌, ◌<◌, ◌≤◌, Option, Some, ◌⊎◌, inl, inr, ⊎_elim, mod-lt, mod-eq_of_lt, arith, rules}
 use Rattle.std.{proofs.Math.Nat.{add-mod_right}, proofs.lemmas.Bool.{cases_eq}}
 use Rattle.zf_base.{specs.Formats.{Format, with_at}, proofs.Formats.{with_at-same, with_at-other}}
 use Rattle.zf_cached.{specs.State.{State, risen, most_counted, own_line}, specs.Placing.{direct}}
@@ -21,11 +21,9 @@ underway_more : (n k lines : ℕ) (held : ℕ → Option ℕ) → k < n → IsUn
 underway_more n k lines held below h = record { enough = h.enough; some = h.some; blocks = λ l b e. by l b e (cases_eq l (k % lines)) }
   where
     kept : (l b : ℕ) → (l ≡ k % lines → ⊥) → b % lines ≡ l → ((b < k) × (k ≤ b + lines)) ⊎ ((k ≤ l) × (n ≤ b + lines)) → ((b < suc k) × (suc k ≤ b + lines)) ⊎ ((suc k ≤ l) × (n ≤ b + lines))
-    kept l b ne own (inl x) = inl (let y = x.0 in omega arith, next (cases_eq k (b + lines)))
-      where
-        next : (k ≡ b + lines) ⊎ (k ≡ b + lines → ⊥) → suc k ≤ b + lines
-        next (inl e) = absurd (ne (sym own ∙ sym (add-mod_right b lines) ∙ ap (λ m. m % lines) (sym e)))
-        next (inr other) = let y = x.1 in omega arith
+    kept l b ne own (inl x) =
+        let other : k ≡ b + lines → ⊥ = λ e. ne (sym own ∙ sym (add-mod_right b lines) ∙ ap (λ m. m % lines) (sym e)) in
+        let y = x.0 in let z = x.1 in inl (omega arith, omega arith)
     kept l b ne own (inr x) = search (rules, cases_eq, mod-lt, mod-eq_of_lt)
 
     by : (l b : ℕ) → with_at held (k % lines) (Some k) l ≡ Some b → (l ≡ k % lines) ⊎ (l ≡ k % lines → ⊥) → (b % lines ≡ l) × (((b < suc k) × (suc k ≤ b + lines)) ⊎ ((suc k ≤ l) × (n ≤ b + lines)))
@@ -86,10 +84,6 @@ pass-misses {Code} format s n c h room =
       p.misses,
       record {
         two_for_a_line = subst (λ m. 2 * m ≤ n) (sym p.lines) h.two_for_a_line;
-        last = λ l b e. subst (λ m. n ≤ b + m) (sym p.lines) (ends l b (p.underway.blocks l b e).1);
+        last = λ l b e. subst (λ m. n ≤ b + m) (sym p.lines) (⊎_elim (λ x. x.1) (λ x. x.1) (p.underway.blocks l b e).1);
       },
     )
-  where
-    ends : (l b : ℕ) → ((b < n) × (n ≤ b + s.lines)) ⊎ ((n ≤ l) × (n ≤ b + s.lines)) → n ≤ b + s.lines
-    ends l b (inl x) = x.1
-    ends l b (inr x) = x.1

@@ -1,6 +1,6 @@
 -- Touches, write-backs and changes keep what holds of every state, whatever the placing.
-use Rattle.std.proofs.Common.{◌≡◌, refl, sym, ap, subst, ◌∙◌, ℕ, zero, suc, ◌+◌, ◌<◌, ◌≤◌, min, ℤ, Bool, true, false, List, Option, Some, None, ◌⊎◌, inl, inr, arith}
-use Rattle.std.proofs.lemmas.Bool.{cases_eq}
+use Rattle.std.proofs.Common.{◌≡◌, refl, sym, ap, subst, ◌∙◌, ℕ, zero, suc, ◌+◌, ◌<◌, ◌≤◌, min, ℤ, Bool, true, false, List, Option, Some, None, arith, rules}
+use Rattle.std.proofs.lemmas.Bool.{false_from_ne_true}
 use Rattle.zf_base.specs.Formats.{Format, existing_of, meant, encoded, with_at}
 use Rattle.zf_base.proofs.Formats.{with_at-same, with_at-other, existing_of-meant}
 use Rattle.zf_cached.{specs.State.{State, most_counted}, specs.Fates.{IsLeft, IsRounded}}
@@ -9,7 +9,7 @@ use Rattle.zf_cached.specs.Changes.{write_back_lines, emptied, flush, discard, r
 use Rattle.zf_cached.{specs.Unwritten.{holds_dirty, dirty_lines}, specs.Placing.{Line, IsPlacing, line_in}}
 use Rattle.zf_cached.specs.Consistency.{IsConsistent, IsEmpty}
 use Rattle.zf_cached.proofs.Caching.{true_is_not_false, at_change, is_block-true, is_block-false, write_back_line_by, write_back_line-lines, write_back_line-held, write_back_line-clean, write_back_line-other, touch_by, touch-here}
-use Rattle.zf_cached.proofs.Flushing.{write_back_lines-lines, write_back_lines-held, write_back_lines-clean, flush-dirty_codes, flush-clean, discard-values_by}
+use Rattle.zf_cached.proofs.Flushing.{write_back_lines-lines, write_back_lines-held, write_back_lines-clean, flush-dirty_codes, flush-clean, discard-empty, discard-values_by}
 
 -- ---- a touch, by whether the block is in its line
 
@@ -51,14 +51,7 @@ module _ (line : Line) (may_hold : ℕ → ℕ → ℕ → Type 0) (placing : Is
     -- what is changed of blocks alone, and not of what the lines hold
     pub hit-consistent : (format : Format Code) (s : State Code) → IsConsistent line owned format s → IsConsistent line owned format (hit s)
     unfolding hit
-    hit-consistent format s h = record {
-      some_line = h.some_line;
-      in_its_line = h.in_its_line;
-      held_is_owned = h.held_is_owned;
-      dirty_is_here = h.dirty_is_here;
-      clean_is_coded = h.clean_is_coded;
-      whole = h.whole;
-    }
+    hit-consistent format s h = search rules
 
     pub write_back-consistent : (format : Format Code) (s : State Code) (b : ℕ) → IsConsistent line owned format s → IsConsistent line owned format (write_back format s b)
     unfolding write_back
@@ -68,7 +61,9 @@ module _ (line : Line) (may_hold : ℕ → ℕ → ℕ → Type 0) (placing : Is
       held_is_owned = h.held_is_owned;
       dirty_is_here = λ n. at_change (λ m d. d ≡ true → s.held (line_in line (write_back format s b) m) ≡ Some m) s.dirty b false n (λ e. absurd (cc))
           (λ ne dirty. here_again s (write_back format s b) refl found n (h.dirty_is_here n dirty));
-      clean_is_coded = λ n own. by n own (cases_eq n b);
+      clean_is_coded = λ n own. at_change (λ m d. d ≡ false → with_at s.values b (meant format b code) m ≡ meant format m (with_at s.codes b code m)) s.dirty b false n
+          (λ clean. with_at-same s.values b _ ∙ ap (meant format b) (sym (with_at-same s.codes b code)))
+          (λ ne clean. with_at-other s.values b _ n ne ∙ h.clean_is_coded n own clean ∙ ap (meant format n) (sym (with_at-other s.codes b code n ne)));
       whole = λ n own. at_change (λ m values. existing_of format m values ≡ values) s.values b (meant format b code) n (existing_of-meant format b code) (λ ne. h.whole n own);
     }
       where
@@ -77,13 +72,6 @@ module _ (line : Line) (may_hold : ℕ → ℕ → ℕ → Type 0) (placing : Is
 
         found : IsFound (write_back format s b)
         found = found_again s (write_back format s b) refl refl h.in_its_line
-
-        by : (n : ℕ) → owned n ≡ true → (n ≡ b) ⊎ (n ≡ b → ⊥) → with_at s.dirty b false n ≡ false → with_at s.values b (meant format b code) n ≡ meant format n (with_at s.codes b code n)
-        by n own (inl e) clean =
-            subst (λ m. with_at s.values b (meant format b code) m ≡ meant format m (with_at s.codes b code m)) (sym e)
-            (with_at-same s.values b (meant format b code) ∙ ap (meant format b) (sym (with_at-same s.codes b code)))
-        by n own (inr ne) clean =
-            with_at-other s.values b (meant format b code) n ne ∙ h.clean_is_coded n own (sym (with_at-other s.dirty b false n ne) ∙ clean) ∙ ap (meant format n) (sym (with_at-other s.codes b code n ne))
 
     pub write_back_line-consistent : (format : Format Code) (s : State Code) (m : ℕ) → IsConsistent line owned format s → IsConsistent line owned format (write_back_line format s m)
     write_back_line-consistent format s m h =
@@ -95,65 +83,47 @@ module _ (line : Line) (may_hold : ℕ → ℕ → ℕ → Type 0) (placing : Is
     miss-consistent format s b own away h = record {
       some_line = k.some_line;
       in_its_line = found;
-      held_is_owned = λ m n is. owns m n is (cases_eq m (line_in line s b));
-      dirty_is_here = λ n dirty. let j = line_in line t n in let there = stays n j dirty (k.dirty_is_here n dirty) (cases_eq j (line_in line s b)) in ap u.held (found j n there) ∙ there;
+      held_is_owned = λ m n. at_change (λ j o. o ≡ Some n → owned n ≡ true) t.held l (Some b) m (λ e. let same : b ≡ n = cc in subst (λ a. owned a ≡ true) same own) (λ ne. k.held_is_owned m n);
+      dirty_is_here = λ n dirty. let j = line_in line t n in let there = stays n j dirty (k.dirty_is_here n dirty) in ap u.held (found j n there) ∙ there;
       clean_is_coded = k.clean_is_coded;
       whole = k.whole;
     }
       where
+        l : ℕ
+        l = line_in line s b
+
         t : State Code
-        t = write_back_line format s (line_in line s b)
+        t = write_back_line format s l
 
         u : State Code
-        u = miss format s (line_in line s b) b
+        u = miss format s l b
 
-        k : IsConsistent line owned format (write_back_line format s (line_in line s b))
-        k = write_back_line-consistent format s (line_in line s b) h
+        k : IsConsistent line owned format t
+        k = write_back_line-consistent format s l h
 
-        held_before : (m n : ℕ) → (write_back_line format s (line_in line s b)).held m ≡ Some n → s.held m ≡ Some n
-        held_before m n e = sym (ap (λ f. f m) (write_back_line-held format s (line_in line s b))) ∙ e
+        held_before : (m n : ℕ) → t.held m ≡ Some n → s.held m ≡ Some n
+        held_before m n e = sym (ap (λ f. f m) (write_back_line-held format s l)) ∙ e
 
-        nowhere : (m : ℕ) → (write_back_line format s (line_in line s b)).held m ≡ Some b → ⊥
+        nowhere : (m : ℕ) → t.held m ≡ Some b → ⊥
         nowhere m e = let was = held_before m b e in away (ap s.held (h.in_its_line m b was) ∙ was)
 
-        taken : (n : ℕ) → with_at (write_back_line format s (line_in line s b)).held (line_in line s b) (Some b) (line_in line s b) ≡ Some n → b ≡ n
-        taken n e = let both : Some b ≡ Some n = sym (with_at-same (write_back_line format s (line_in line s b)).held (line_in line s b) (Some b)) ∙ e in cc
+        may_take : (m n : ℕ) → with_at t.held l (Some b) m ≡ Some n → may_hold t.lines n m
+        may_take m n = at_change (λ j o. o ≡ Some n → may_hold t.lines n j) t.held l (Some b) m
+            (λ e. let same : b ≡ n = cc in subst (λ a. may_hold t.lines a l) same (subst (λ i. may_hold i b l) (sym (write_back_line-lines format s l)) (placing.allowed s.lines s.held s.dirty b)))
+            (λ ne. may t k.in_its_line m n)
 
-        before : (m n : ℕ) → (m ≡ line_in line s b → ⊥) → with_at (write_back_line format s (line_in line s b)).held (line_in line s b) (Some b) m ≡ Some n → (write_back_line format s (line_in line s b)).held m ≡ Some n
-        before m n ne e = sym (with_at-other (write_back_line format s (line_in line s b)).held (line_in line s b) (Some b) m ne) ∙ e
+        only : (m n j : ℕ) → with_at t.held l (Some b) m ≡ Some n → with_at t.held l (Some b) j ≡ Some n → j ≡ m
+        only m n j = at_change (λ i o. o ≡ Some n → with_at t.held l (Some b) j ≡ Some n → j ≡ i) t.held l (Some b) m
+            (λ e. at_change (λ i o. o ≡ Some n → i ≡ l) t.held l (Some b) j (λ there. refl) (λ ne there. absurd (nowhere j (there ∙ sym e))))
+            (λ ne is. at_change (λ i o. o ≡ Some n → i ≡ m) t.held l (Some b) j (λ e. absurd (nowhere m (is ∙ sym e))) (λ other there. once t k.in_its_line m j n is there))
 
-        owns : (m n : ℕ) → with_at (write_back_line format s (line_in line s b)).held (line_in line s b) (Some b) m ≡ Some n → (m ≡ line_in line s b) ⊎ (m ≡ line_in line s b → ⊥) → owned n ≡ true
-        owns m n is (inl e) = subst (λ a. owned a ≡ true) (taken n (ap (with_at (write_back_line format s (line_in line s b)).held (line_in line s b) (Some b)) (sym e) ∙ is)) own
-        owns m n is (inr ne) = k.held_is_owned m n (before m n ne is)
+        found : IsFound u
+        found m n is = placing.found u.lines u.held u.dirty n m (may_take m n is) is (λ j there. only m n j is there)
 
-        only_taken : (n j : ℕ) → b ≡ n → with_at (write_back_line format s (line_in line s b)).held (line_in line s b) (Some b) j ≡ Some n → (j ≡ line_in line s b) ⊎ (j ≡ line_in line s b → ⊥) → j ≡ line_in line s b
-        only_taken n j same there (inl e) = e
-        only_taken n j same there (inr ne) = absurd (nowhere j (before j n ne there ∙ ap Some (sym same)))
-
-        only_other : (m n j : ℕ) → (write_back_line format s (line_in line s b)).held m ≡ Some n → with_at (write_back_line format s (line_in line s b)).held (line_in line s b) (Some b) j ≡ Some n
-            → (j ≡ line_in line s b) ⊎ (j ≡ line_in line s b → ⊥) → j ≡ m
-        only_other m n j is there (inl e) =
-            let same : b ≡ n = taken n (ap (with_at (write_back_line format s (line_in line s b)).held (line_in line s b) (Some b)) (sym e) ∙ there) in
-            absurd (nowhere m (is ∙ ap Some (sym same)))
-        only_other m n j is there (inr ne) = once (write_back_line format s (line_in line s b)) k.in_its_line m j n is (before j n ne there)
-
-        found : IsFound (miss format s (line_in line s b) b)
-        found m n is = elim (cases_eq m (line_in line s b)) [
-          | inl e ↦
-              let same : b ≡ n = taken n (ap (with_at (write_back_line format s (line_in line s b)).held (line_in line s b) (Some b)) (sym e) ∙ is) in
-              placing.found u.lines u.held u.dirty n m
-              (subst (may_hold u.lines n) (sym e) (subst (λ a. may_hold u.lines a (line_in line s b)) same (subst (λ i. may_hold i b (line_in line s b)) (sym (write_back_line-lines format s (line_in line s b))) (placing.allowed s.lines s.held s.dirty b))))
-              is (λ j there. only_taken n j same there (cases_eq j (line_in line s b)) ∙ sym e)
-          | inr ne ↦
-              let was = before m n ne is in
-              placing.found u.lines u.held u.dirty n m (may (write_back_line format s (line_in line s b)) k.in_its_line m n was) is (λ j there. only_other m n j was there (cases_eq j (line_in line s b)))
-        ]
-
-        stays : (n j : ℕ) → (write_back_line format s (line_in line s b)).dirty n ≡ true → (write_back_line format s (line_in line s b)).held j ≡ Some n → (j ≡ line_in line s b) ⊎ (j ≡ line_in line s b → ⊥)
-            → with_at (write_back_line format s (line_in line s b)).held (line_in line s b) (Some b) j ≡ Some n
-        stays n j dirty is (inl e) =
-            true_is_not_false ((write_back_line format s (line_in line s b)).dirty n) dirty (write_back_line-clean format s (line_in line s b) n (ap s.held (sym e) ∙ held_before j n is))
-        stays n j dirty is (inr ne) = with_at-other (write_back_line format s (line_in line s b)).held (line_in line s b) (Some b) j ne ∙ is
+        -- a dirty block was not in this line
+        stays : (n j : ℕ) → t.dirty n ≡ true → t.held j ≡ Some n → with_at t.held l (Some b) j ≡ Some n
+        stays n j dirty = at_change (λ i o. t.held i ≡ Some n → o ≡ Some n) t.held l (Some b) j
+            (λ is. true_is_not_false (t.dirty n) dirty (write_back_line-clean format s l n (held_before l n is))) (λ ne is. is)
 
     pub touch-consistent : (format : Format Code) (s : State Code) (b : ℕ) → owned b ≡ true → IsConsistent line owned format s → IsConsistent line owned format (touch_at line format s b)
     touch-consistent format s b own h = touch_at_by line format s b (IsConsistent line owned format) (λ here. hit-consistent format s h) (λ away. miss-consistent format s b own away h)
@@ -166,18 +136,14 @@ module _ (line : Line) (may_hold : ℕ → ℕ → ℕ → Type 0) (placing : Is
 
     pub soiled-consistent : (format : Format Code) (s : State Code) (b : ℕ) → s.held (line_in line s b) ≡ Some b → IsConsistent line owned format s → IsConsistent line owned format (soiled s b)
     unfolding soiled
-    soiled-consistent format s b here h = record {
-      some_line = h.some_line;
-      in_its_line = found;
-      held_is_owned = h.held_is_owned;
-      dirty_is_here = λ n. at_change (λ m d. d ≡ true → s.held (line_in line (soiled s b) m) ≡ Some m) s.dirty b true n (λ e. here_again s (soiled s b) refl found b here)
-          (λ ne dirty. here_again s (soiled s b) refl found n (h.dirty_is_here n dirty));
-      clean_is_coded = λ n own. at_change (λ m d. d ≡ false → s.values m ≡ meant format m (s.codes m)) s.dirty b true n (λ e. absurd (cc)) (λ ne. h.clean_is_coded n own);
-      whole = h.whole;
-    }
-      where
-        found : IsFound (soiled s b)
-        found = found_again s (soiled s b) refl refl h.in_its_line
+    soiled-consistent format s b here h =
+        let found : IsFound (soiled s b) = found_again s (soiled s b) refl refl h.in_its_line in
+        let at_home : (n : ℕ) → with_at s.dirty b true n ≡ true → s.held (line_in line (soiled s b) n) ≡ Some n =
+        λ n. at_change (λ m d. d ≡ true → s.held (line_in line (soiled s b) m) ≡ Some m) s.dirty b true n (λ e. here_again s (soiled s b) refl found b here)
+        (λ ne dirty. here_again s (soiled s b) refl found n (h.dirty_is_here n dirty)) in
+        let coded : (n : ℕ) → owned n ≡ true → with_at s.dirty b true n ≡ false → s.values n ≡ meant format n (s.codes n) =
+        λ n own. at_change (λ m d. d ≡ false → s.values m ≡ meant format m (s.codes m)) s.dirty b true n (λ e. absurd (cc)) (λ ne. h.clean_is_coded n own) in
+        search rules
 
     pub touch_for_writing-consistent : (format : Format Code) (s : State Code) (b : ℕ) → owned b ≡ true → IsConsistent line owned format s → IsConsistent line owned format (touch_for_writing_at line format s b)
     unfolding touch_for_writing_at
@@ -186,16 +152,25 @@ module _ (line : Line) (may_hold : ℕ → ℕ → ℕ → Type 0) (placing : Is
 
     pub with_values-consistent : (format : Format Code) (s : State Code) (b : ℕ) (values : List ℤ) → s.dirty b ≡ true → existing_of format b values ≡ values → IsConsistent line owned format s → IsConsistent line owned format (with_values s b values)
     unfolding with_values
-    with_values-consistent format s b values dirty whole h = record {
-      some_line = h.some_line;
-      in_its_line = h.in_its_line;
-      held_is_owned = h.held_is_owned;
-      dirty_is_here = h.dirty_is_here;
-      clean_is_coded = λ n own. at_change (λ m vs. s.dirty m ≡ false → vs ≡ meant format m (s.codes m)) s.values b values n (λ clean. true_is_not_false (s.dirty b) dirty clean) (λ ne. h.clean_is_coded n own);
-      whole = λ n own. at_change (λ m vs. existing_of format m vs ≡ vs) s.values b values n whole (λ ne. h.whole n own);
-    }
+    with_values-consistent format s b values dirty whole h =
+        let coded : (n : ℕ) → owned n ≡ true → s.dirty n ≡ false → with_at s.values b values n ≡ meant format n (s.codes n) =
+        λ n own. at_change (λ m vs. s.dirty m ≡ false → vs ≡ meant format m (s.codes m)) s.values b values n (λ clean. true_is_not_false (s.dirty b) dirty clean) (λ ne. h.clean_is_coded n own) in
+        let all : (n : ℕ) → owned n ≡ true → existing_of format n (with_at s.values b values n) ≡ with_at s.values b values n =
+        λ n own. at_change (λ m vs. existing_of format m vs ≡ vs) s.values b values n whole (λ ne. h.whole n own) in
+        search rules
 
     -- ---- changes of a whole array
+
+    -- nothing is in any line, and each block has the values that its code means
+    pub empty-consistent : (format : Format Code) (t : State Code) → 1 ≤ t.lines → IsEmpty t → ((b : ℕ) → owned b ≡ true → t.values b ≡ meant format b (t.codes b)) → IsConsistent line owned format t
+    empty-consistent format t some e coded = record {
+      some_line = some;
+      in_its_line = λ m b held. absurd (e.none_held m b held);
+      held_is_owned = λ m b held. absurd (e.none_held m b held);
+      dirty_is_here = λ b dirty. true_is_not_false (t.dirty b) dirty (e.none_dirty b);
+      clean_is_coded = λ b own clean. coded b own;
+      whole = λ b own. subst (λ vs. existing_of format b vs ≡ vs) (sym (coded b own)) (existing_of-meant format b (t.codes b));
+    }
 
     write_back_lines-consistent : (format : Format Code) (s : State Code) (n : ℕ) → IsConsistent line owned format s → IsConsistent line owned format (write_back_lines format s n)
     unfolding write_back_lines
@@ -204,16 +179,12 @@ module _ (line : Line) (may_hold : ℕ → ℕ → ℕ → Type 0) (placing : Is
 
     -- no block is dirty once all lines are written back
     all_clean : (format : Format Code) (s : State Code) → IsConsistent line owned format s → (b : ℕ) → (write_back_lines format s s.lines).dirty b ≡ false
-    all_clean format s h b = by ((write_back_lines format s s.lines).dirty b) refl
-      where
-        by : (d : Bool) → (write_back_lines format s s.lines).dirty b ≡ d → (write_back_lines format s s.lines).dirty b ≡ false
-        by false e = e
-        by true e =
-            let t = write_back_lines format s s.lines in
-            let k = write_back_lines-consistent format s s.lines h in
-            let j = line_in line t b in
-            let below : j < s.lines = subst (λ n. j < n) (write_back_lines-lines format s s.lines) (placing.inside t.lines t.held t.dirty b (omega (arith, k.some_line))) in
-            write_back_lines-clean format s s.lines j b below (sym (ap (λ f. f j) (write_back_lines-held format s s.lines)) ∙ k.dirty_is_here b e)
+    all_clean format s h b =
+        let t = write_back_lines format s s.lines in
+        let k = write_back_lines-consistent format s s.lines h in
+        let j = line_in line t b in
+        let below : j < s.lines = subst (λ n. j < n) (write_back_lines-lines format s s.lines) (placing.inside t.lines t.held t.dirty b (omega (arith, k.some_line))) in
+        false_from_ne_true (t.dirty b) (λ e. true_is_not_false (t.dirty b) e (write_back_lines-clean format s s.lines j b below (sym (ap (λ f. f j) (write_back_lines-held format s s.lines)) ∙ k.dirty_is_here b e)))
 
     -- what is in none of the first n lines is not made clean by writing these back
     lines-other : (format : Format Code) (s : State Code) (n b : ℕ) → ((m : ℕ) → m < n → s.held m ≡ Some b → ⊥) → (write_back_lines format s n).dirty b ≡ s.dirty b
@@ -265,42 +236,21 @@ module _ (line : Line) (may_hold : ℕ → ℕ → ℕ → Type 0) (placing : Is
     unfolding flush emptied
     flush-consistent format s h =
         let k = write_back_lines-consistent format s s.lines h in
-        record {
-          some_line = k.some_line;
-          in_its_line = λ m b e. absurd (cc);
-          held_is_owned = λ m b e. absurd (cc);
-          dirty_is_here = λ b dirty. true_is_not_false ((write_back_lines format s s.lines).dirty b) dirty (all_clean format s h b);
-          clean_is_coded = k.clean_is_coded;
-          whole = k.whole;
-        }
+        empty-consistent format (flush format s) k.some_line (flush-empty format s h) (λ b own. k.clean_is_coded b own (all_clean format s h b))
 
     pub discard-values : (format : Format Code) (s : State Code) (b : ℕ) → owned b ≡ true → IsConsistent line owned format s → (discard format s).values b ≡ meant format b (s.codes b)
     discard-values format s b own h = discard-values_by format s b (h.clean_is_coded b own)
 
     pub discard-consistent : (format : Format Code) (s : State Code) → IsConsistent line owned format s → IsConsistent line owned format (discard format s)
     unfolding discard
-    discard-consistent format s h = record {
-      some_line = h.some_line;
-      in_its_line = λ m b e. absurd (cc);
-      held_is_owned = λ m b e. absurd (cc);
-      dirty_is_here = λ b e. absurd (cc);
-      clean_is_coded = λ b own e. discard-values format s b own h;
-      whole = λ b own. subst (λ vs. existing_of format b vs ≡ vs) (sym (discard-values format s b own h)) (existing_of-meant format b (s.codes b));
-    }
+    discard-consistent format s h = empty-consistent format (discard format s) h.some_line (discard-empty format s) (λ b own. discard-values format s b own h)
 
     pub relined-consistent : (format : Format Code) (s : State Code) (lines : ℕ) → 1 ≤ lines → IsConsistent line owned format s → IsConsistent line owned format (relined format s lines)
     unfolding relined
     relined-consistent format s lines some h =
         let e = flush-empty format s h in
-        let k = flush-consistent format s h in
-        record {
-          some_line = some;
-          in_its_line = λ m b held. absurd (e.none_held m b held);
-          held_is_owned = λ m b held. absurd (e.none_held m b held);
-          dirty_is_here = λ b dirty. true_is_not_false ((flush format s).dirty b) dirty (e.none_dirty b);
-          clean_is_coded = k.clean_is_coded;
-          whole = k.whole;
-        }
+        empty-consistent format (relined format s lines) some (record { none_dirty = e.none_dirty; none_held = e.none_held })
+        (λ b own. (flush-consistent format s h).clean_is_coded b own (e.none_dirty b))
 
     -- a dirty block has the code of its values after a flush, and what this code means
     pub flush-rounded : (format : Format Code) (s : State Code) (b : ℕ) → IsConsistent line owned format s → s.dirty b ≡ true → IsRounded format s (flush format s) b
@@ -316,23 +266,11 @@ module _ (line : Line) (may_hold : ℕ → ℕ → ℕ → Type 0) (placing : Is
 
   pub opened-consistent : (owned : ℕ → Bool) (format : Format Code) (codes : ℕ → Code) (lines : ℕ) → 1 ≤ lines → IsConsistent line owned format (opened format codes lines)
   unfolding opened
-  opened-consistent owned format codes lines some = record {
-    some_line = some;
-    in_its_line = λ m b e. absurd (cc);
-    held_is_owned = λ m b e. absurd (cc);
-    dirty_is_here = λ b e. absurd (cc);
-    clean_is_coded = λ b own e. refl;
-    whole = λ b own. existing_of-meant format b (codes b);
-  }
+  opened-consistent owned format codes lines some =
+      empty-consistent owned format (opened format codes lines) some (record { none_dirty = λ b. refl; none_held = λ m b e. absurd (cc) }) (λ b own. refl)
 
   -- where the code of zeros means zeros
   pub resized-consistent : (owned : ℕ → Bool) (format new : Format Code) (code : Code) (s : State Code) → ((b : ℕ) → meant new b code ≡ zeros new) → IsConsistent line owned format s → IsConsistent line owned new (resized new code s)
   unfolding resized
-  resized-consistent owned format new code s means h = record {
-    some_line = h.some_line;
-    in_its_line = λ m b e. absurd (cc);
-    held_is_owned = λ m b e. absurd (cc);
-    dirty_is_here = λ b e. absurd (cc);
-    clean_is_coded = λ b own e. sym (means b);
-    whole = λ b own. subst (λ vs. existing_of new b vs ≡ vs) (means b) (existing_of-meant new b code);
-  }
+  resized-consistent owned format new code s means h =
+      empty-consistent owned new (resized new code s) h.some_line (record { none_dirty = λ b. refl; none_held = λ m b e. absurd (cc) }) (λ b own. sym (means b))

@@ -1,5 +1,5 @@
 -- The least power of two that passes a test.
-use Rattle.std.proofs.Common.{◌≡◌, refl, ap, ◌∙◌, ℕ, zero, suc, ◌+◌, ◌*◌, ◌^◌, ◌≤◌, Bool, true, false, ◌⊎◌, inl, inr, pow-suc, leb, leb-true, le-leb, arith}
+use Rattle.std.proofs.Common.{◌≡◌, refl, ap, ◌∙◌, ℕ, zero, suc, ◌+◌, ◌*◌, ◌^◌, ◌≤◌, Bool, true, false, ⊎_elim, pow-suc, leb, leb-true, le-leb, arith}
 use Rattle.std.{proofs.Math.Pow.{pow_mono, pow_pos}, proofs.lemmas.Bool.{cases_eq}}
 use Rattle.zf_cached.specs.Changes.{first_doubled, raised, default_lines}
 use Rattle.zf_cached.proofs.Caching.{true_is_not_false}
@@ -21,11 +21,10 @@ first_doubled-passes test (suc n) m last =
 -- and none before it does
 first_doubled-least : (test : ℕ → Bool) (n m j : ℕ) → m ≤ j → test (2 ^ j) ≡ true → first_doubled test n (2 ^ m) ≤ 2 ^ j
 first_doubled-least test zero m j from passes = pow_mono from
-first_doubled-least test (suc n) m j from passes = by (cases_eq m j) (λ h. first_doubled-least test n (suc m) j h passes)
-  where
-    by : (m ≡ j) ⊎ (m ≡ j → ⊥) → (suc m ≤ j → first_doubled test n (2 ^ suc m) ≤ 2 ^ j) → first_doubled test (suc n) (2 ^ m) ≤ 2 ^ j
-    by (inl e) rest = by_test test n m (λ q. q ≤ 2 ^ j) (λ t. pow_mono from) (λ f. true_is_not_false (test (2 ^ m)) (ap (λ k. test (2 ^ k)) e ∙ passes) f)
-    by (inr ne) rest = by_test test n m (λ q. q ≤ 2 ^ j) (λ t. pow_mono from) (λ f. rest (omega arith))
+first_doubled-least test (suc n) m j from passes = by_test test n m (λ q. q ≤ 2 ^ j) (λ t. pow_mono from) (λ f. ⊎_elim
+    (λ e. true_is_not_false (test (2 ^ m)) (ap (λ k. test (2 ^ k)) e ∙ passes) f)
+    (λ ne. first_doubled-least test n (suc m) j (omega arith) passes)
+    (cases_eq m j))
 
 -- ---- the numbers of lines
 

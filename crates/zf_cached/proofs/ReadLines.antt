@@ -1,23 +1,17 @@
 -- The words of a command, and the only command that a line is read as.
-use Rattle.std.proofs.Common.{◌≡◌, ℕ, zero, suc, ◌<◌, ◌≤◌, ℤ, List, [], ◌∷◌, length, get_or, take, Bool, true, false, not, ◌&&◌, ◌==◌, ◌↔◌, Option, Some, None, IsTrue, find, bytes_eq, refl, ap, sym, ◌∙◌, subst, arith, lit<, codes, decimal}
+use Rattle.std.proofs.Common.{◌≡◌, ℕ, zero, suc, ◌<◌, ◌≤◌, ℤ, List, [], ◌∷◌, length, get_or, take, Bool, true, false, not, ◌&&◌, ◌==◌, ◌↔◌, Option, Some, None, IsTrue, find, bytes_eq, refl, ap, sym, ◌∙◌, subst, arith, rules, lit<, codes, decimal}
 use Rattle.std.{specs.Fmt.{signed_decimal}, specs.Str.Parse.{digits_value, signed_digits_value}}
 use Rattle.std.{specs.List.{AllByRecursion, list_all}, proofs.lemmas.Slice.Eq.{bytes_eq-Decides}}
-use Rattle.std.proofs.lemmas.Bool.{eqb-true, ltb-true, leb-true, not-true, and_parts, and_from, cond-true, cond-false, cond_both}
+use Rattle.std.proofs.lemmas.Bool.{false_from_ne_true, eqb-true, ltb-true, leb-true, not-true, and_parts, and_from, cond-true, cond-false, cond_both}
 use Rattle.std.proofs.lemmas.List.Elements.{All-nil, All-cons}
 use Rattle.zf_cached.specs.Commands.{Command}
 use Rattle.zf_cached.specs.Grammar.{IsNoDigit, space, comma, letter_x, numbers_text, view_word, words_of, line_of, is_number, is_value, has_axes, has_sizes, is_writable, cut_at, numbers_in, candidates, is_line, read_line}
 use Rattle.zf_cached.proofs.Numerals.{HasNo, HasNo-decimal, HasNo-signed, number-decimal, value-signed}
 use Rattle.zf_cached.proofs.Cutting.{cut_at-joined, HasNo-numbers, numbers_in-numbers_text}
 
--- ---- the separators are no digits
+-- ---- a space is no digit
 pub no_space : IsNoDigit space
 no_space r = omega arith
-
-pub no_comma : IsNoDigit comma
-no_comma r = omega arith
-
-pub no_letter_x : IsNoDigit letter_x
-no_letter_x r = omega arith
 
 -- ---- what the tests say
 -- one number for each axis
@@ -63,37 +57,7 @@ position_and_value_no_space d p v ok =
 
 words_no_space : (d : ℕ) (c : Command) → is_writable d c ≡ true → AllByRecursion (HasNo space) (words_of c)
 words_no_space d (Command.get p) ok = (letters (codes "get") refl, (position_no_space d p ok, tt))
-words_no_space d (Command.set p v) ok = (letters (codes "set") refl, position_and_value_no_space d p v ok)
-words_no_space d (Command.add p v) ok = (letters (codes "add") refl, position_and_value_no_space d p v ok)
-words_no_space d (Command.fill v) ok = (letters (codes "fill") refl, (value_no_space v ok, tt))
-words_no_space d (Command.view p s t) ok =
-    let parts = and_parts (has_axes d p) _ ok in
-    let more = and_parts (has_axes d s) (has_axes d t) parts.1 in
-    (letters (codes "view") refl, (position_no_space d p parts.0, (sizes_no_space s (axes-parts d s more.0).1, (position_no_space d t more.1, tt))))
-words_no_space d (Command.slice a i) ok =
-    let parts = and_parts (is_number a) (is_number i) ok in
-    (letters (codes "slice") refl, (number_no_space a parts.0, (number_no_space i parts.1, tt)))
-words_no_space d (Command.vget p) ok = (letters (codes "vget") refl, (position_no_space d p ok, tt))
-words_no_space d (Command.vset p v) ok = (letters (codes "vset") refl, position_and_value_no_space d p v ok)
-words_no_space d (Command.lines l) ok = (letters (codes "lines") refl, (number_no_space l ok, tt))
-words_no_space d (Command.resize s) ok = (letters (codes "resize") refl, (sizes_no_space s (sizes-parts s ok).2, tt))
-words_no_space d (Command.split n l) ok =
-    let parts = and_parts (is_number n) (is_number l) ok in
-    (letters (codes "split") refl, (number_no_space n parts.0, (number_no_space l parts.1, tt)))
-words_no_space d (Command.pget i p) ok =
-    let parts = and_parts (is_number i) (has_axes d p) ok in
-    (view_no_space i parts.0, (letters (codes "get") refl, (position_no_space d p parts.1, tt)))
-words_no_space d (Command.pset i p v) ok =
-    let parts = and_parts (is_number i) (has_axes d p && is_value v) ok in
-    (view_no_space i parts.0, (letters (codes "set") refl, position_and_value_no_space d p v parts.1))
-words_no_space d (Command.padd i p v) ok =
-    let parts = and_parts (is_number i) (has_axes d p && is_value v) ok in
-    (view_no_space i parts.0, (letters (codes "add") refl, position_and_value_no_space d p v parts.1))
-words_no_space d (Command.pflush i) ok = (view_no_space i ok, (letters (codes "flush") refl, tt))
-words_no_space d (Command.pdiscard i) ok = (view_no_space i ok, (letters (codes "discard") refl, tt))
-words_no_space d (Command.pstats i) ok = (view_no_space i ok, (letters (codes "stats") refl, tt))
--- a command of one word
-words_no_space d c ok = (letters (get_or (words_of c) 0 []) refl, tt)
+words_no_space d c ok = search (rules, letters, and_parts, axes-parts, sizes-parts, position_no_space, sizes_no_space, value_no_space, number_no_space, view_no_space, position_and_value_no_space)
 
 some_word : (c : Command) → 1 ≤ length (words_of c)
 some_word (Command.get p) = omega arith
@@ -111,22 +75,19 @@ found_at test (x ∷ cs) (suc k) c others lt same passes =
     let parts = and_parts (not (test x)) (list_all (λ other. not (test other)) (take k cs)) others in
     cond-false (test x) (Some x) (find test cs) (not-true (test x) parts.0) ∙ found_at test cs k c parts.1 (omega arith) same passes
 
--- a command's own text is it
-own_line : (d : ℕ) (c : Command) → is_writable d c ≡ true → is_line d (line_of c) c ≡ true
-own_line d c ok = and_from (bytes_eq (line_of c) (line_of c)) (is_writable d c) ((bytes_eq-Decides (line_of c) (line_of c)).1 refl) ok
-
 position_back : (d : ℕ) (p : List ℕ) → 1 ≤ d → has_axes d p ≡ true → numbers_in comma (numbers_text comma p) ≡ p
 position_back d p some ok =
     let parts = axes-parts d p ok in
-    numbers_in-numbers_text comma p (omega arith) parts.1 no_comma
+    numbers_in-numbers_text comma p (omega arith) parts.1 (λ r. omega arith)
 
 sizes_back : (s : List ℕ) → 1 ≤ length s → list_all is_number s ≡ true → numbers_in letter_x (numbers_text letter_x s) ≡ s
-sizes_back s some small = numbers_in-numbers_text letter_x s some small no_letter_x
+sizes_back s some small = numbers_in-numbers_text letter_x s some small (λ r. omega arith)
 
-position_and_value_back : (d : ℕ) (p : List ℕ) (v : ℤ) → 1 ≤ d → (has_axes d p && is_value v) ≡ true → (numbers_in comma (numbers_text comma p) ≡ p) × (signed_digits_value 10 (signed_decimal v) ≡ v)
-position_and_value_back d p v some ok =
+position_and_value_back : (make : List ℕ → ℤ → Command) (d : ℕ) (p : List ℕ) (v : ℤ) → 1 ≤ d → (has_axes d p && is_value v) ≡ true
+    → make (numbers_in comma (numbers_text comma p)) (signed_digits_value 10 (signed_decimal v)) ≡ make p v
+position_and_value_back make d p v some ok =
     let parts = and_parts (has_axes d p) (is_value v) ok in
-    (position_back d p some parts.0, value-signed v parts.1)
+    cc (position_back d p some parts.0, value-signed v parts.1)
 
 number_back : (n : ℕ) → is_number n ≡ true → digits_value 10 (decimal n) ≡ n
 number_back n small = number-decimal n (ltb-true n _ small)
@@ -134,7 +95,9 @@ number_back n small = number-decimal n (ltb-true n _ small)
 -- the candidate at place k, where those before it fail
 in_place : (d : ℕ) (c : Command) (k : ℕ) → is_writable d c ≡ true → list_all (λ x. not (is_line d (line_of c) x)) (take k (candidates (words_of c))) ≡ true
     → k < length (candidates (words_of c)) → get_or (candidates (words_of c)) k c ≡ c → find (is_line d (line_of c)) (candidates (words_of c)) ≡ Some c
-in_place d c k ok others lt same = found_at (is_line d (line_of c)) (candidates (words_of c)) k c others lt same (own_line d c ok)
+in_place d c k ok others lt same =
+    let own = and_from (bytes_eq (line_of c) (line_of c)) (is_writable d c) ((bytes_eq-Decides (line_of c) (line_of c)).1 refl) ok in
+    found_at (is_line d (line_of c)) (candidates (words_of c)) k c others lt same own
 
 -- ---- the candidates on a view, which begin alike
 -- words of which the first byte or the second word is another
@@ -143,17 +106,13 @@ other vs ws = not (bytes_eq (take 1 (get_or vs 0 [])) (take 1 (get_or ws 0 [])) 
 
 -- are those of another text
 other_line : (d : ℕ) (c x : Command) → is_writable d c ≡ true → other (words_of x) (words_of c) ≡ true → is_line d (line_of c) x ≡ false
-other_line d c x ok differ = by (is_line d (line_of c) x) refl
-  where
-    by : (t : Bool) → is_line d (line_of c) x ≡ t → t ≡ false
-    by false e = refl
-    by true e =
-        let parts = and_parts (bytes_eq (line_of x) (line_of c)) (is_writable d x) e in
-        let text : line_of x ≡ line_of c = (bytes_eq-Decides (line_of x) (line_of c)).0 parts.0 in
-        let words : words_of x ≡ words_of c = sym (cut_at-line_of d x parts.1) ∙ ap (cut_at space) text ∙ cut_at-line_of d c ok in
-        let same = λ (f : List (List ℕ) → List ℕ). (bytes_eq-Decides (f (words_of x)) (f (words_of c))).1 (ap f words) in
-        let alike : other (words_of x) (words_of c) ≡ false = ap not (and_from _ _ (same (λ ws. take 1 (get_or ws 0 []))) (same (λ ws. get_or ws 1 []))) in
-        absurd (cc)
+other_line d c x ok differ = false_from_ne_true (is_line d (line_of c) x) (λ e.
+    let parts = and_parts (bytes_eq (line_of x) (line_of c)) (is_writable d x) e in
+    let text : line_of x ≡ line_of c = (bytes_eq-Decides (line_of x) (line_of c)).0 parts.0 in
+    let words : words_of x ≡ words_of c = sym (cut_at-line_of d x parts.1) ∙ ap (cut_at space) text ∙ cut_at-line_of d c ok in
+    let same = λ (f : List (List ℕ) → List ℕ). (bytes_eq-Decides (f (words_of x)) (f (words_of c))).1 (ap f words) in
+    let alike : other (words_of x) (words_of c) ≡ false = ap not (and_from _ _ (same (λ ws. take 1 (get_or ws 0 []))) (same (λ ws. get_or ws 1 []))) in
+    cc)
 
 others_fail : (d : ℕ) (c : Command) (cs : List Command) → is_writable d c ≡ true → list_all (λ x. other (words_of x) (words_of c)) cs ≡ true → list_all (λ x. not (is_line d (line_of c) x)) cs ≡ true
 others_fail d c [] ok others = refl
@@ -169,12 +128,8 @@ on_view d c k ok others lt same = in_place d c k ok (others_fail d c (take k (ca
 candidate : (d : ℕ) (c : Command) → 1 ≤ d → is_writable d c ≡ true → find (is_line d (line_of c)) (candidates (words_of c)) ≡ Some c
 unfolding candidates
 candidate d (Command.get p) some ok = in_place d (Command.get p) 0 ok refl (lit< tt) (ap Command.get (position_back d p some ok))
-candidate d (Command.set p v) some ok =
-    let back = position_and_value_back d p v some ok in
-    in_place d (Command.set p v) 1 ok refl (lit< tt) (cc)
-candidate d (Command.add p v) some ok =
-    let back = position_and_value_back d p v some ok in
-    in_place d (Command.add p v) 2 ok refl (lit< tt) (cc)
+candidate d (Command.set p v) some ok = in_place d (Command.set p v) 1 ok refl (lit< tt) (position_and_value_back Command.set d p v some ok)
+candidate d (Command.add p v) some ok = in_place d (Command.add p v) 2 ok refl (lit< tt) (position_and_value_back Command.add d p v some ok)
 candidate d (Command.fill v) some ok = in_place d (Command.fill v) 3 ok refl (lit< tt) (ap Command.fill (value-signed v ok))
 candidate d Command.sum some ok = in_place d Command.sum 4 ok refl (lit< tt) refl
 candidate d (Command.view p s t) some ok =
@@ -187,9 +142,7 @@ candidate d (Command.slice a i) some ok =
     let parts = and_parts (is_number a) (is_number i) ok in
     in_place d (Command.slice a i) 6 ok refl (lit< tt) (cc (number_back a parts.0, number_back i parts.1))
 candidate d (Command.vget p) some ok = in_place d (Command.vget p) 7 ok refl (lit< tt) (ap Command.vget (position_back d p some ok))
-candidate d (Command.vset p v) some ok =
-    let back = position_and_value_back d p v some ok in
-    in_place d (Command.vset p v) 8 ok refl (lit< tt) (cc)
+candidate d (Command.vset p v) some ok = in_place d (Command.vset p v) 8 ok refl (lit< tt) (position_and_value_back Command.vset d p v some ok)
 candidate d Command.vsum some ok = in_place d Command.vsum 9 ok refl (lit< tt) refl
 candidate d Command.flush some ok = in_place d Command.flush 10 ok refl (lit< tt) refl
 candidate d Command.discard some ok = in_place d Command.discard 11 ok refl (lit< tt) refl
@@ -207,12 +160,10 @@ candidate d (Command.pget i p) some ok =
     on_view d (Command.pget i p) 17 ok refl (lit< tt) (cc (number_back i parts.0, position_back d p some parts.1))
 candidate d (Command.pset i p v) some ok =
     let parts = and_parts (is_number i) (has_axes d p && is_value v) ok in
-    let back = position_and_value_back d p v some parts.1 in
-    on_view d (Command.pset i p v) 18 ok refl (lit< tt) (cc (number_back i parts.0))
+    on_view d (Command.pset i p v) 18 ok refl (lit< tt) (cc (number_back i parts.0, position_and_value_back (Command.pset i) d p v some parts.1))
 candidate d (Command.padd i p v) some ok =
     let parts = and_parts (is_number i) (has_axes d p && is_value v) ok in
-    let back = position_and_value_back d p v some parts.1 in
-    on_view d (Command.padd i p v) 19 ok refl (lit< tt) (cc (number_back i parts.0))
+    on_view d (Command.padd i p v) 19 ok refl (lit< tt) (cc (number_back i parts.0, position_and_value_back (Command.padd i) d p v some parts.1))
 candidate d (Command.pflush i) some ok = on_view d (Command.pflush i) 20 ok refl (lit< tt) (ap Command.pflush (number_back i ok))
 candidate d (Command.pdiscard i) some ok = on_view d (Command.pdiscard i) 21 ok refl (lit< tt) (ap Command.pdiscard (number_back i ok))
 candidate d (Command.pstats i) some ok = on_view d (Command.pstats i) 22 ok refl (lit< tt) (ap Command.pstats (number_back i ok))

@@ -1,5 +1,5 @@
 -- Runs of scripts: what each line keeps, and lines one after the other.
-use Rattle.std.proofs.Common.{◌≡◌, refl, sym, ap, ◌∙◌, ℕ, suc, ◌+◌, Bool, true, false, ◌&&◌, eqb, List, [], ◌∷◌, ◌++◌, length, Option, Some, None, append_assoc, arith}
+use Rattle.std.proofs.Common.{◌≡◌, refl, ap, ℕ, suc, ◌+◌, Bool, true, false, ◌&&◌, eqb, List, [], ◌∷◌, ◌++◌, length, Option, Some, None, append_assoc, arith}
 use Rattle.std.{specs.List.{list_any}, specs.Option.{option_to_list}, specs.Int.{Width}}
 use Rattle.zf_spec.specs.Grid.{IsShape}
 use Rattle.zf_cached.{specs.State.{State}, specs.Arrays.{array_format}, specs.Commands.{Command}}
@@ -21,10 +21,7 @@ run_lines-append {Code} setting starved k (line ∷ lines) more s =
     let e : suc k + length lines ≡ k + suc (length lines) = omega arith in
     let first = run_lines setting starved (suc k) lines one.0 in
     let o = option_to_list one.1 in
-    let then_more = λ (n : ℕ). run_lines setting starved n more first.0 in
-    ap (λ (r : Session Code × List Reply). (r.0, o ++ r.1)) (run_lines-append setting starved (suc k) lines more one.0)
-    ∙ ap (λ (rs : List Reply). ((then_more (suc k + length lines)).0, rs)) (sym (append_assoc o first.1 (then_more (suc k + length lines)).1))
-    ∙ ap (λ (n : ℕ). ((then_more n).0, (o ++ first.1) ++ (then_more n).1)) e
+    cc (run_lines-append setting starved (suc k) lines more one.0, append_assoc o first.1 (run_lines setting starved (suc k + length lines) more first.0).1)
 
 pub step-refused : {Code : Type 0} (setting : Setting Code) (s : Session Code) (c : Command) (starving : Bool) (why : Refusal) → refusal setting s c starving ≡ Some why → step setting s c starving ≡ (s, Some (Reply.refused why))
 step-refused setting s c starving why e = step_by setting s c starving (λ r. r ≡ (s, Some (Reply.refused why))) (λ y is. let same : y ≡ why = cc in ap (λ x. (s, Some (Reply.refused x))) same) (λ none. absurd (cc))
@@ -78,22 +75,16 @@ module _ (at : Line) (may_hold : ℕ → ℕ → ℕ → Type 0) (placing : IsPl
   run_script-sound setting starved shape s script cached is h =
       run_lines-sound setting starved 0 (lines_of script) _ cached (record { shape = is; state = h; window = LiesIn-whole shape is.not_zero; split = λ e. absurd (cc); views = λ i lt. absurd (omega (arith, lt)) })
 
-  ended-sound : {Code : Type 0} (setting : Setting Code) (s : Session Code) → IsSound at setting s → IsSound at setting (ended setting s)
-  unfolding ended joined
-  ended-sound setting s h =
-      let t = joined setting s in
-      let k = joined-sound at may_hold placing setting s h in
-      record { shape = k.shape; state = flush-consistent at may_hold placing every (format_of setting t) t.state k.state; window = k.window; split = λ e. absurd (cc); views = λ i lt. absurd (omega (arith, lt)) }
-
-  ended-empty : {Code : Type 0} (setting : Setting Code) (s : Session Code) → IsSound at setting s → IsEmpty (ended setting s).state
-  unfolding ended
-  ended-empty setting s h = let t = joined setting s in flush-empty at may_hold placing every (format_of setting t) t.state (joined-sound at may_hold placing setting s h).state
-
   pub run-sound : {Code : Type 0} (setting : Setting Code) (starved shape : List ℕ) (s : State Code) (script : List ℕ) → IsCached at setting → IsShape shape → IsConsistent at every (array_format setting.coding shape) s → IsSound at setting (run setting starved shape s script).0
-  unfolding run
-  run-sound setting starved shape s script cached is h = ended-sound setting (run_script setting starved shape s script).0 (run_script-sound setting starved shape s script cached is h)
+  unfolding run ended joined
+  run-sound setting starved shape s script cached is h =
+      let t = joined setting (run_script setting starved shape s script).0 in
+      let k = joined-sound at may_hold placing setting _ (run_script-sound setting starved shape s script cached is h) in
+      record { shape = k.shape; state = flush-consistent at may_hold placing every (format_of setting t) t.state k.state; window = k.window; split = λ e. absurd (cc); views = λ i lt. absurd (omega (arith, lt)) }
 
   -- nothing is dirty after a run
   pub run-empty : {Code : Type 0} (setting : Setting Code) (starved shape : List ℕ) (s : State Code) (script : List ℕ) → IsCached at setting → IsShape shape → IsConsistent at every (array_format setting.coding shape) s → IsEmpty (run setting starved shape s script).0.state
-  unfolding run
-  run-empty setting starved shape s script cached is h = ended-empty setting (run_script setting starved shape s script).0 (run_script-sound setting starved shape s script cached is h)
+  unfolding run ended
+  run-empty setting starved shape s script cached is h =
+      let t = joined setting (run_script setting starved shape s script).0 in
+      flush-empty at may_hold placing every (format_of setting t) t.state (joined-sound at may_hold placing setting _ (run_script-sound setting starved shape s script cached is h)).state

@@ -1,38 +1,25 @@
 -- The steps of a script keep the array in a state that is reached, and the window in the array.
-use Rattle.std.proofs.Common.{◌≡◌, ◌≢◌, refl, sym, ap, subst, ◌∙◌, ℕ, zero, suc, ◌<◌, ◌≤◌, ℤ, Bool, true, false, ◌&&◌, cond, eqb, eqb-true, List, [], ◌∷◌, map, length, set, replicate, Option, Some, None, is_none, is_some, ◌⊎◌, inl, inr, arith}
-use Rattle.std.{specs.Int.{Width}, proofs.lemmas.Bool.{and_parts, not-false, cases_eq, ltb-true}}
+use Rattle.std.proofs.Common.{◌≡◌, ◌≢◌, refl, sym, ap, subst, ◌∙◌, ℕ, zero, suc, ◌<◌, ◌≤◌, ℤ, Bool, true, false, ◌&&◌, not, cond, eqb, eqb-true, List, [], ◌∷◌, map, length, set, replicate, Option, Some, None, is_none, is_some, ◌⊎◌, inl, inr, arith, rules}
+use Rattle.std.{specs.Int.{Width}, proofs.lemmas.Bool.{and_parts, not-false, false_from_ne_true, cases_eq, ltb-true}}
 use Rattle.std.{proofs.lemmas.List.{length-set, get_or-set_same, get_or-set_other}, specs.List.{list_all}}
 use Rattle.zf_spec.proofs.Counting.{length-map-upto, get_or-map-upto}
 use Rattle.zf_spec.specs.Grid.{IsShape, upto, blocks, is_inside}
 use Rattle.zf_base.{specs.Places.{block_number, place_of}, specs.Shapes.{shape_fault}}
 use Rattle.zf_base.{specs.Formats.{Format, existing_of, meant}, proofs.Places.{IsAt-position}}
-use Rattle.zf_base.proofs.Formats.{with_at-same, existing_of-existing_of, existing_of-meant, existing_of-set}
+use Rattle.zf_base.proofs.Formats.{with_at-same, existing_of-existing_of, existing_of-set}
 use Rattle.zf_base.proofs.Sizes.{shape_from_no_fault}
 use Rattle.zf_cached.{specs.State.{State}, specs.Touch.{soiled}, specs.Changes.{flush, raised}}
-use Rattle.zf_cached.{specs.Arrays.{array_format}, specs.Windows.{mapped, whole, has_place, is_window}}
+use Rattle.zf_cached.{specs.Arrays.{array_format}, specs.Windows.{LiesIn, mapped, whole, has_place}}
 use Rattle.zf_cached.{specs.Commands.{Command}, specs.Replies.{Refusal, Reply}, specs.Acts.{Act}}
 use Rattle.zf_cached.{specs.Grammar.{is_writable, has_axes, is_number, is_value}, proofs.Powers.{raised-some}}
 use Rattle.zf_cached.specs.Steps.{Setting, Session, format_of, touched, changed, changed_at, filled_below, summed, is_split, views_in, views_of, state_of_view, with_view, by_view, at_position, split_into, flushed_views, joined, refuses_split, is_new_shape, has_view, view_has, tests, first_refusal, refusal, done, step}
 use Rattle.zf_cached.{specs.Views.{View, with_codes, without_codes, acted}, proofs.Parts.{one_owner}}
 use Rattle.zf_cached.specs.Splits.{is_owner, opened_view, opened_views, no_view, view_at, coded}
 use Rattle.zf_cached.specs.Consistency.{every, IsPossible, IsConsistent, IsCached, IsEmpty, IsSound}
-use Rattle.zf_cached.proofs.Placed.{touch-consistent, touched_here, soiled-consistent, with_values-consistent, flush-consistent, flush-empty, discard-consistent, relined-consistent, resized-consistent}
+use Rattle.zf_cached.proofs.Placed.{empty-consistent, touch-consistent, touched_here, soiled-consistent, with_values-consistent, flush-consistent, flush-empty, discard-consistent, relined-consistent, resized-consistent}
 use Rattle.zf_cached.proofs.Windows.{mapped_inside, length-mapped, LiesIn-whole, LiesIn-sliced}
-use Rattle.zf_cached.specs.Placing.{Line, IsPlacing, direct, line_in}
+use Rattle.zf_cached.specs.Placing.{Line, IsPlacing, direct, IsDirect, direct_placing, line_in}
 use Rattle.zf_cached.proofs.Acting.{acted-codes, acted-consistent}
-
-soiled-dirty : {Code : Type 0} (t : State Code) (b : ℕ) → (soiled t b).dirty b ≡ true
-unfolding soiled
-soiled-dirty t b = with_at-same t.dirty b true
-
--- nor is an array split by it
-touched-alone : {Code : Type 0} (setting : Setting Code) (s : Session Code) (b : ℕ) → is_split s ≡ false → is_split (touched setting s b) ≡ false
-unfolding touched
-touched-alone setting s b none = none
-
-changed-alone : {Code : Type 0} (setting : Setting Code) (s : Session Code) (b : ℕ) (change : List ℤ → List ℤ) → is_split s ≡ false → is_split (changed setting s b change) ≡ false
-unfolding changed touched
-changed-alone setting s b change none = none
 
 -- a command that is not refused though it needs no split: there is none
 alone : (t : Bool) → elim t as (λ x. Bool) [ true ↦ true | false ↦ false ] ≡ false → t ≡ false
@@ -41,6 +28,9 @@ alone false e = refl
 
 as_many : (d : ℕ) (ns : List ℕ) → has_axes d ns ≡ true → length ns ≡ d
 as_many d ns h = eqb-true (length ns) d (and_parts (eqb (length ns) d) (list_all is_number ns) h).0
+
+as_many_of : (d : ℕ) (ns : List ℕ) (v : ℤ) → (has_axes d ns && is_value v) ≡ true → length ns ≡ d
+as_many_of d ns v h = as_many d ns (and_parts (has_axes d ns) (is_value v) h).0
 
 -- a command that is not refused: its numbers are as many as there are axes, and no test refuses it
 pub record IsTaken {Code : Type 0} (setting : Setting Code) (s : Session Code) (c : Command) : Type 0 where
@@ -76,46 +66,32 @@ abbrev owner_in : {Code : Type 0} → Setting Code → Session Code → ℕ → 
 owner_in setting s i = is_owner (format_of setting s).blocks (length (views_of s)) i
 
 -- a position that a view has is in a block of its own, at a place that exists
-view_owns : {Code : Type 0} (setting : Setting Code) (s : Session Code) (i : ℕ) (ps : List ℕ) → view_has s i ps ≡ true → length ps ≡ length s.shape
+view_owns : {Code : Type 0} (setting : Setting Code) (s : Session Code) (i : ℕ) (ps : List ℕ) → not (view_has s i ps) ≡ false → length ps ≡ length s.shape
     → (i < length (views_of s)) × (owner_in setting s i (block_number s.shape ps) ≡ true) × ((format_of setting s).exists (block_number s.shape ps) (place_of ps) ≡ true)
 unfolding array_format
 view_owns setting s i ps has same =
-    let there = and_parts (has_view s i) (is_inside s.shape ps && is_owner (blocks s.shape) (length (views_of s)) i (block_number s.shape ps)) has in
-    let inside = and_parts (is_inside s.shape ps) (is_owner (blocks s.shape) (length (views_of s)) i (block_number s.shape ps)) there.1 in
+    let there = and_parts (has_view s i) _ (not-false (view_has s i ps) has) in
+    let inside = and_parts (is_inside s.shape ps) _ there.1 in
     (ltb-true i (length (views_of s)) there.0, inside.1, (IsAt-position s.shape ps same inside.0).exists)
 
 module _ {Code : Type 0} (format : Format Code) where
   -- a view of which other codes change alone
   recoded : (owned : ℕ → Bool) (v : View) (k j : ℕ → Code) → ((b : ℕ) → owned b ≡ true → j b ≡ k b) → IsConsistent direct owned format (with_codes v k) → IsConsistent direct owned format (with_codes v j)
-  recoded owned v k j same h = record {
-    some_line = h.some_line;
-    in_its_line = h.in_its_line;
-    held_is_owned = h.held_is_owned;
-    dirty_is_here = h.dirty_is_here;
-    clean_is_coded = λ b own clean. h.clean_is_coded b own clean ∙ ap (meant format b) (sym (same b own));
-    whole = h.whole;
-  }
-
-  opened_view-consistent : (codes : ℕ → Code) (lines : ℕ) (owns : ℕ → Bool) → 1 ≤ lines → IsConsistent direct owns format (with_codes (opened_view format codes lines owns) codes)
-  unfolding opened_view
-  opened_view-consistent codes lines owns some = record {
-    some_line = some;
-    in_its_line = λ l b e. absurd (cc);
-    held_is_owned = λ l b e. absurd (cc);
-    dirty_is_here = λ b e. absurd (cc);
-    clean_is_coded = λ b own e. ap (λ t. cond t (meant format b (codes b)) []) own;
-    whole = λ b own. subst (λ vs. existing_of format b vs ≡ vs) (sym (ap (λ t. cond t (meant format b (codes b)) []) own)) (existing_of-meant format b (codes b));
-  }
+  recoded owned v k j same h =
+      let coded : (b : ℕ) → owned b ≡ true → v.dirty b ≡ false → v.values b ≡ meant format b (j b) = λ b own clean. h.clean_is_coded b own clean ∙ ap (meant format b) (sym (same b own)) in
+      search rules
 
   opened_views-consistent : (codes : ℕ → Code) (lines n : ℕ) → 1 ≤ lines → (i : ℕ) → i < length (opened_views format codes lines n)
       → IsConsistent direct (is_owner format.blocks (length (opened_views format codes lines n)) i) format (with_codes (view_at (opened_views format codes lines n) i) codes)
-  unfolding opened_views
+  unfolding opened_views opened_view
   opened_views-consistent codes lines n some i lt =
       let made : ℕ → View = λ k. opened_view format codes lines (is_owner format.blocks n k) in
       let long : length (map made (upto n)) ≡ n = length-map-upto made n in
       let at : view_at (map made (upto n)) i ≡ made i = get_or-map-upto made n i no_view (subst (λ m. i < m) long lt) in
       subst (λ m. IsConsistent direct (is_owner format.blocks m i) format (with_codes (view_at (map made (upto n)) i) codes)) (sym long)
-      (subst (λ v. IsConsistent direct (is_owner format.blocks n i) format (with_codes v codes)) (sym at) (opened_view-consistent codes lines (is_owner format.blocks n i) some))
+      (subst (λ v. IsConsistent direct (is_owner format.blocks n i) format (with_codes v codes)) (sym at)
+      (empty-consistent direct IsDirect direct_placing (is_owner format.blocks n i) format (with_codes (made i) codes) some (record { none_dirty = λ b. refl; none_held = λ l b e. absurd (cc) })
+      (λ b own. ap (λ t. cond t (meant format b (codes b)) []) own)))
 
   -- the views after an act of one of them
   viewed : (w : Width) (views : List View) (codes : ℕ → Code) (i : ℕ) (act : Act) → i < length views → IsPossible (is_owner format.blocks (length views) i) format act
@@ -123,34 +99,30 @@ module _ {Code : Type 0} (format : Format Code) where
       → (let t = acted w format (with_codes (view_at views i) codes) act in let news = set views i (without_codes t) in
       (j : ℕ) → j < length news → IsConsistent direct (is_owner format.blocks (length news) j) format (with_codes (view_at news j) t.codes))
   viewed w views codes i act lt may each j below =
-      let n = length views in
-      let s = with_codes (view_at views i) codes in
-      let t = acted w format s act in
-      let news = set views i (without_codes t) in
-      let long : length news ≡ n = length-set views i (without_codes t) in
-      subst (λ m. IsConsistent direct (is_owner format.blocks m j) format (with_codes (view_at news j) t.codes)) (sym long) (by t refl (cases_eq j i) (subst (λ m. j < m) long below))
+      let long : length news ≡ length views = length-set views i (without_codes t) in
+      subst (λ m. IsConsistent direct (is_owner format.blocks m j) format (with_codes (view_at news j) t.codes)) (sym long) (by (cases_eq j i) (subst (λ m. j < m) long below))
     where
-      mine : (b : ℕ) → (with_codes (view_at views i) codes).dirty b ≡ true → is_owner format.blocks (length views) i b ≡ true
-      mine b dirty = (each i lt).held_is_owned _ b ((each i lt).dirty_is_here b dirty)
+      s : State Code
+      s = with_codes (view_at views i) codes
 
-      stays : j ≢ i → (b : ℕ) → is_owner format.blocks (length views) j b ≡ true → (acted w format (with_codes (view_at views i) codes) act).codes b ≡ codes b
-      stays ne b own = by_dirty ((view_at views i).dirty b) refl
-        where
-          by_dirty : (d : Bool) → (view_at views i).dirty b ≡ d → (acted w format (with_codes (view_at views i) codes) act).codes b ≡ codes b
-          by_dirty true e = absurd (one_owner format.blocks (length views) (omega (arith, lt)) j i b ne own (mine b e))
-          by_dirty false e = acted-codes w format (with_codes (view_at views i) codes) act b e
+      t : State Code
+      t = acted w format s act
 
-      by : (t : State Code) → t ≡ acted w format (with_codes (view_at views i) codes) act → (j ≡ i) ⊎ (j ≡ i → ⊥) → j < length views
-          → IsConsistent direct (is_owner format.blocks (length views) j) format (with_codes (view_at (set views i (without_codes t)) j) t.codes)
-      by t is (inl e) under =
-          let at : view_at (set views i (without_codes t)) j ≡ without_codes t = ap (view_at (set views i (without_codes t))) e ∙ get_or-set_same views i (without_codes t) no_view lt in
-          let own : IsConsistent direct (is_owner format.blocks (length views) i) format t = subst (IsConsistent direct (is_owner format.blocks (length views) i) format) (sym is) (acted-consistent w format (is_owner format.blocks (length views) i) (with_codes (view_at views i) codes) (each i lt) act may) in
-          subst (λ v. IsConsistent direct (is_owner format.blocks (length views) j) format (with_codes v t.codes)) (sym at)
-          (subst (λ k. IsConsistent direct (is_owner format.blocks (length views) k) format t) (sym e) own)
-      by t is (inr ne) under =
-          let at : view_at (set views i (without_codes t)) j ≡ view_at views j = get_or-set_other views i j (without_codes t) no_view ne in
-          subst (λ v. IsConsistent direct (is_owner format.blocks (length views) j) format (with_codes v t.codes)) (sym at)
-          (recoded (is_owner format.blocks (length views) j) (view_at views j) codes t.codes (λ b own. ap (λ (u : State Code). u.codes b) is ∙ stays ne b own) (each j under))
+      news : List View
+      news = set views i (without_codes t)
+
+      Has : ℕ → View → Type 0
+      Has k v = IsConsistent direct (is_owner format.blocks (length views) k) format (with_codes v t.codes)
+
+      stays : j ≢ i → (b : ℕ) → is_owner format.blocks (length views) j b ≡ true → t.codes b ≡ codes b
+      stays ne b own = acted-codes w format s act b (false_from_ne_true (s.dirty b) (λ e. one_owner format.blocks (length views) (omega (arith, lt)) j i b ne own ((each i lt).held_is_owned _ b ((each i lt).dirty_is_here b e))))
+
+      by : (j ≡ i) ⊎ (j ≡ i → ⊥) → j < length views → Has j (view_at news j)
+      by (inl e) under =
+          subst (λ k. Has k (view_at news k)) (sym e)
+          (subst (Has i) (sym (get_or-set_same views i (without_codes t) no_view lt)) (acted-consistent w format (is_owner format.blocks (length views) i) s (each i lt) act may))
+      by (inr ne) under =
+          subst (Has j) (sym (get_or-set_other views i j (without_codes t) no_view ne)) (recoded (is_owner format.blocks (length views) j) (view_at views j) codes t.codes (stays ne) (each j under))
 
 pub flushed_views-count : {Code : Type 0} (setting : Setting Code) (s : Session Code) (n : ℕ) → length (views_of (flushed_views setting s n)) ≡ length (views_of s)
 unfolding flushed_views by_view with_view
@@ -159,18 +131,13 @@ flushed_views-count setting s (suc n) = length-set (views_of (flushed_views sett
 
 module _ (line : Line) (may_hold : ℕ → ℕ → ℕ → Type 0) (placing : IsPlacing line may_hold) where
   -- what holds of the state of a touch, and where the block is then
-  record IsTouched {Code : Type 0} (format : Format Code) (b : ℕ) (t : State Code) : Type 0 where
-    consistent : IsConsistent line every format t
-    here : t.held (line_in line t b) ≡ Some b
-
-  touched_state : {Code : Type 0} (setting : Setting Code) (s : Session Code) (b : ℕ) → IsCached line setting → IsSound line setting s → IsTouched (format_of setting s) b (touched setting s b).state
+  touched_state : {Code : Type 0} (setting : Setting Code) (s : Session Code) (b : ℕ) → IsCached line setting → IsSound line setting s
+      → let t = (touched setting s b).state in IsConsistent line every (format_of setting s) t × (t.held (line_in line t b) ≡ Some b)
   unfolding touched
   touched_state setting s b cached h =
       let format = format_of setting s in
-      subst (λ f. IsTouched format b (f format s.state b)) (sym cached.touches) (record {
-        consistent = touch-consistent line may_hold placing every format s.state b refl h.state;
-        here = touched_here line may_hold placing every format s.state b refl h.state;
-      })
+      subst (λ f. let t = f format s.state b in IsConsistent line every format t × (t.held (line_in line t b) ≡ Some b)) (sym cached.touches)
+      (touch-consistent line may_hold placing every format s.state b refl h.state, touched_here line may_hold placing every format s.state b refl h.state)
 
   -- the sizes and the window are not changed by a touch
   with_state : {Code : Type 0} (setting : Setting Code) (s : Session Code) (t : State Code) → is_split s ≡ false → IsSound line setting s → IsConsistent line every (format_of setting s) t → IsSound line setting (record s { state = t })
@@ -178,17 +145,17 @@ module _ (line : Line) (may_hold : ℕ → ℕ → ℕ → Type 0) (placing : Is
 
   pub touched-sound : {Code : Type 0} (setting : Setting Code) (s : Session Code) (b : ℕ) → IsCached line setting → is_split s ≡ false → IsSound line setting s → IsSound line setting (touched setting s b)
   unfolding touched
-  touched-sound setting s b cached none h = with_state setting s _ none h (touched_state setting s b cached h).consistent
+  touched-sound setting s b cached none h = with_state setting s _ none h (touched_state setting s b cached h).0
 
   -- a change that keeps a block's values whole
   changed-sound : {Code : Type 0} (setting : Setting Code) (s : Session Code) (b : ℕ) (change : List ℤ → List ℤ) → ((vs : List ℤ) → existing_of (format_of setting s) b vs ≡ vs → existing_of (format_of setting s) b (change vs) ≡ change vs)
       → IsCached line setting → is_split s ≡ false → IsSound line setting s → IsSound line setting (changed setting s b change)
-  unfolding changed
+  unfolding changed soiled
   changed-sound {Code} setting s b change whole cached none h =
       let k = touched_state setting s b cached h in
       let t : State Code = soiled (touched setting s b).state b in
-      let soil : IsConsistent line every (format_of setting s) t = soiled-consistent line may_hold placing every (format_of setting s) (touched setting s b).state b k.here k.consistent in
-      with_state setting s _ none h (with_values-consistent line may_hold placing every (format_of setting s) t b (change (t.values b)) (soiled-dirty (touched setting s b).state b) (whole (t.values b) (soil.whole b refl)) soil)
+      let soil : IsConsistent line every (format_of setting s) t = soiled-consistent line may_hold placing every (format_of setting s) (touched setting s b).state b k.1 k.0 in
+      with_state setting s _ none h (with_values-consistent line may_hold placing every (format_of setting s) t b (change (t.values b)) (with_at-same (touched setting s b).state.dirty b true) (whole (t.values b) (soil.whole b refl)) soil)
 
   changed_at-sound : {Code : Type 0} (setting : Setting Code) (s : Session Code) (ps : List ℕ) (change : ℤ → ℤ) → length ps ≡ length s.shape → is_inside s.shape ps ≡ true
       → IsCached line setting → is_split s ≡ false → IsSound line setting s → IsSound line setting (changed_at setting s ps change)
@@ -198,42 +165,30 @@ module _ (line : Line) (may_hold : ℕ → ℕ → ℕ → Type 0) (placing : Is
       changed-sound setting s (block_number s.shape ps) _ (λ vs whole. existing_of-set (format_of setting s) (block_number s.shape ps) vs (place_of ps) _ at.exists whole) cached none h
 
   filled-sound : {Code : Type 0} (setting : Setting Code) (s : Session Code) (v : ℤ) (bs : List ℕ) → IsCached line setting → is_split s ≡ false → IsSound line setting s → IsSound line setting (filled_below setting s v bs)
-  unfolding filled_below
+  unfolding filled_below changed
   filled-sound setting s v [] cached none h = h
   filled-sound setting s v (b ∷ bs) cached none h =
       let format = format_of setting s in
-      filled-sound setting (changed setting s b (λ values. existing_of format b (replicate format.block_len v))) v bs cached (changed-alone setting s b _ none)
+      filled-sound setting (changed setting s b (λ values. existing_of format b (replicate format.block_len v))) v bs cached none
       (changed-sound setting s b (λ values. existing_of format b (replicate format.block_len v)) (λ vs whole. existing_of-existing_of format b (replicate format.block_len v)) cached none h)
 
   summed-sound : {Code X : Type 0} (setting : Setting Code) (block : X → ℕ) (found : X → List ℤ → ℤ) (xs : List X) (s : Session Code) → IsCached line setting → is_split s ≡ false → IsSound line setting s → IsSound line setting (summed setting block found xs s).0
-  unfolding summed
+  unfolding summed touched
   summed-sound setting block found [] s cached none h = h
   summed-sound setting block found (x ∷ xs) s cached none h =
-      summed-sound setting block found xs (touched setting s (block x)) cached (touched-alone setting s (block x) none) (touched-sound setting s (block x) cached none h)
+      summed-sound setting block found xs (touched setting s (block x)) cached none (touched-sound setting s (block x) cached none h)
 
   -- ---- private views
-
-  -- the values are those that the codes mean, and no block is in a line
-  coded-sound : {Code : Type 0} (format : Format Code) (s : State Code) (codes : ℕ → Code) → 1 ≤ s.lines → IsConsistent line every format (coded format s codes) × IsEmpty (coded format s codes)
-  unfolding coded
-  coded-sound format s codes some = (
-    record {
-      some_line = some;
-      in_its_line = λ l b e. absurd (cc);
-      held_is_owned = λ l b e. absurd (cc);
-      dirty_is_here = λ b e. absurd (cc);
-      clean_is_coded = λ b own e. refl;
-      whole = λ b own. existing_of-meant format b (codes b);
-    },
-    record { none_dirty = λ b. refl; none_held = λ l b e. absurd (cc) },
-  )
 
   by_view-sound : {Code : Type 0} (setting : Setting Code) (s : Session Code) (i : ℕ) (act : Act) → i < length (views_of s) → IsPossible (owner_in setting s i) (format_of setting s) act
       → IsSound line setting s → IsSound line setting (by_view setting s i act).0
   unfolding by_view with_view coded
   by_view-sound setting s i act lt may h =
-      let k = coded-sound (format_of setting s) s.state (acted setting.width (format_of setting s) (state_of_view s i) act).codes h.state.some_line in
-      record { shape = h.shape; state = k.0; window = h.window; split = λ e. k.1; views = viewed (format_of setting s) setting.width (views_of s) s.state.codes i act lt may h.views }
+      let format = format_of setting s in
+      let t = coded format s.state (acted setting.width format (state_of_view s i) act).codes in
+      let e : IsEmpty t = record { none_dirty = λ b. refl; none_held = λ l b e. absurd (cc) } in
+      let k = empty-consistent line may_hold placing every format t h.state.some_line e (λ b own. refl) in
+      record { shape = h.shape; state = k; window = h.window; split = λ x. e; views = viewed (format_of setting s) setting.width (views_of s) s.state.codes i act lt may h.views }
 
   pub flushed_views-sound : {Code : Type 0} (setting : Setting Code) (s : Session Code) (n : ℕ) → n ≤ length (views_of s) → IsSound line setting s → IsSound line setting (flushed_views setting s n)
   unfolding flushed_views
@@ -241,13 +196,11 @@ module _ (line : Line) (may_hold : ℕ → ℕ → ℕ → Type 0) (placing : Is
   flushed_views-sound setting s (suc n) most h =
       by_view-sound setting (flushed_views setting s n) n Act.flush (omega (arith, most, flushed_views-count setting s n)) tt (flushed_views-sound setting s n (omega (arith, most)) h)
 
-  -- a session without its split
-  unsplit-sound : {Code : Type 0} (setting : Setting Code) (s : Session Code) → IsSound line setting s → IsSound line setting (record s { split = None })
-  unsplit-sound setting s h = record { shape = h.shape; state = h.state; window = h.window; split = λ e. absurd (cc); views = λ i lt. absurd (omega (arith, lt)) }
-
   pub joined-sound : {Code : Type 0} (setting : Setting Code) (s : Session Code) → IsSound line setting s → IsSound line setting (joined setting s)
   unfolding joined
-  joined-sound setting s h = unsplit-sound setting (flushed_views setting s (length (views_of s))) (flushed_views-sound setting s (length (views_of s)) (omega arith) h)
+  joined-sound setting s h =
+      let k = flushed_views-sound setting s (length (views_of s)) (omega arith) h in
+      record { shape = k.shape; state = k.state; window = k.window; split = λ e. absurd (cc); views = λ i lt. absurd (omega (arith, lt)) }
 
   split_into-sound : {Code : Type 0} (setting : Setting Code) (s : Session Code) (n lines : ℕ) → 1 ≤ lines → IsSound line setting s → IsSound line setting (split_into setting s n lines)
   unfolding split_into
@@ -265,34 +218,19 @@ module _ (line : Line) (may_hold : ℕ → ℕ → ℕ → Type 0) (placing : Is
   unfolding done
   done-sound setting s (Command.get ps) t cached h = touched-sound setting s (block_number s.shape ps) cached (alone (is_split s) t.split) h
   done-sound setting s (Command.set ps v) t cached h =
-      let axes = and_parts (has_axes (length s.shape) ps) (is_value v) t.writable in
-      changed_at-sound setting s ps (λ old. v) (as_many (length s.shape) ps axes.0) (not-false (is_inside s.shape ps) t.range) cached (alone (is_split s) t.split) h
+      changed_at-sound setting s ps (λ old. v) (as_many_of (length s.shape) ps v t.writable) (not-false (is_inside s.shape ps) t.range) cached (alone (is_split s) t.split) h
   done-sound setting s (Command.add ps v) t cached h =
-      let axes = and_parts (has_axes (length s.shape) ps) (is_value v) t.writable in
-      changed_at-sound setting s ps _ (as_many (length s.shape) ps axes.0) (not-false (is_inside s.shape ps) t.range) cached (alone (is_split s) t.split) h
+      changed_at-sound setting s ps _ (as_many_of (length s.shape) ps v t.writable) (not-false (is_inside s.shape ps) t.range) cached (alone (is_split s) t.split) h
   done-sound setting s (Command.fill v) t cached h = filled-sound setting s v (upto (format_of setting s).blocks) cached (alone (is_split s) t.split) h
   done-sound setting s Command.sum t cached h = summed-sound setting _ _ (upto (format_of setting s).blocks) s cached (alone (is_split s) t.split) h
   done-sound setting s (Command.view origin size step) t cached h =
-      let axes = and_parts (has_axes (length s.shape) origin) (has_axes (length s.shape) size && has_axes (length s.shape) step) t.writable in
-      let more = and_parts (has_axes (length s.shape) size) (has_axes (length s.shape) step) axes.1 in
-      record {
-        shape = h.shape;
-        state = h.state;
-        window = record {
-          origins = as_many (length s.shape) origin axes.0;
-          sizes = as_many (length s.shape) size more.0;
-          steps = as_many (length s.shape) step more.1;
-          inside = not-false (is_window s.shape (record { origin = origin; size = size; step = step })) t.size;
-        };
-        split = h.split;
-        views = h.views;
-      }
+      let w : LiesIn s.shape (record { origin = origin; size = size; step = step }) = search (rules, and_parts, as_many, not-false, t.writable, t.size) in
+      record { shape = h.shape; state = h.state; window = w; split = h.split; views = h.views }
   done-sound setting s (Command.slice axis at) t cached h =
       record { shape = h.shape; state = h.state; window = LiesIn-sliced s.shape s.window axis at h.window (not-false (has_place s.window axis at) t.range); split = h.split; views = h.views }
   done-sound setting s (Command.vget ps) t cached h = touched-sound setting s (block_number s.shape (mapped s.window ps)) cached (alone (is_split s) t.split) h
   done-sound setting s (Command.vset ps v) t cached h =
-      let axes = and_parts (has_axes (length s.shape) ps) (is_value v) t.writable in
-      let same : length ps ≡ length s.window.size = as_many (length s.shape) ps axes.0 ∙ sym h.window.sizes in
+      let same : length ps ≡ length s.window.size = as_many_of (length s.shape) ps v t.writable ∙ sym h.window.sizes in
       changed_at-sound setting s (mapped s.window ps) (λ old. v) (length-mapped s.shape s.window ps h.window same)
       (mapped_inside s.shape s.window h.window ps (not-false (is_inside s.window.size ps) t.range) same) cached (alone (is_split s) t.split) h
   done-sound setting s Command.vsum t cached h = summed-sound setting _ _ _ s cached (alone (is_split s) t.split) h
@@ -300,8 +238,7 @@ module _ (line : Line) (may_hold : ℕ → ℕ → ℕ → Type 0) (placing : Is
   done-sound setting s Command.discard t cached h = with_state setting s _ (alone (is_split s) t.split) h (discard-consistent line may_hold placing every (format_of setting s) s.state h.state)
   done-sound setting s (Command.lines l) t cached h = with_state setting s _ (alone (is_split s) t.split) h (relined-consistent line may_hold placing every (format_of setting s) s.state (raised l) (raised-some l) h.state)
   done-sound setting s (Command.resize ns) t cached h =
-      let new = not-false (is_new_shape setting s ns) t.size in
-      let parts = and_parts (eqb (length ns) (length s.shape)) (is_none (shape_fault ns) && setting.has_room ns) new in
+      let parts = and_parts (eqb (length ns) (length s.shape)) _ (not-false (is_new_shape setting s ns) t.size) in
       let none = (and_parts (is_none (shape_fault ns)) (setting.has_room ns) parts.1).0 in
       let as_before : length ns ≡ length s.shape = eqb-true (length ns) (length s.shape) parts.0 in
       let shape : IsShape ns = shape_from_no_fault ns (omega (arith, h.shape.some_dimension)) (omega (arith, h.shape.four_at_most)) none in
@@ -315,18 +252,13 @@ module _ (line : Line) (may_hold : ℕ → ℕ → ℕ → Type 0) (placing : Is
   done-sound setting s (Command.split n l) t cached h = split_into-sound setting s n (raised l) (raised-some l) h
   done-sound setting s Command.join t cached h = joined-sound setting s h
   done-sound setting s (Command.pget i ps) t cached h =
-      let named = and_parts (is_number i) (has_axes (length s.shape) ps) t.writable in
-      let own = view_owns setting s i ps (not-false (view_has s i ps) t.range) (as_many (length s.shape) ps named.1) in
+      let own = view_owns setting s i ps t.range (as_many (length s.shape) ps (and_parts (is_number i) _ t.writable).1) in
       by_view-sound setting s i (at_position s Act.get ps) own.0 own.1 h
   done-sound setting s (Command.pset i ps v) t cached h =
-      let named = and_parts (is_number i) (has_axes (length s.shape) ps && is_value v) t.writable in
-      let axes = and_parts (has_axes (length s.shape) ps) (is_value v) named.1 in
-      let own = view_owns setting s i ps (not-false (view_has s i ps) t.range) (as_many (length s.shape) ps axes.0) in
+      let own = view_owns setting s i ps t.range (as_many_of (length s.shape) ps v (and_parts (is_number i) _ t.writable).1) in
       by_view-sound setting s i (at_position s (λ b p. Act.set b p v) ps) own.0 (own.1, own.2) h
   done-sound setting s (Command.padd i ps v) t cached h =
-      let named = and_parts (is_number i) (has_axes (length s.shape) ps && is_value v) t.writable in
-      let axes = and_parts (has_axes (length s.shape) ps) (is_value v) named.1 in
-      let own = view_owns setting s i ps (not-false (view_has s i ps) t.range) (as_many (length s.shape) ps axes.0) in
+      let own = view_owns setting s i ps t.range (as_many_of (length s.shape) ps v (and_parts (is_number i) _ t.writable).1) in
       by_view-sound setting s i (at_position s (λ b p. Act.add b p v) ps) own.0 (own.1, own.2) h
   done-sound setting s (Command.pflush i) t cached h = by_view-sound setting s i Act.flush (ltb-true i (length (views_of s)) (not-false (has_view s i) t.range)) tt h
   done-sound setting s (Command.pdiscard i) t cached h = by_view-sound setting s i Act.discard (ltb-true i (length (views_of s)) (not-false (has_view s i) t.range)) tt h

@@ -23,12 +23,11 @@ stepped_inside (n ∷ ns) (o ∷ os) (m ∷ sizes) (t ∷ ts) (q ∷ ps) h p l =
 stepped_inside x y sizes ts ps h p l = h
 
 module _ (ns : List ℕ) (w : Window) (h : LiesIn ns w) where
-  lies : lies_in ns w ≡ true
-  lies = (and_parts (none_zero w.step) (lies_in ns w) (and_parts (none_zero w.size) (none_zero w.step && lies_in ns w) h.inside).1).1
-
   -- a position of the window is one of the array
   pub mapped_inside : (ps : List ℕ) → is_inside w.size ps ≡ true → length ps ≡ length w.size → is_inside ns (mapped w ps) ≡ true
-  mapped_inside ps inside same = stepped_inside ns w.origin w.size w.step ps lies inside same
+  mapped_inside ps inside same =
+      let lies = (and_parts (none_zero w.step) (lies_in ns w) (and_parts (none_zero w.size) _ h.inside).1).1 in
+      stepped_inside ns w.origin w.size w.step ps lies inside same
 
 pub length-stepped : (os ts ps : List ℕ) (n : ℕ) → length os ≡ n → length ts ≡ n → length ps ≡ n → length (stepped os ts ps) ≡ n
 length-stepped [] ts ps n o t p = o
@@ -38,9 +37,6 @@ length-stepped x y ps n a b c = absurd (omega arith)
 pub length-mapped : (ns : List ℕ) (w : Window) (ps : List ℕ) → LiesIn ns w → length ps ≡ length w.size → length (mapped w ps) ≡ length ns
 length-mapped ns w ps h same = length-stepped w.origin w.step ps (length ns) h.origins h.steps (same ∙ h.sizes)
 
-rests : (m n : ℕ) (ms ns : List ℕ) → m ∷ ms ≡ n ∷ ns → ms ≡ ns
-rests m n ms ns e = cc
-
 -- two positions of a window are two of the array
 stepped_once : (os ts ps qs : List ℕ) → none_zero ts ≡ true → length os ≡ length ps → length ts ≡ length ps → length qs ≡ length ps → stepped os ts ps ≡ stepped os ts qs → ps ≡ qs
 stepped_once os ts [] [] h a b c e = refl
@@ -48,7 +44,8 @@ stepped_once (o ∷ os) (t ∷ ts) (p ∷ ps) (q ∷ qs) h a b c e =
     let parts = and_parts (leb 1 t) (none_zero ts) h in
     let first : o + p * t ≡ o + q * t = cc in
     let same : p ≡ q = eq_of_mul-eq-mul_right t (leb-true 1 t parts.0) p q (omega arith) in
-    ap (λ n. n ∷ ps) same ∙ ap (λ ns. q ∷ ns) (stepped_once os ts ps qs parts.1 (omega arith) (omega arith) (omega arith) (rests (o + p * t) (o + q * t) (stepped os ts ps) (stepped os ts qs) e))
+    let rest : stepped os ts ps ≡ stepped os ts qs = cc in
+    cc (stepped_once os ts ps qs parts.1 (omega arith) (omega arith) (omega arith) rest)
 stepped_once os ts x y h a b c e = absurd (omega arith)
 
 pub mapped_once : (ns : List ℕ) (w : Window) (ps qs : List ℕ) → LiesIn ns w → length ps ≡ length w.size → length qs ≡ length w.size → mapped w ps ≡ mapped w qs → ps ≡ qs

@@ -11,15 +11,12 @@ module _ {X : Type 0} where
 
   splice-prefix : (k m : ℕ) (ws row rest : List X) → k + m ≤ length row → splice k m ws (row ++ rest) ≡ splice k m ws row ++ rest
   splice-prefix k m ws row rest le =
-      (λ i. take-append-le k row rest (omega arith) i ++ (ws ++ drop-append-le (k + m) row rest le i))
-      ∙ ap (λ l. take k row ++ l) (sym (append_assoc ws (drop (k + m) row) rest))
-      ∙ sym (append_assoc (take k row) (ws ++ drop (k + m) row) rest)
+      cc (take-append-le k row rest (omega arith), drop-append-le (k + m) row rest le, append_assoc ws (drop (k + m) row) rest, append_assoc (take k row) (ws ++ drop (k + m) row) rest)
 
   splice-behind : (k j m : ℕ) (ws row rest : List X) → j ≡ length row + k → splice j m ws (row ++ rest) ≡ row ++ splice k m ws rest
   splice-behind k j m ws row rest e =
       let on : j + m ≡ length row + (k + m) = omega arith in
-      (λ i. (ap (λ n. take n (row ++ rest)) e ∙ take-append-add row rest k) i ++ (ws ++ (ap (λ n. drop n (row ++ rest)) on ∙ drop-append-add row rest (k + m)) i))
-      ∙ append_assoc row (take k rest) (ws ++ drop (k + m) rest)
+      cc (take-append-add row rest k, drop-append-add row rest (k + m), append_assoc row (take k rest) (ws ++ drop (k + m) rest))
 
   pub length-splice : (k m : ℕ) (ws xs : List X) → k + m ≤ length xs → length ws ≡ m → length (splice k m ws xs) ≡ length xs
   length-splice k m ws xs le e =
@@ -49,25 +46,19 @@ module _ {X : Type 0} where
       let full : length row ≡ n = omega (arith, length-take n xs, suc-mul l n) in
       let at : zero * n + a ≡ a = omega (arith, zero-mul n) in
       let kept : length (splice a m ws row) ≡ n = length-splice a m ws row (omega arith) e ∙ full in
-      ap (λ k. rows (suc l) n (splice k m ws xs)) at
-      ∙ ap (λ ys. rows (suc l) n (splice a m ws ys)) (sym (take-append-drop n xs))
-      ∙ ap (λ ys. rows (suc l) n ys) (splice-prefix a m ws row rest (omega arith))
-      ∙ rows-append l n (splice a m ws row) rest kept
+      cc (take-append-drop n xs, splice-prefix a m ws row rest (omega arith), rows-append l n (splice a m ws row) rest kept)
   rows-splice (suc l) n xs (suc i) a m ws long lt within e =
       let row = take n xs in let rest = drop n xs in
       let full : length row ≡ n = omega (arith, length-take n xs, suc-mul l n) in
       let left : length rest ≡ l * n = omega (arith, length-drop n xs, suc-mul l n) in
-      ap (λ ys. rows (suc l) n (splice (suc i * n + a) m ws ys)) (sym (take-append-drop n xs))
-      ∙ ap (λ ys. rows (suc l) n ys) (splice-behind (i * n + a) (suc i * n + a) m ws row rest (omega (arith, suc-mul i n)))
-      ∙ rows-append l n row (splice (i * n + a) m ws rest) full
-      ∙ ap (λ ls. row ∷ ls) (rows-splice l n rest i a m ws left (omega arith) within e)
+      let behind = splice-behind (i * n + a) (suc i * n + a) m ws row rest (omega (arith, suc-mul i n)) in
+      cc (take-append-drop n xs, behind, rows-append l n row (splice (i * n + a) m ws rest) full, rows-splice l n rest i a m ws left (omega arith) within e)
 
   pub rows-replicate : (l n : ℕ) (x : X) → rows l n (replicate (l * n) x) ≡ replicate l (replicate n x)
   rows-replicate zero n x = refl
   rows-replicate (suc l) n x =
       let less : suc l * n - n ≡ l * n = omega (arith, suc-mul l n) in
-      λ i. take-replicate n (suc l * n) x (omega (arith, suc-mul l n)) i
-      ∷ (ap (rows l n) (drop-replicate n (suc l * n) x ∙ ap (λ k. replicate k x) less) ∙ rows-replicate l n x) i
+      cc (take-replicate n (suc l * n) x (omega (arith, suc-mul l n)), drop-replicate n (suc l * n) x, rows-replicate l n x)
 
 -- block i ends within the values
 pub line_within : (l n i : ℕ) → i < l → i * n + n ≤ l * n

@@ -1,11 +1,10 @@
 -- What `Lines` are once a run of their values was lent.
-use Rattle.std.proofs.Common.{◌≡◌, ℕ, ◌+◌, ◌-◌, ◌*◌, ◌<◌, ◌≤◌, List, [], ◌∷◌, ◌++◌, map, length, take, drop, get_or, slice_set, Some, None, sym, ap, subst, ◌∙◌, arith, length-take, length-drop, drop-drop, append-nil, rules}
+use Rattle.std.proofs.Common.{◌≡◌, ℕ, ◌+◌, ◌-◌, ◌*◌, ◌<◌, ◌≤◌, List, [], ◌∷◌, map, length, take, drop, get_or, slice_set, Some, None, sym, ap, subst, ◌∙◌, arith, length-take, length-drop, drop-drop, append-nil, rules}
 use Rattle.std.proofs.lemmas.List.{length-map, drop_all, drop-take, take-take, get_or-take, get_or-drop}
-use Rattle.std.{specs.List.{refill, length_refill}, specs.declared.alloc.Global.{Global}}
+use Rattle.std.specs.List.{refill, length_refill}
 use Rattle.zf_lines.{specs.Places.{somes, IsHeld, IsRun}, specs.Lends.{with_slots, spliced}}
 use Rattle.zf_lines.{specs.Rows.{rows, line_at, part, with_line, with_part}, specs.Filled.{IsFilled}}
-use Rattle.zf_lines.{specs.declared.cells.Base.{Base}, specs.declared.cells.Cells.{Cells}}
-use Rattle.zf_lines.specs.declared.cells.Deed.{Deed}
+use Rattle.zf_lines.{specs.declared.lines.Lines.TheInside.{Inside}, specs.declared.cells.Cells.{Cells}}
 use Rattle.zf_lines.proofs.Blocks.{splice, length-splice, length-rows, line_at-rows, rows-splice, line_within}
 use Rattle.zf_lines.proofs.Runs.{somes-map, run_of, same_values, spliced_map, held_at, held_value, set_spliced}
 
@@ -15,7 +14,9 @@ part_of_taken a m n xs le =
     let on : n ≡ a + (n - a) = omega arith in
     ap (λ k. take m (drop a (take k xs))) on ∙ ap (take m) (drop-take a (n - a) xs) ∙ take-take m (n - a) (drop a xs) (omega arith)
 
-module _ {X : Type 0} (base : Base X) (lines len : ℕ) (cells : Cells X) (deed : Deed X Global) (alloc : Global) (h : IsFilled base lines len cells deed alloc) where
+module _ {X : Type 0} (fields : Inside X) (h : IsFilled fields.base fields.lines fields.len fields.cells fields.deed fields.alloc) where
+  open fields use {base, lines, len, cells, deed, alloc}
+
   abbrev xs : List X
   xs = somes cells.slots
 
@@ -91,13 +92,8 @@ module _ {X : Type 0} (base : Base X) (lines len : ℕ) (cells : Cells X) (deed 
         let ws = refill len (take len (drop (i * len) xs)) w in
         let from : i * len ≡ i * len + 0 = omega arith in
         let none : drop (0 + len) (line_at blocks i) ≡ [] = drop_all (0 + len) (line_at blocks i) (omega (arith, whole)) in
-        ap (rows lines len) (values_now (i * len) len line_ends w)
-        ∙ ap (λ k. rows lines len (splice k len ws xs)) from
-        ∙ rows-splice lines len xs i 0 len ws long line_there (omega arith) (as_long (i * len) len line_ends w)
-        ∙ ap (slice_set blocks i) (ap (λ l. ws ++ l) none ∙ append-nil ws)
-        ∙ ap (λ ys. slice_set blocks i (refill len ys w)) (sym line_is)
-        ∙ ap (λ n. slice_set blocks i (refill n (line_at blocks i) w)) (sym whole)
-        ∙ ap (λ ls. with_line ls i w) is
+        let set = rows-splice lines len xs i 0 len ws long line_there (omega arith) (as_long (i * len) len line_ends w) in
+        cc (values_now (i * len) len line_ends w, append-nil ws, line_is, whole, is)
 
     module _ (a m : ℕ) (inside : a + m ≤ length (line_at self i)) where
       pub part_ends : i * len + a + m ≤ lines * len
@@ -118,12 +114,8 @@ module _ {X : Type 0} (base : Base X) (lines len : ℕ) (cells : Cells X) (deed 
           let ws = refill m run w in
           let row = line_at blocks i in
           let size : length (part row a m) ≡ m = omega (arith, length-take m (drop a row), length-drop a row, whole, length-line) in
-          ap (rows lines len) (values_now (i * len + a) m part_ends w)
-          ∙ rows-splice lines len xs i a m ws long line_there (omega (arith, length-line)) (as_long (i * len + a) m part_ends w)
-          ∙ ap (λ l. slice_set blocks i (take a row ++ (ws ++ l))) (sym (drop-drop m a row))
-          ∙ ap (λ ys. slice_set blocks i (take a row ++ (refill m ys w ++ drop m (drop a row)))) (sym part_is)
-          ∙ ap (λ n. slice_set blocks i (take a row ++ (refill n (part row a m) w ++ drop m (drop a row)))) (sym size)
-          ∙ ap (λ ls. with_part ls i a m w) is
+          let set = rows-splice lines len xs i a m ws long line_there (omega (arith, length-line)) (as_long (i * len + a) m part_ends w) in
+          cc (values_now (i * len + a) m part_ends w, drop-drop m a row, part_is, is)
 
     -- the value at a place of block i
     pub value_at : (a : ℕ) (x : X) → a < length (line_at self i) → get_or cells.slots (i * len + a) None ≡ Some x → get_or (line_at self i) a x ≡ x

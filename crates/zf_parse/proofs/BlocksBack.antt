@@ -1,9 +1,9 @@
 -- The blocks of an array come back from their codes.
-use Rattle.std.proofs.Common.{◌≡◌, refl, sym, ap, subst, ◌∙◌, ℕ, ◌^◌, ◌<◌, ◌≤◌, Bool, true, false, cond, ltb, le-ltb, ℤ, pos, FitsSigned, Some, None, List, ◌++◌, length, take, get_or, All, take_at, length-append, arith, rules}
-use Rattle.std.{proofs.lemmas.List.Elements.{All-from_get_or}, specs.Int.{Width}}
+use Rattle.std.proofs.Common.{◌≡◌, refl, sym, ap, subst, ◌∙◌, ℕ, ◌^◌, ◌<◌, ◌≤◌, Bool, true, false, cond, ltb, le-ltb, ℤ, pos, FitsSigned, Some, List, ◌++◌, length, get_or, All, take_at, length-append, arith, rules}
+use Rattle.std.{proofs.lemmas.List.Elements.{All-from_get_or}, specs.Int.{Width}, proofs.lemmas.Bool.{cond_both}}
 use mir.Val.{bits}
 use Rattle.zf_spec.specs.Grid.{IsShape, grid, blocks, coordinates, raster, is_inside, indices, extents, extent_of, position_in, value_at, block_of}
-use Rattle.zf_spec.specs.Codes.{existing_values, rev, rate, prec, round, round_prec, read_rate}
+use Rattle.zf_spec.specs.Codes.{existing_values, rev, rate, prec, round, round_prec}
 use Rattle.zf_spec.proofs.Wrapping.{zero_fits}
 use Rattle.zf_spec.proofs.Counting.{length-map-upto, get_or-map-upto, from_places}
 use Rattle.zf_spec.proofs.Padding.{length-existing_values, get_or-existing_values, get_or_all}
@@ -24,11 +24,9 @@ block_fits w ns values b all =
     All-from_get_or (λ v. FitsSigned w v) (block_of ns values b) (pos 0)
     (λ p s.
     let small : p < size = omega (arith, s, length-map-upto (value_at ns values cs) size) in
-    subst (λ v. FitsSigned w v) (sym (get_or-map-upto (value_at ns values cs) size p (pos 0) small)) (by p (is_inside (extents ns cs) (indices (length ns) p))))
-  where
-    by : (p : ℕ) (t : Bool) → FitsSigned w (cond t (get_or values (raster ns (position_in (coordinates (grid ns) b) (indices (length ns) p))) (pos 0)) (pos 0))
-    by p true = get_or_all (λ v. FitsSigned w v) values (raster ns (position_in (coordinates (grid ns) b) (indices (length ns) p))) (zero_fits w) all
-    by p false = zero_fits w
+    let at = raster ns (position_in cs (indices (length ns) p)) in
+    subst (λ v. FitsSigned w v) (sym (get_or-map-upto (value_at ns values cs) size p (pos 0) small))
+    (cond_both (is_inside (extents ns cs) (indices (length ns) p)) (get_or values at (pos 0)) (pos 0) (λ v. FitsSigned w v) (λ yes. get_or_all (λ v. FitsSigned w v) values at (zero_fits w) all) (λ no. zero_fits w)))
 
 cond_twice : (t : Bool) (v : ℤ) → cond t (cond t v (pos 0)) (pos 0) ≡ cond t v (pos 0)
 cond_twice true v = refl
@@ -47,10 +45,7 @@ existing_values-block_of ns values b =
     (λ p lt.
     let small : p < 4 ^ length es = omega (arith, lt, sizes) in
     let t = is_inside es (indices (length ns) p) in
-    get_or-existing_values es block p small
-    ∙ ap (λ d. cond (is_inside es (indices d p)) (get_or block p (pos 0)) (pos 0)) dims
-    ∙ ap (λ v. cond t v (pos 0)) (get_or-map-upto (value_at ns values cs) size p (pos 0) lt)
-    ∙ cond_twice t (get_or values (raster ns (position_in cs (indices (length ns) p))) (pos 0))))
+    cc (get_or-existing_values es block p small, get_or-map-upto (value_at ns values cs) size p (pos 0) lt, cond_twice t (get_or values (raster ns (position_in cs (indices (length ns) p))) (pos 0)))))
 
 -- ---- its code
 
@@ -72,10 +67,7 @@ reads_rate w budget es block more =
     let code = rate w budget es block in
     let long : length code ≡ budget = length-rate w budget es block in
     let enough : ltb (length (code ++ more)) budget ≡ false = le-ltb (length (code ++ more)) budget (omega (arith, long, length-append code more)) in
-    ap (λ t. cond t None (Some (read_rate w es (take budget (code ++ more)), budget))) enough
-    ∙ ap (λ (s : List Bool). Some (read_rate w es s, budget)) (take_at code more budget long)
-    ∙ ap (λ (back : List ℤ). Some (back, budget)) (read_rate-rate w budget es block)
-    ∙ ap (λ n. Some (round w budget es block, n)) (sym long)
+    cc (take_at code more budget long, read_rate-rate w budget es block)
 
 -- at a fixed precision what the precision makes of it
 pub reads_prec : (w : Width) (p : ℕ) (es : List ℕ) (block : List ℤ) (more : List Bool)

@@ -1,12 +1,10 @@
 -- The codes of blocks, one after another.
-use Rattle.std.proofs.Common.{◌≡◌, min, take, ℕ, zero, suc, ◌+◌, ℤ, Bool, List, [], ◌∷◌, ◌++◌, map, length, ap, arith, rules}
+use Rattle.std.proofs.Common.{◌≡◌, ℕ, zero, suc, ◌+◌, ℤ, Bool, List, [], ◌∷◌, ◌++◌, map, ap, arith, rules}
 use Rattle.std.{proofs.lemmas.List.{append-nil, append_assoc, map_push, map-append}, specs.Int.{Width}}
 use Rattle.std.{proofs.lemmas.Grind.{flat_map-append}, specs.List.{flat_map}}
 use Rattle.zf_spec.{proofs.Counting.{count_from-add}, specs.Grid.{count_from, upto}, specs.Padding.{pad}}
-use Rattle.zf_spec.{specs.Lorenzo.{lorenzo}, specs.Lift.{lift}, specs.Planes.{code}}
-use Rattle.zf_spec.{specs.ReadPlanes.{first_bits}, specs.Codes.{rev, rev_of_planes, planes, rate, prec}}
+use Rattle.zf_spec.{specs.Codes.{rev, rate, prec}}
 use Rattle.zf_spec.specs.Stream.{Mode, reversible, fixed_rate, fixed_precision, block_code}
-use mir.Val.{bits}
 
 -- one number more
 count_from-more : (k n : ℕ) → count_from k (n + 1) ≡ count_from k n ++ (k + n) ∷ []
@@ -26,19 +24,8 @@ pub joined-prefix : (f : ℕ → List Bool) (k m : ℕ) → flat_map (λ c. c) (
 joined-prefix f k m = search (rules, count_from-add, map-append, flat_map-append)
 
 -- a code says of a block only what its padded block says
-pub rev_same : (w : Width) (es : List ℕ) (a b : List ℤ) → pad es a ≡ pad es b → rev w es a ≡ rev w es b
-unfolding rev
-rev_same w es a b same = ap (λ (block : List ℤ). rev_of_planes w (planes w (length es) (lorenzo w (length es) block))) same
-
-pub rate_same : (w : Width) (n : ℕ) (es : List ℕ) (a b : List ℤ) → pad es a ≡ pad es b → rate w n es a ≡ rate w n es b
-unfolding rate
-rate_same w n es a b same = ap (λ (block : List ℤ). first_bits n (code (planes w (length es) (lift w (length es) block)))) same
-
-pub prec_same : (w : Width) (p : ℕ) (es : List ℕ) (a b : List ℤ) → pad es a ≡ pad es b → prec w p es a ≡ prec w p es b
-unfolding prec
-prec_same w p es a b same = ap (λ (block : List ℤ). code (take (min p (bits w)) (planes w (length es) (lift w (length es) block)))) same
-
 pub code_same : (w : Width) (mode : Mode) (es : List ℕ) (a b : List ℤ) → pad es a ≡ pad es b → block_code w mode es a ≡ block_code w mode es b
-code_same w reversible es a b same = rev_same w es a b same
-code_same w (fixed_rate n) es a b same = rate_same w n es a b same
-code_same w (fixed_precision p) es a b same = prec_same w p es a b same
+unfolding rev rate prec
+code_same w reversible es a b same = cc
+code_same w (fixed_rate n) es a b same = cc
+code_same w (fixed_precision p) es a b same = cc

@@ -79,8 +79,7 @@ module _ (bytes : List ℕ) (no_fault : header_fault bytes ≡ None) where
         let it = first.before in
         let n = blocks h.shape in
         let front = read_front h 0 it.codes it.left it.whole in
-        let read : coded_blocks h 0 b s ≡ Ok (front.blocks, it.left) =
-        ap (coded_blocks h 0 b) it.bits ∙ ap (λ k. coded_blocks h 0 k (flat_map (λ c. c) it.codes ++ it.left)) (sym it.count) ∙ front.read in
+        let read : coded_blocks h 0 b s ≡ Ok (front.blocks, it.left) = cc (it.bits, it.count, front.read) in
         let alone : read_codes h 0 b s ≡ Ok (map (λ c. c.1) front.blocks, it.left) = ap (λ (r : Result Coded ℕ). result_map_both blocks_in (λ k. k) r) read in
         let cut = cut_coded (coded_blocks h 0 n s) b (read_codes-cut h b n s it.left (map (λ c. c.1) front.blocks) lt alone (none_of_short h b it.left first.short)) in
         answer ∙ ap (by_coded h (length (to_bits bytes))) cut
@@ -106,8 +105,7 @@ module _ (bytes : List ℕ) (no_fault : header_fault bytes ≡ None) where
       let n = blocks h.shape in
       let all = length (to_bits bytes) in
       let front = read_front h 0 it.codes it.left it.whole in
-      let read : coded_blocks h 0 n s ≡ Ok (front.blocks, it.left) =
-      ap (coded_blocks h 0 n) it.bits ∙ ap (λ k. coded_blocks h 0 k (flat_map (λ c. c) it.codes ++ it.left)) (sym it.count) ∙ front.read in
+      let read : coded_blocks h 0 n s ≡ Ok (front.blocks, it.left) = cc (it.bits, it.count, front.read) in
       let short : length it.left < fill_len (all - length it.left) = subst (λ k. length it.left < fill_len k) (sym (used_is it.codes it.left it.bits)) is.short in
       let found : Coded = (front.blocks, it.left) in
       let said : Said = record { header = h; codes = codes_in found; values = values_of_blocks h.shape (blocks_in found).0 } in

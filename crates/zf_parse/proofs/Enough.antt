@@ -1,7 +1,7 @@
 -- As many bits as the longest codes have are enough for any codes, so that what is restored has the length of the raw values.
-use Rattle.std.proofs.Common.{◌≡◌, ◌≢◌, refl, sym, ap, ◌∙◌, ℕ, zero, suc, ◌+◌, ◌*◌, ◌^◌, ◌<◌, ◌≤◌, Bool, false, cond, ltb, le-ltb, ℤ, Option, Some, None, is_none, Result, Ok, List, [], ◌∷◌, ◌++◌, length, take, drop, replicate, mul-le-mul_left, mul_comm, length-drop, length-append, arith, rules}
+use Rattle.std.proofs.Common.{◌≡◌, ◌≢◌, refl, sym, ap, ◌∙◌, ℕ, zero, suc, ◌+◌, ◌*◌, ◌^◌, ◌<◌, ◌≤◌, Bool, false, cond, ltb, le-ltb, ℤ, Option, Some, None, Result, Ok, List, [], ◌∷◌, ◌++◌, length, take, drop, replicate, mul-le-mul_left, mul_comm, length-drop, length-append, arith, rules}
 use Rattle.std.{proofs.lemmas.List.{length-take, length-replicate}, proofs.Math.Nat.{pow-le-pow_right}}
-use Rattle.std.specs.Int.{Width, byte_len}
+use Rattle.std.specs.Int.{byte_len}
 use mir.Val.{bits}
 use Rattle.zf_spec.{specs.Numbers.{number}, specs.Grid.{product, blocks, extent_of}, specs.Planes.{code}}
 use Rattle.zf_spec.{specs.ReadPlanes.{planes_in}, specs.Lorenzo.{unlorenzo}, proofs.Fields.{number-lt}}
@@ -10,13 +10,13 @@ use Rattle.zf_spec.{proofs.Counting.{length-map-upto}, proofs.Full.{length-plane
 use Rattle.zf_spec.{proofs.PlaneCode.{length-code-le}, proofs.RawValues.{length-raw}}
 use Rattle.zf_base.{specs.declared.lane.Ty.{Ty}, specs.declared.lane.Ty.TheVariants.{I32, I64}}
 use Rattle.zf_base.{specs.Widths.{width_of}, proofs.Extents.{length-extent_of}}
-use Rattle.zf_header.{specs.declared.header.Header.{Header}, specs.declared.header.HeaderFault.{HeaderFault}}
+use Rattle.zf_header.{specs.declared.header.Header.{Header}}
 use Rattle.zf_header.{specs.declared.header.Mode.{Mode}, specs.HeaderFaults.{header_fault}}
 use Rattle.zf_header.specs.declared.header.Mode.TheVariants.{Reversible, Rate, Precision}
 use Rattle.zf_block.specs.Room.{longest_rev, longest_prec}
-use Rattle.zf_parse.specs.Raw.{raw_len, raw_bytes}
+use Rattle.zf_parse.specs.Raw.{raw_len}
 use Rattle.zf_parse.specs.Parsing.{read_code, read_codes, values_of_blocks, header_of, code_bits, longest_code, longest_codes, restored_text}
-use Rattle.zf_parse.proofs.Steps.{with_block, read_next, read_codes-suc, blocks_text}
+use Rattle.zf_parse.proofs.Steps.{with_block, read_next, read_codes-suc}
 
 -- ---- one code
 
@@ -40,9 +40,15 @@ pub count_fits : (ty : Ty) (s : List Bool) → (number (take (count_bits (width_
 count_fits I32 s = (omega (arith, number_small 5 s), omega arith)
 count_fits I64 s = (omega (arith, number_small 6 s), omega arith)
 
-reads_rev : (ty : Ty) (es : List ℕ) (s : List Bool) → longest_rev (bits (width_of ty)) (length es) ≤ length s → Reads (read_rev (width_of ty) es s) (longest_rev (bits (width_of ty)) (length es))
-unfolding read_rev
-reads_rev ty es s enough =
+-- the longest code of a block in a mode
+longest : Ty → Mode → ℕ → ℕ
+longest ty Reversible d = longest_rev (bits (width_of ty)) d
+longest ty (Rate b) d = b
+longest ty (Precision p) d = longest_prec (bits (width_of ty)) d
+
+reads_code : (ty : Ty) (mode : Mode) (es : List ℕ) (s : List Bool) → longest ty mode (length es) ≤ length s → Reads (read_code (width_of ty) mode es s) (longest ty mode (length es))
+unfolding longest read_rev read_prec
+reads_code ty Reversible es s enough =
     let w = width_of ty in
     let count = count_fits ty s in
     let fit = planes_fit (number (take (count_bits w) s) + 1) (4 ^ length es) (bits w) (drop (count_bits w) s) count.0 in
@@ -51,22 +57,8 @@ reads_rev ty es s enough =
     let within : ltb (length s) len ≡ false = le-ltb (length s) len (omega (arith, fit, count.1)) in
     let found : List ℤ × ℕ = (existing_values es (unlorenzo w (length es) (coefficients_of w (length es) ps)), len) in
     record { code = found; is = ap (λ t. cond t None (Some found)) within; fits = omega (arith, fit, count.1) }
-
-reads_prec : (w : Width) (p : ℕ) (es : List ℕ) (s : List Bool) → longest_prec (bits w) (length es) ≤ length s → Reads (read_prec w p es s) (longest_prec (bits w) (length es))
-unfolding read_prec
-reads_prec w p es s enough = search (rules, planes_fit, le-ltb)
-
--- the longest code of a block in a mode
-longest : Ty → Mode → ℕ → ℕ
-longest ty Reversible d = longest_rev (bits (width_of ty)) d
-longest ty (Rate b) d = b
-longest ty (Precision p) d = longest_prec (bits (width_of ty)) d
-
-reads_code : (ty : Ty) (mode : Mode) (es : List ℕ) (s : List Bool) → longest ty mode (length es) ≤ length s → Reads (read_code (width_of ty) mode es s) (longest ty mode (length es))
-unfolding longest
-reads_code ty Reversible es s enough = reads_rev ty es s enough
 reads_code ty (Rate b) es s enough = grind (arith, le-ltb (length s) b enough)
-reads_code ty (Precision p) es s enough = reads_prec (width_of ty) p es s enough
+reads_code ty (Precision p) es s enough = search (rules, planes_fit, le-ltb)
 
 -- ---- the codes of blocks
 
@@ -116,16 +108,10 @@ enough_for_all h s =
 pub length-values_of_blocks : (ns : List ℕ) (bs : List (List ℤ)) → length (values_of_blocks ns bs) ≡ product ns
 length-values_of_blocks ns bs = length-map-upto _ (product ns)
 
-length-raw_bytes : (h : Header) (bs : List (List ℤ)) → length (raw_bytes h (values_of_blocks h.shape bs)) ≡ raw_len h
-length-raw_bytes h bs =
-    length-raw (width_of h.ty) (values_of_blocks h.shape bs)
-    ∙ ap (λ n. n * byte_len (width_of h.ty)) (length-values_of_blocks h.shape bs)
-    ∙ mul_comm (product h.shape) (byte_len (width_of h.ty))
-
 pub length-restored_text : (bytes : List ℕ) → header_fault bytes ≡ None → length (restored_text bytes) ≡ raw_len (header_of bytes)
 unfolding restored_text
 length-restored_text bytes good =
     let h = header_of bytes in
     let read = enough_for_all h (code_bits bytes) in
-    let Text : Option HeaderFault → List ℕ = λ f. cond (is_none f) (blocks_text h (read_codes h 0 (blocks h.shape) (code_bits bytes ++ replicate (longest_codes h) false))) [] in
-    ap length (ap Text good ∙ ap (blocks_text h) read.is) ∙ length-raw_bytes h read.all.0
+    let size = mul_comm (product h.shape) (byte_len (width_of h.ty)) in
+    cc (read.is, length-raw (width_of h.ty) (values_of_blocks h.shape read.all.0), length-values_of_blocks h.shape read.all.0)

@@ -52,10 +52,13 @@ fill_told h used s more enough =
     let n = (64 - used % 64) % 64 in
     let within : n ≤ length s = omega arith in
     let longer = length-append s more in
-    let By : Bool → Bool → Bool → Result (Unit {0}) StreamFault = λ short one behind. cond short (Err (Truncated (blocks h.shape))) (cond one (Err Pad) (cond behind (Err Trailing) (Ok tt))) in
-    ap (λ t. By t (has_one (take n (s ++ more))) (nat_lt n (length (s ++ more)))) (le-ltb (length (s ++ more)) n (omega (arith, longer)) ∙ sym (le-ltb (length s) n within))
-    ∙ ap (λ (bs : List Bool). By (nat_lt (length s) n) (has_one bs) (nat_lt n (length (s ++ more)))) (take-append-le n s more within)
-    ∙ ap (λ t. By (nat_lt (length s) n) (has_one (take n s)) t) (lt-ltb n (length (s ++ more)) (omega (arith, longer)) ∙ sym (lt-ltb n (length s) (omega arith)))
+    cc (
+      le-ltb (length (s ++ more)) n (omega (arith, longer)),
+      le-ltb (length s) n within,
+      take-append-le n s more within,
+      lt-ltb n (length (s ++ more)) (omega (arith, longer)),
+      lt-ltb n (length s) (omega arith),
+    )
 
 -- so many are never all
 not_good : (h : Header) (n : ℕ) (s : List Bool) (one : Bool) → answer_by h n s false one true ≢ Ok tt
@@ -67,6 +70,4 @@ pub fill_not_good : (h : Header) (used : ℕ) (s : List Bool) → 64 ≤ length 
 fill_not_good h used s enough good =
     let n = (64 - used % 64) % 64 in
     not_good h n s (has_one (take n s))
-    (ap (λ t. answer_by h n s t (has_one (take n s)) true) (sym (le-ltb (length s) n (omega arith)))
-    ∙ ap (λ t. answer_by h n s (nat_lt (length s) n) (has_one (take n s)) t) (sym (lt-ltb n (length s) (omega arith)))
-    ∙ sym (answer_is h used n s refl) ∙ good)
+    (cc (le-ltb (length s) n (omega arith), lt-ltb n (length s) (omega arith), answer_is h used n s refl))

@@ -1,6 +1,6 @@
 -- What reading gives is of the type.
-use Rattle.std.proofs.Common.{◌≡◌, ℕ, zero, suc, ◌*◌, ◌/◌, ◌%◌, ◌^◌, ◌-◌, ◌+◌, ◌<◌, Bool, true, false, cond, ℤ, pos, FitsSigned, Some, List, [], map, length, get_or, All, arith, rules}
-use Rattle.std.{proofs.lemmas.Bool.{cases_lt}, proofs.lemmas.List.{get_or_past}, specs.Int.{Width}}
+use Rattle.std.proofs.Common.{◌≡◌, ℕ, zero, suc, ◌*◌, ◌/◌, ◌%◌, ◌^◌, ◌-◌, ◌+◌, ◌<◌, Bool, cond, ℤ, pos, FitsSigned, Some, List, [], map, length, get_or, All, arith, rules}
+use Rattle.std.{proofs.lemmas.Bool.{cases_lt, cond_both}, proofs.lemmas.List.{get_or_past}, specs.Int.{Width}}
 use Rattle.std.proofs.lemmas.List.Elements.{All-nil, All-get_or, All-map}
 use mir.Val.{bits}
 use Rattle.zf_spec.{specs.Grid.{upto, product, coordinates, indices, is_inside}, specs.Lorenzo.{unlorenzo}}
@@ -29,11 +29,8 @@ module _ (w : Width) where
   existing_fit es block fit =
       let n = 4 ^ length es in
       All-map (λ v. FitsSigned w v) (λ p. cond (is_inside es (indices (length es) p)) (get_or block p (pos 0)) (pos 0)) (upto n)
-      (λ k e inside. by (get_or (upto n) k e) (is_inside es (indices (length es) (get_or (upto n) k e))))
-    where
-      by : (p : ℕ) (t : Bool) → FitsSigned w (cond t (get_or block p (pos 0)) (pos 0))
-      by p true = get_or_all (λ v. FitsSigned w v) block p (zero_fits w) fit
-      by p false = zero_fits w
+      (λ k e inside. let p = get_or (upto n) k e in cond_both (is_inside es (indices (length es) p)) (get_or block p (pos 0)) (pos 0) (λ v. FitsSigned w v)
+      (λ yes. get_or_all (λ v. FitsSigned w v) block p (zero_fits w) fit) (λ no. zero_fits w))
 
   coefficients_fit : (d : ℕ) (planes : List (List Bool)) → Fit (coefficients_of w d planes)
   coefficients_fit d planes = search (rules, placed_fit, All-map, value_of_fits)
@@ -50,41 +47,29 @@ module _ (w : Width) where
   along_fits : (step : ℕ) (block : List ℤ) → Fit (along (unlift_line w) step block)
   unfolding along
   along_fits step block =
-      All-map (λ v. FitsSigned w v) (line_value (unlift_line w) step block) (upto (length block)) (λ k e inside. value (get_or (upto (length block)) k e))
-    where
-      value : (p : ℕ) → FitsSigned w (line_value (unlift_line w) step block p)
-      value p =
-          let i = p / step % 4 in
-          let at : ℕ → ℤ = λ k. get_or block (p - step * i + step * k) (pos 0) in
-          line_fits (at 0) (at 1) (at 2) (at 3) i (omega arith)
+      All-map (λ v. FitsSigned w v) (line_value (unlift_line w) step block) (upto (length block))
+      (λ k e inside.
+      let p = get_or (upto (length block)) k e in
+      let at : ℕ → ℤ = λ j. get_or block (p - step * (p / step % 4) + step * j) (pos 0) in
+      line_fits (at 0) (at 1) (at 2) (at 3) (p / step % 4) (omega arith))
 
   axes_fit : (step d : ℕ) (block : List ℤ) → Fit block → Fit (along_axes_back (unlift_line w) step d block)
   axes_fit step zero block fit = fit
   axes_fit step (suc d) block fit = along_fits step (along_axes_back (unlift_line w) (4 * step) d block)
 
-  unlift_fits : (d : ℕ) (block : List ℤ) → Fit block → Fit (unlift w d block)
-  unlift_fits d block fit = axes_fit 1 d block fit
-
   -- ---- what reading a code gives
 
   lifted_fits : (es : List ℕ) (planes : List (List Bool)) → Fit (existing_values es (unlift w (length es) (coefficients_of w (length es) planes)))
-  lifted_fits es planes = existing_fit es (unlift w (length es) (coefficients_of w (length es) planes)) (unlift_fits (length es) (coefficients_of w (length es) planes) (coefficients_fit (length es) planes))
-
-  rev_fits : (es : List ℕ) (s : List Bool) (block : List ℤ) (k : ℕ) → read_rev w es s ≡ Some (block, k) → Fit block
-  unfolding read_rev
-  rev_fits es s block k e = search (rules, found_some, existing_fit, unlorenzo_fits)
-
-  prec_fits : (p : ℕ) (es : List ℕ) (s : List Bool) (block : List ℤ) (k : ℕ) → read_prec w p es s ≡ Some (block, k) → Fit block
-  unfolding read_prec
-  prec_fits p es s block k e = search (rules, found_some, lifted_fits)
+  lifted_fits es planes = existing_fit es (unlift w (length es) (coefficients_of w (length es) planes)) (axes_fit 1 (length es) (coefficients_of w (length es) planes) (coefficients_fit (length es) planes))
 
   read_rate_fits : (es : List ℕ) (s : List Bool) → Fit (read_rate w es s)
   unfolding read_rate
   read_rate_fits es s = lifted_fits es (kept_planes (length s) (planes_in (bits w) (4 ^ length es) s))
 
   pub code_fits : (mode : Mode) (es : List ℕ) (s : List Bool) (block : List ℤ) (k : ℕ) → read_code w mode es s ≡ Some (block, k) → All (λ v. FitsSigned w v) block
-  code_fits Reversible es s block k e = rev_fits es s block k e
-  code_fits (Precision p) es s block k e = prec_fits p es s block k e
+  unfolding read_rev read_prec
+  code_fits Reversible es s block k e = search (rules, found_some, existing_fit, unlorenzo_fits)
+  code_fits (Precision p) es s block k e = search (rules, found_some, lifted_fits)
   code_fits (Rate b) es s block k e = search (rules, found_some, read_rate_fits)
 
   -- ---- the values of an array

@@ -1,5 +1,5 @@
 -- An array is joined of its blocks.
-use Rattle.std.proofs.Common.{◌≡◌, sym, ap, ◌∙◌, ℕ, ◌<◌, ℤ, pos, List, [], length, get_or}
+use Rattle.std.proofs.Common.{◌≡◌, ℕ, ◌<◌, ℤ, pos, List, [], length, get_or}
 use Rattle.zf_spec.specs.Grid.{product, blocks, coordinates, block_of, blocks_of}
 use Rattle.zf_spec.proofs.Counting.{get_or-map-upto, from_places}
 use Rattle.zf_spec.proofs.Raster.{raster-coordinates, length-coordinates}
@@ -21,10 +21,7 @@ joined_is ns values found long same =
     let b = block_number ns ps in
     let p = place_of ps in
     let at = IsAt-position ns ps (length-coordinates ns k) (is_inside-coordinates ns k lt) in
-    sym
-    (ap (λ (block : List ℤ). get_or block p (pos 0)) (same b at.block_in_array)
-    ∙ value_of_block ns values ps b p at
-    ∙ ap (λ i. get_or values i (pos 0)) (raster-coordinates ns k lt)))
+    cc (same b at.block_in_array, value_of_block ns values ps b p at, raster-coordinates ns k lt))
 
 pub values_of_blocks-blocks : (ns : List ℕ) (values : List ℤ) → length values ≡ product ns → values_of_blocks ns (blocks_of ns values) ≡ values
 values_of_blocks-blocks ns values long = joined_is ns values (blocks_of ns values) long (λ b lt. get_or-map-upto (block_of ns values) (blocks ns) b [] lt)

@@ -83,10 +83,8 @@ read_codes-cut h b n s behind blocks lt read none =
     let m = n - (b + 1) in
     let count : n ≡ b + suc m = omega arith in
     let place : 0 + b ≡ b = omega arith in
-    ap (λ k. read_codes h 0 k s) count ∙ read_codes-then h 0 b (suc m) s (blocks, behind) read
-    ∙ ap (λ j. with_blocks blocks (read_codes h j (suc m) behind)) place
-    ∙ ap (with_blocks blocks) (read_codes-suc h b m behind)
-    ∙ ap (λ found. with_blocks blocks (read_next b behind found (read_codes h (suc b) m))) none ∙ with_blocks-cut blocks b
+    let moved = ap (λ j. read_codes h j (suc m) behind) place in
+    cc (read_codes-then h 0 b (suc m) s (blocks, behind) read, read_codes-suc h b m behind, with_blocks-cut blocks b)
 
 -- what was read is gone from the front
 pub rest_behind : (old new : Reader) (bits : List Bool) → Reads old new bits → rest new ≡ drop (new.at - old.at) (rest old)

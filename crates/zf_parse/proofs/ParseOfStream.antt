@@ -1,6 +1,6 @@
 -- A stream parses to what its codes say.
-use Rattle.std.proofs.Common.{◌≡◌, refl, ap, ◌∙◌, ℕ, zero, suc, ◌+◌, ◌%◌, ◌<◌, ◌≤◌, Bool, false, le-ltb, ℤ, Some, Result, Ok, List, ◌++◌, map, length, take, drop, replicate, append_assoc, length-append, arith, rules}
-use Rattle.std.{specs.List.{flat_map}, specs.Result.{result_map_both}, proofs.lemmas.Simd.{map-map}}
+use Rattle.std.proofs.Common.{◌≡◌, refl, ap, ◌∙◌, ℕ, zero, suc, ◌+◌, ◌%◌, ◌<◌, ◌≤◌, Bool, false, le-ltb, ℤ, Some, Ok, List, ◌++◌, map, length, take, drop, replicate, append_assoc, length-append, arith, rules}
+use Rattle.std.{specs.List.{flat_map}, proofs.lemmas.Simd.{map-map}}
 use Rattle.std.proofs.lemmas.List.{length-replicate}
 use Rattle.std.proofs.Math.Seq.{take-append_seam, drop-append_seam, take-length}
 use Rattle.zf_spec.{specs.Grid.{count_from, upto, blocks, extent_of}, proofs.Reach.{has_one-zeros}}
@@ -10,8 +10,8 @@ use Rattle.zf_base.specs.Widths.{width_of}
 use Rattle.zf_header.specs.declared.header.Header.{Header}
 use Rattle.zf_header.specs.HeaderBits.{IsHeader, BeginsWith, header_bits}
 use Rattle.zf_header.proofs.Spelled.{spelled_is_read, spelled_is_good}
-use Rattle.zf_parse.specs.Parsing.{read_code, coded_blocks, read_codes, values_of_blocks, fill_answer, header_of, Said, parse}
-use Rattle.zf_parse.proofs.Steps.{Coded, blocks_in, values_in, values_said}
+use Rattle.zf_parse.specs.Parsing.{read_code, coded_blocks, read_codes, values_of_blocks, fill_answer, header_of, parse}
+use Rattle.zf_parse.proofs.Steps.{values_in, values_said}
 
 -- ---- the codes of blocks, one after another
 
@@ -41,20 +41,13 @@ pub read_codes-codes : (h : Header) (code : ℕ → List Bool) (back : ℕ → L
     → ((k : ℕ) → b ≤ k → k < b + n → ReadsBack h code back k)
     → read_codes h b n (end_to_end code (count_from b n) ++ more) ≡ Ok (map back (count_from b n), more)
 read_codes-codes h code back b n more reads =
-    ap (λ (r : Result Coded ℕ). result_map_both blocks_in (λ k. k) r) (coded_blocks-codes h code back b n more reads)
-    ∙ ap (λ (bs : List (List ℤ)). Ok (bs, more)) (map-map (λ (c : List Bool × List ℤ). c.1) (λ k. (code k, back k)) (count_from b n))
+    cc (coded_blocks-codes h code back b n more reads, map-map (λ (c : List Bool × List ℤ). c.1) (λ k. (code k, back k)) (count_from b n))
 
 -- ---- the fill
 
 fill_good : (h : Header) (used n : ℕ) → n ≡ fill_len used → fill_answer h used (replicate n false) ≡ Ok tt
 fill_good h used n is =
-    cc (
-      length-replicate n false,
-      le-ltb (length (replicate n false)) n (omega (arith, (length-replicate n false))),
-      le-ltb n (length (replicate n false)) (omega (arith, (length-replicate n false))),
-      take-length (replicate n false),
-      has_one-zeros n,
-    )
+    cc (length-replicate n false, le-ltb n n (omega arith), take-length (replicate n false), has_one-zeros n)
 
 -- ---- the whole stream
 
@@ -105,9 +98,7 @@ module _ (h : Header) (code : ℕ → List Bool) (is_header : IsHeader h) where
       let coded : ℕ → List Bool × List ℤ = λ k. (code k, back k) in
       let each = λ (k : ℕ) (low : 0 ≤ k) (high : k < 0 + blocks h.shape). reads k (omega (arith, high)) in
       let read = coded_blocks-codes h code back 0 (blocks h.shape) (replicate n false) each in
-      let Saying : List (List Bool) → List (List ℤ) → Said = λ cs bs. record { header = h; codes = cs; values = values_of_blocks h.shape bs } in
-      let said : parse bytes ≡ Ok (Saying (map code ks) (map back ks)) =
-      parse_bits h bytes codes n is_header file_bits (map coded ks) refl read
-      ∙ ap (λ (cs : List (List Bool)). Ok (Saying cs (map (λ (c : List Bool × List ℤ). c.1) (map coded ks)))) (map-map (λ (c : List Bool × List ℤ). c.0) coded ks)
-      ∙ ap (λ (bs : List (List ℤ)). Ok (Saying (map code ks) bs)) (map-map (λ (c : List Bool × List ℤ). c.1) coded ks) in
+      let found = parse_bits h bytes codes n is_header file_bits (map coded ks) refl read in
+      let said : parse bytes ≡ Ok (record { header = h; codes = map code ks; values = values_of_blocks h.shape (map back ks) }) =
+      cc (map-map (λ (c : List Bool × List ℤ). c.0) coded ks, map-map (λ (c : List Bool × List ℤ). c.1) coded ks) in
       (ap values_in said, said)

@@ -1,13 +1,13 @@
 -- The parts of what a good stream says, and that its values are of its type.
-use Rattle.std.proofs.Common.{◌≡◌, refl, sym, ap, subst, ◌∙◌, ℕ, suc, ◌-◌, Bool, false, cond, is_none, ℤ, FitsSigned, Option, None, Result, Ok, Err, List, [], ◌∷◌, ◌++◌, map, length, replicate, All, rules}
+use Rattle.std.proofs.Common.{◌≡◌, refl, ap, subst, ℕ, suc, ◌-◌, Bool, false, ℤ, FitsSigned, None, Result, Ok, Err, List, [], ◌∷◌, ◌++◌, map, length, replicate, All, rules}
 use Rattle.std.{specs.Result.{result_map_both}, proofs.lemmas.List.Elements.{All-nil, All-cons}}
 use Rattle.zf_spec.specs.Grid.{product, blocks, extent_of}
 use Rattle.zf_base.specs.Widths.{width_of}
-use Rattle.zf_header.{specs.declared.header.Header.{Header}, specs.declared.header.HeaderFault.{HeaderFault}}
+use Rattle.zf_header.{specs.declared.header.Header.{Header}}
 use Rattle.zf_header.specs.HeaderFaults.{header_fault}
 use Rattle.zf_parse.{specs.declared.fault.StreamFault.{StreamFault}, specs.Raw.{raw_bytes}}
-use Rattle.zf_parse.specs.Parsing.{coded_blocks, read_codes, values_of_blocks, fill_answer, header_of, code_bits, Said, parse, longest_codes, restored_text}
-use Rattle.zf_parse.proofs.Steps.{Coded, codes_in, blocks_in, by_coded, values_in, values_said, read_coded, blocks_text}
+use Rattle.zf_parse.specs.Parsing.{coded_blocks, values_of_blocks, fill_answer, header_of, code_bits, Said, parse, longest_codes, restored_text}
+use Rattle.zf_parse.proofs.Steps.{Coded, codes_in, blocks_in, by_coded, values_in, values_said, read_coded}
 use Rattle.zf_parse.{proofs.TextOfParse.{header_good, text_of_parse}, proofs.Whole.{Stand, read_whole}}
 use Rattle.zf_parse.proofs.Enough.{enough_for_all, length-values_of_blocks}
 use Rattle.zf_parse.proofs.Fits.{code_fits, joined_fit}
@@ -68,9 +68,4 @@ restored_fit bytes good =
     let read = enough_for_all h (code_bits bytes) in
     let coded = read_coded (coded_blocks h 0 n s) read.all read.is in
     let values = values_of_blocks h.shape (blocks_in coded.0).0 in
-    let Text : Option HeaderFault → List ℕ = λ f. cond (is_none f) (blocks_text h (read_codes h 0 n s)) [] in (
-      values,
-      read_fit h n s coded.0 coded.1,
-      length-values_of_blocks h.shape (blocks_in coded.0).0,
-      ap Text good ∙ ap (blocks_text h) (read.is ∙ ap (λ (f : List (List ℤ) × List Bool). Ok f) (sym coded.2)),
-    )
+    (values, read_fit h n s coded.0 coded.1, length-values_of_blocks h.shape (blocks_in coded.0).0, (cc (read.is, coded.2)))

@@ -33,8 +33,7 @@ planes_prefix p size s within =
     let prefix : code ps ≡ take (length (code ps)) s = begins_take (code ps) s within (full_begins p size s) in
     let Begun : List Bool → Type 0 = λ t. Begins (code ps) t in
     let begins : Begins (code ps) (take (length (code ps)) s) = subst Begun (append-nil (code ps) ∙ prefix) (begins_itself (code ps) []) in
-    sym (full_only size ps (take (length (code ps)) s) (planes_in-length p size s) begins
-    ∙ ap (λ k. planes_in k size (take (length (code ps)) s)) (length-planes_in p size s))
+    cc (full_only size ps (take (length (code ps)) s) (planes_in-length p size s) begins, length-planes_in p size s)
 
 -- planes that were found, as they are found where just so many bits are there
 found_again : {A : Type 0} (of : List (List Bool) → A) (prefix : ℕ) (s t : List Bool) (ps qs : List (List Bool)) (b : A) (k : ℕ) → length t ≡ k → qs ≡ ps → prefix + length (code ps) ≡ k → of ps ≡ b
@@ -42,9 +41,9 @@ found_again : {A : Type 0} (of : List (List Bool) → A) (prefix : ℕ) (s t : L
 found_again {A} of prefix s t ps qs b k long same count is =
     cc (le-ltb (length t) (prefix + length (code ps)) (omega (arith, long, count)))
 
-read_rev-prefix : (w : Width) (es : List ℕ) (s : List Bool) (block : List ℤ) (k : ℕ) → read_rev w es s ≡ Some (block, k) → read_rev w es (take k s) ≡ Some (block, k)
-unfolding read_rev
-read_rev-prefix w es s block k e =
+pub read_code-prefix : (w : Width) (mode : Mode) (es : List ℕ) (s : List Bool) (block : List ℤ) (k : ℕ) → read_code w mode es s ≡ Some (block, k) → read_code w mode es (take k s) ≡ Some (block, k)
+unfolding read_rev read_prec
+read_code-prefix w Reversible es s block k e =
     let n = count_bits w in
     let size = 4 ^ length es in
     let p = number (take n s) + 1 in
@@ -58,23 +57,11 @@ read_rev-prefix w es s block k e =
     let number_same : take n t ≡ take n s = take-take n k s (omega (arith, is.count)) in
     let rest_same : drop n t ≡ take (length (code ps)) rest = ap (λ m. drop n (take m s)) (sym is.count) ∙ drop-take n (length (code ps)) s in
     let qs = planes_in (number (take n t) + 1) size (drop n t) in
-    let same : qs ≡ ps =
-    ap (λ (u : List Bool). planes_in (number u + 1) size (drop n t)) number_same ∙ ap (planes_in p size) rest_same
-    ∙ planes_prefix p size rest (omega (arith, enough, length-drop n s)) in
+    let same : qs ≡ ps = cc (number_same, rest_same, planes_prefix p size rest (omega (arith, enough, length-drop n s))) in
     found_again of n s t ps qs block k long same is.count is.same
-
-read_prec-prefix : (w : Width) (p : ℕ) (es : List ℕ) (s : List Bool) (block : List ℤ) (k : ℕ) → read_prec w p es s ≡ Some (block, k) → read_prec w p es (take k s) ≡ Some (block, k)
-unfolding read_prec
-read_prec-prefix w p es s block k e =
+read_code-prefix w (Rate b) es s block k e = search (rules, found_some, ltb-false, le-ltb, length-take-le, take-take)
+read_code-prefix w (Precision p) es s block k e =
     search (rules, found_some, ltb-false, length-take-le, planes_prefix, found_again)
-
-read_rate-prefix : (w : Width) (b : ℕ) (es : List ℕ) (s : List Bool) (block : List ℤ) (k : ℕ) → read_code w (Rate b) es s ≡ Some (block, k) → read_code w (Rate b) es (take k s) ≡ Some (block, k)
-read_rate-prefix w b es s block k e = search (rules, found_some, ltb-false, le-ltb, length-take-le, take-take)
-
-pub read_code-prefix : (w : Width) (mode : Mode) (es : List ℕ) (s : List Bool) (block : List ℤ) (k : ℕ) → read_code w mode es s ≡ Some (block, k) → read_code w mode es (take k s) ≡ Some (block, k)
-read_code-prefix w Reversible es s block k e = read_rev-prefix w es s block k e
-read_code-prefix w (Rate b) es s block k e = read_rate-prefix w b es s block k e
-read_code-prefix w (Precision p) es s block k e = read_prec-prefix w p es s block k e
 
 -- a code in front of bits is whole: whatever follows it, just its bits are read
 pub read_code_whole : (w : Width) (mode : Mode) (es : List ℕ) (s : List Bool) (block : List ℤ) (k : ℕ) → read_code w mode es s ≡ Some (block, k)

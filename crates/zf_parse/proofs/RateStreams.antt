@@ -1,6 +1,6 @@
 -- What a stream of a fixed rate says: each code has as many bits, so it is cut by places alone.
-use Rattle.std.proofs.Common.{◌≡◌, ◌≢◌, refl, sym, ap, ◌∙◌, ℕ, zero, suc, ◌+◌, ◌-◌, ◌*◌, ◌/◌, ◌<◌, ◌≤◌, Bool, true, false, cond, ltb, ℤ, Option, Some, None, Result, Ok, Err, List, [], ◌++◌, map, length, take, drop, length-append, length-drop, arith, suc-mul, rules}
-use Rattle.std.{specs.Int.{Width}, proofs.lemmas.Bool.{ltb-true, ltb-false}, proofs.Math.Seq.{take-add}}
+use Rattle.std.proofs.Common.{◌≡◌, ◌≢◌, refl, sym, ap, ◌∙◌, ℕ, zero, suc, ◌+◌, ◌-◌, ◌*◌, ◌/◌, ◌<◌, ◌≤◌, Bool, true, false, cond, ltb, ℤ, Option, Some, None, Ok, Err, List, [], ◌++◌, map, length, take, drop, length-append, length-drop, arith, suc-mul, rules}
+use Rattle.std.{proofs.lemmas.Bool.{ltb-true, ltb-false}, proofs.Math.Seq.{take-add}}
 use Rattle.std.proofs.lemmas.List.{take-append-drop, length-take-le, take_at}
 use Rattle.std.proofs.Math.Nat.{div-eq-sub-div, div-eq_of_lt, mul-le-mul_right}
 use Rattle.zf_spec.{specs.Grid.{upto, blocks, extent_of}, specs.Codes.{read_rate}, specs.Numbers.{number}}
@@ -8,7 +8,7 @@ use Rattle.zf_spec.specs.Stream.{fill_len, to_bits}
 use Rattle.zf_base.specs.Widths.{width_of}
 use Rattle.zf_header.{specs.declared.header.Header.{Header}, specs.declared.header.Mode.TheVariants.{Rate}}
 use Rattle.zf_parse.{specs.declared.fault.StreamFault.{StreamFault}, specs.ReadStreams.{BeginsWithHeader}}
-use Rattle.zf_parse.specs.Parsing.{read_code, read_codes, values_of_blocks, fill_answer, parse}
+use Rattle.zf_parse.specs.Parsing.{read_code, read_codes, fill_answer, parse}
 use Rattle.zf_parse.proofs.Steps.{read_codes-suc, values_or_fault, codes_answer, values_said, values_err}
 use Rattle.zf_parse.{proofs.Codes.{joined-more}, proofs.Fill.{fill_short, fill_one, fill_more}}
 use Rattle.zf_parse.{proofs.Parsed.{parse_is}, proofs.ParseOfStream.{end_to_end, ReadsBack, read_codes-codes}}
@@ -56,20 +56,11 @@ pub read_codes-cut : (h : Header) (budget b n : ℕ) (s : List Bool) → h.mode 
 read_codes-cut h budget b zero s is some short = absurd (omega arith)
 read_codes-cut h budget b (suc n) s is some short = by (ltb (length s) budget) refl (read_codes-cut h budget (suc b) n (drop budget s) is some)
   where
-    w : Width
-    w = width_of h.ty
-
-    es : List ℕ
-    es = extent_of h.shape b
-
-    behind : List Bool → Result (List (List ℤ) × List Bool) ℕ
-    behind = read_codes h (suc b) n
-
     code : Bool → Option (List ℤ × ℕ)
-    code t = cond t None (Some (read_rate w es (take budget s), budget))
+    code t = cond t None (Some (read_rate (width_of h.ty) (extent_of h.shape b) (take budget s), budget))
 
-    read : (t : Bool) → ltb (length s) budget ≡ t → read_code w h.mode es s ≡ code t
-    read t e = ap (λ m. read_code w m es s) is ∙ ap code e
+    read : (t : Bool) → ltb (length s) budget ≡ t → read_code (width_of h.ty) h.mode (extent_of h.shape b) s ≡ code t
+    read t e = ap (λ m. read_code (width_of h.ty) m (extent_of h.shape b) s) is ∙ ap code e
 
     by : (t : Bool) → ltb (length s) budget ≡ t → (length (drop budget s) < n * budget → read_codes h (suc b) n (drop budget s) ≡ Err (suc b + length (drop budget s) / budget)) → read_codes h b (suc n) s ≡ Err (b + length s / budget)
     by true e next = search (rules, div-eq_of_lt, ltb-true, read_codes-suc)
@@ -91,19 +82,14 @@ module _ (bytes : List ℕ) (h : Header) (len budget : ℕ) (begun : BeginsWithH
   parse_cut some short =
       let s = drop len (to_bits bytes) in
       let first : 0 + length s / budget ≡ length s / budget = omega arith in
-      parse_err bytes (faults.Truncated (length s / budget))
-      (parse_is bytes h len begun
-      ∙ ap (codes_answer h (length (to_bits bytes))) (read_codes-cut h budget 0 (blocks h.shape) s is some short ∙ ap (λ (k : ℕ). Err k) first))
+      parse_err bytes (faults.Truncated (length s / budget)) (cc (parse_is bytes h len begun, read_codes-cut h budget 0 (blocks h.shape) s is some short))
 
   -- the codes are there, and the fill has a fault
   parse_fill : (e : StreamFault) → blocks h.shape * budget ≤ length (drop len (to_bits bytes))
       → Err e ≡ fill_answer h (length (to_bits bytes) - length (behind_codes h len budget bytes)) (behind_codes h len budget bytes) → parse bytes ≡ Err e
   parse_fill e long fault =
-      let s = drop len (to_bits bytes) in
-      let all = length (to_bits bytes) in
-      let values = values_of_blocks h.shape (map (λ b. read_rate (width_of h.ty) (extent_of h.shape b) (code_cut budget s b)) (upto (blocks h.shape))) in
-      parse_err bytes e
-      (parse_is bytes h len begun ∙ ap (codes_answer h all) (read_codes-rate h budget s is long) ∙ ap (values_or_fault values) (sym fault))
+      let read = read_codes-rate h budget (drop len (to_bits bytes)) is long in
+      parse_err bytes e (parse_is bytes h len begun ∙ ap (codes_answer h (length (to_bits bytes))) read ∙ ap (values_or_fault _) (sym fault))
 
   used_is : len ≤ length (to_bits bytes) → blocks h.shape * budget ≤ length (drop len (to_bits bytes))
       → length (to_bits bytes) - length (behind_codes h len budget bytes) ≡ len + blocks h.shape * budget

@@ -1,5 +1,5 @@
 -- What a stream says, step by step: words for proofs, and the definitions in them.
-use Rattle.std.proofs.Common.{◌≡◌, refl, ap, ◌∙◌, ℕ, suc, ◌-◌, Bool, ℤ, Option, Some, None, Result, Ok, Err, List, [], ◌∷◌, map, length, take, drop, rules}
+use Rattle.std.proofs.Common.{◌≡◌, ◌⊎◌, inl, inr, refl, ap, ◌∙◌, ℕ, suc, ◌-◌, Bool, ℤ, Option, Some, None, Result, Ok, Err, List, [], ◌∷◌, map, length, take, drop, rules}
 use Rattle.std.specs.Result.{result_map_both}
 use Rattle.zf_spec.{specs.Grid.{blocks, extent_of}, specs.Stream.{to_bits}}
 use Rattle.zf_base.specs.Widths.{width_of}
@@ -19,6 +19,11 @@ codes_in found = map (λ c. c.0) found.0
 -- the blocks alone, and the bits behind
 abbrev pub blocks_in : Coded → List (List ℤ) × List Bool
 blocks_in found = (map (λ c. c.1) found.0, found.1)
+
+-- nothing, or something
+pub none_or_some : {A : Type 0} (o : Option A) → (o ≡ None) ⊎ ((a : A) × (o ≡ Some a))
+none_or_some None = inl refl
+none_or_some (Some a) = inr (a, refl)
 
 -- ---- one block more
 

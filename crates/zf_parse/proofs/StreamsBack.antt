@@ -1,8 +1,8 @@
 -- What the stream of an array's values parses to.
-use Rattle.std.proofs.Common.{◌≡◌, refl, sym, ap, subst, ◌∙◌, ℕ, ◌*◌, ◌<◌, Bool, ℤ, FitsSigned, Ok, Some, List, ◌++◌, map, length, All, mul_comm, rules}
+use Rattle.std.proofs.Common.{◌≡◌, refl, sym, ap, subst, ◌∙◌, ℕ, ◌<◌, Bool, ℤ, FitsSigned, Ok, Some, List, ◌++◌, map, length, All, mul_comm, rules}
 use Rattle.std.specs.Int.{byte_len}
 use Rattle.zf_spec.{specs.Grid.{product, blocks, upto, extent_of, block_of}, specs.Codes.{round, round_prec}}
-use Rattle.zf_spec.specs.Stream.{first_bytes, values_from, block_code, file, stream, stream_of_bytes, with_fill, to_bytes}
+use Rattle.zf_spec.specs.Stream.{values_from, block_code, file, stream, stream_of_bytes, with_fill, to_bytes}
 use Rattle.zf_spec.proofs.Bytes.{first_bytes-all}
 use Rattle.zf_spec.proofs.RawValues.{length-values_from, values_from_fit, raw-values_from}
 use Rattle.zf_base.specs.Widths.{width_of}
@@ -101,8 +101,7 @@ module _ (h : Header) (bytes : List ℕ) (is_header : IsHeader h) where
   -- what is restored of it is the raw bytes of the values that it parses to
   text-parsed : (values : List ℤ) → values_said (stream_text h bytes) ≡ Ok values → restored_text (stream_text h bytes) ≡ raw_bytes h values
   text-parsed values parsed =
-      text_of_parse (stream_text h bytes) values parsed
-      ∙ ap (λ g. raw_bytes g values) (header_of-stream_text h bytes is_header)
+      cc (text_of_parse (stream_text h bytes) values parsed, header_of-stream_text h bytes is_header)
 
   pub text-rate_text : (budget : ℕ) → h.mode ≡ Rate budget
       → restored_text (stream_text h bytes) ≡ raw_bytes h (rounded h budget (values_from (width_of h.ty) (product h.shape) bytes))
@@ -117,8 +116,5 @@ module _ (h : Header) (bytes : List ℕ) (is_header : IsHeader h) where
   text-reversible_text mode long small =
       let w = width_of h.ty in
       let n = product h.shape in
-      let count : n * byte_len w ≡ length bytes = mul_comm n (byte_len w) ∙ sym long in
-      text-parsed (values_from w n bytes) (said-reversible_text mode)
-      ∙ raw-values_from w n bytes small
-      ∙ ap (λ k. first_bytes k bytes) count
-      ∙ first_bytes-all bytes
+      let said = text-parsed (values_from w n bytes) (said-reversible_text mode) in
+      cc (raw-values_from w n bytes small, mul_comm n (byte_len w), first_bytes-all bytes)

@@ -39,10 +39,14 @@ cond_some false x y e = (refl, cc)
 rev_of : Width → List ℕ → List (List Bool) → List ℤ × ℕ
 rev_of w es ps = (existing_values es (unlorenzo w (length es) (coefficients_of w (length es) ps)), count_bits w + length (code ps))
 
-read_rev_more : (w : Width) (es : List ℕ) (s more : List Bool) (found : List ℤ × ℕ) → read_rev w es s ≡ Some found
-    → (read_rev w es (s ++ more) ≡ Some found) × (found.1 ≤ length s)
-unfolding read_rev rev_of
-read_rev_more w es s more found e =
+-- the same of planes alone
+prec_of : Width → List ℕ → List (List Bool) → List ℤ × ℕ
+prec_of w es ps = (existing_values es (unlift w (length es) (coefficients_of w (length es) ps)), length (code ps))
+
+pub read_code_more : (w : Width) (mode : Mode) (es : List ℕ) (s more : List Bool) (found : List ℤ × ℕ) → read_code w mode es s ≡ Some found
+    → (read_code w mode es (s ++ more) ≡ Some found) × (found.1 ≤ length s)
+unfolding read_rev rev_of read_prec prec_of
+read_code_more w Reversible es s more found e =
     let n = count_bits w in
     let size = 4 ^ length es in
     let rest = drop n s in
@@ -52,32 +56,12 @@ read_rev_more w es s more found e =
     let within : len ≤ length s = ltb-false (length s) len parts.0 in
     let prefix : take n (s ++ more) ≡ take n s = take-append-le n s more (omega arith) in
     let behind : drop n (s ++ more) ≡ rest ++ more = drop-append-le n s more (omega arith) in
-    let same : planes_in (number (take n (s ++ more)) + 1) size (drop n (s ++ more)) ≡ ps =
-    ap (λ (b : List Bool). planes_in (number b + 1) size (drop n (s ++ more))) prefix
-    ∙ ap (planes_in (number (take n s) + 1) size) behind
-    ∙ full_more (number (take n s) + 1) size rest more (omega (arith, within, length-drop n s)) in
+    let same = full_more (number (take n s) + 1) size rest more (omega (arith, within, length-drop n s)) in
     let longer : ltb (length (s ++ more)) len ≡ false = le-ltb (length (s ++ more)) len (omega (arith, within, length-append s more)) in
-    let bits : len ≡ found.1 = ap (λ (c : List ℤ × ℕ). c.1) parts.1 in (
-      ap (λ (qs : List (List Bool)). cond (ltb (length (s ++ more)) (n + length (code qs))) None (Some (rev_of w es qs))) same
-          ∙ ap (λ t. cond t None (Some (rev_of w es ps))) longer
-          ∙ ap Some parts.1,
-      omega (arith, within, bits),
-    )
-
--- the same of planes alone
-prec_of : Width → List ℕ → List (List Bool) → List ℤ × ℕ
-prec_of w es ps = (existing_values es (unlift w (length es) (coefficients_of w (length es) ps)), length (code ps))
-
-read_prec_more : (w : Width) (p : ℕ) (es : List ℕ) (s more : List Bool) (found : List ℤ × ℕ) → read_prec w p es s ≡ Some found
-    → (read_prec w p es (s ++ more) ≡ Some found) × (found.1 ≤ length s)
-unfolding read_prec prec_of
-read_prec_more w p es s more found e =
+    let bits : len ≡ found.1 = ap (λ (c : List ℤ × ℕ). c.1) parts.1 in
+    (cc, omega (arith, within, bits))
+read_code_more w (Precision p) es s more found e =
     search (rules, cond_some, prec_of, ltb-false, full_more, le-ltb, length-append)
-
-pub read_code_more : (w : Width) (mode : Mode) (es : List ℕ) (s more : List Bool) (found : List ℤ × ℕ) → read_code w mode es s ≡ Some found
-    → (read_code w mode es (s ++ more) ≡ Some found) × (found.1 ≤ length s)
-read_code_more w Reversible es s more found e = read_rev_more w es s more found e
-read_code_more w (Precision p) es s more found e = read_prec_more w p es s more found e
 read_code_more w (Rate b) es s more found e =
     search (rules, cond_some, ltb-false, le-ltb, length-append, take-append-le)
 
@@ -101,9 +85,7 @@ read_next_more b s more None d behind found same later e = absurd cc
 read_next_more b s more (Some code) d behind found same later e =
     let here = same code refl in
     let rest = drop code.1 s in
-    ap (λ c. read_next b (s ++ more) c behind) here.0
-    ∙ ap (λ (t : List Bool). with_block code.0 (behind t)) (drop-append-le code.1 s more here.1)
-    ∙ with_block_more more code.0 (behind rest) (behind (rest ++ more)) found (later rest) e
+    cc (here.0, drop-append-le code.1 s more here.1, with_block_more more code.0 (behind rest) (behind (rest ++ more)) found (later rest) e)
 
 pub read_codes_more : (h : Header) (b n : ℕ) (s more : List Bool) (found : List (List ℤ) × List Bool) → read_codes h b n s ≡ Ok found
     → read_codes h b n (s ++ more) ≡ Ok (found.0, found.1 ++ more)

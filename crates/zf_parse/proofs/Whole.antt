@@ -1,5 +1,5 @@
 -- The codes of a stream that are read, each whole, and the first that is short.
-use Rattle.std.proofs.Common.{◌≡◌, ◌⊎◌, inl, inr, refl, sym, ap, subst, ◌∙◌, ℕ, zero, suc, ◌+◌, ◌<◌, ◌≤◌, Bool, false, ℤ, Option, Some, None, Result, Ok, Err, List, [], ◌∷◌, ◌++◌, map, length, take, drop, replicate, append_assoc, length-append, arith, rules}
+use Rattle.std.proofs.Common.{◌≡◌, ⊎_elim, refl, sym, ap, subst, ◌∙◌, ℕ, zero, suc, ◌+◌, ◌<◌, ◌≤◌, Bool, false, ℤ, Option, Some, None, Result, Ok, Err, List, [], ◌∷◌, ◌++◌, map, length, take, drop, replicate, append_assoc, length-append, arith, rules}
 use Rattle.std.{specs.List.{flat_map}, proofs.lemmas.Bool.{cases_lt}}
 use Rattle.std.proofs.lemmas.List.{append-nil, take-append-drop, take-append-le, take-take, take_at, length-take-le, length-replicate}
 use Rattle.std.proofs.Math.Seq.{take-append_seam, drop-append_seam}
@@ -7,7 +7,7 @@ use Rattle.zf_spec.specs.Grid.{extent_of}
 use Rattle.zf_base.{specs.Widths.{width_of}, proofs.Extents.{length-extent_of}}
 use Rattle.zf_header.specs.declared.header.Header.{Header}
 use Rattle.zf_parse.{specs.Parsing.{read_code, coded_blocks, longest_code}, specs.Cuts.{IsCode, AreCodes}}
-use Rattle.zf_parse.{proofs.Steps.{Coded, codes_in, with_coded, next_coded}, proofs.Enough.{enough_for_one}}
+use Rattle.zf_parse.{proofs.Steps.{Coded, codes_in, with_coded, next_coded, none_or_some}, proofs.Enough.{enough_for_one}}
 use Rattle.zf_parse.proofs.Prefixes.{read_code_whole}
 
 -- ---- codes that are read whole
@@ -38,8 +38,7 @@ read_whole h b (suc n) s found e = by (read_code (width_of h.ty) h.mode (extent_
         let here = read_code_whole (width_of h.ty) h.mode (extent_of h.shape b) s code.0 code.1 is in
         let inner = later (drop code.1 s) rest e2 in
         let same : ((c, code.0) ∷ rest.0, rest.1) ≡ found = cc in
-        let parts : s ≡ (c ++ flat_map (λ x. x) (codes_in rest)) ++ rest.1 =
-        sym (take-append-drop code.1 s) ∙ ap (λ (u : List Bool). c ++ u) inner.bits ∙ sym (append_assoc c (flat_map (λ x. x) (codes_in rest)) rest.1) in
+        let parts : s ≡ (c ++ flat_map (λ x. x) (codes_in rest)) ++ rest.1 = cc (take-append-drop code.1 s, inner.bits, append_assoc c (flat_map (λ x. x) (codes_in rest)) rest.1) in
         subst (λ (f : Coded). Whole h b (suc n) s f) same (record { stand = (here.1, inner.stand); count = ap suc inner.count; bits = parts })
 
     by : (o : Option (List ℤ × ℕ)) → read_code (width_of h.ty) h.mode (extent_of h.shape b) s ≡ o → ((t : List Bool) (rest : Coded) → coded_blocks h (suc b) n t ≡ Ok rest → Whole h (suc b) n t rest) → Whole h b (suc n) s found
@@ -112,10 +111,7 @@ read_front h b (c ∷ cs) left whole =
     let after : drop (length c) s ≡ rest = ap (drop (length c)) together ∙ drop-append_seam c rest in
     record {
       blocks = (c, block) ∷ behind.blocks;
-      read = ap (λ (o : Option (List ℤ × ℕ)). next_coded b s o next) here
-          ∙ ap (λ (d : List Bool). with_coded d block (next (drop (length c) s))) this
-          ∙ ap (λ (t : List Bool). with_coded c block (next t)) after
-          ∙ ap (with_coded c block) behind.read;
+      read = cc (here, this, after, behind.read);
     }
 
 -- however bits go on, the code of a block has a bit past their end
@@ -124,44 +120,33 @@ IsShort h b left = (code more rest : List Bool) → IsCode h b code → left ++ 
 
 module _ (h : Header) (b : ℕ) (left : List Bool) where
   pub none_of_short : IsShort h b left → read_code (width_of h.ty) h.mode (extent_of h.shape b) left ≡ None
-  none_of_short short = by (read_code (width_of h.ty) h.mode (extent_of h.shape b) left) refl
-    where
-      by : (o : Option (List ℤ × ℕ)) → read_code (width_of h.ty) h.mode (extent_of h.shape b) left ≡ o → read_code (width_of h.ty) h.mode (extent_of h.shape b) left ≡ None
-      by None e = e
-      by (Some code) e =
-          let k = code.1 in
-          let here = read_code_whole (width_of h.ty) h.mode (extent_of h.shape b) left code.0 k e in
-          let lt = short (take k left) [] (drop k left) (code.0, here.1) (append-nil left ∙ sym (take-append-drop k left)) in
-          absurd (omega (arith, lt, here.0, length-take-le k left here.0))
+  none_of_short short = ⊎_elim (λ none. none)
+      (λ found.
+      let k = found.0.1 in
+      let here = read_code_whole (width_of h.ty) h.mode (extent_of h.shape b) left found.0.0 k found.1 in
+      let lt = short (take k left) [] (drop k left) (found.0.0, here.1) (append-nil left ∙ sym (take-append-drop k left)) in
+      absurd (omega (arith, lt, here.0, length-take-le k left here.0)))
+      (none_or_some (read_code (width_of h.ty) h.mode (extent_of h.shape b) left))
 
   pub short_of_none : read_code (width_of h.ty) h.mode (extent_of h.shape b) left ≡ None → IsShort h b left
-  short_of_none none code more rest is e = by (cases_lt (length left) (length code))
-    where
-      by : (length left < length code) ⊎ (length code ≤ length left) → length left < length code
-      by (inl lt) = lt
-      by (inr le) =
-          grind (arith, take-append-le (length code) left more le, take_at code rest (length code) refl, take-append-drop (length code) left)
+  short_of_none none code more rest is e = ⊎_elim (λ lt. lt)
+      (λ le. grind (arith, take-append-le (length code) left more le, take_at code rest (length code) refl, take-append-drop (length code) left))
+      (cases_lt (length left) (length code))
 
   -- what is left begins a code, which zeros behind it end
   pub begun_of_none : read_code (width_of h.ty) h.mode (extent_of h.shape b) left ≡ None → (more : List Bool) × IsCode h b (left ++ more)
-  begun_of_none none = by (read_code (width_of h.ty) h.mode (extent_of h.shape b) s) refl
-    where
-      zeros : List Bool
-      zeros = replicate (longest_code h) false
-
-      s : List Bool
-      s = left ++ zeros
-
-      by : (o : Option (List ℤ × ℕ)) → read_code (width_of h.ty) h.mode (extent_of h.shape b) s ≡ o → (more : List Bool) × IsCode h b (left ++ more)
-      by None e = search (rules, enough_for_one, length-extent_of, length-append, length-replicate)
-      by (Some code) e =
-          let k = code.1 in
-          let n = length left in
-          let all = left ++ replicate (longest_code h) false in
-          let here = read_code_whole (width_of h.ty) h.mode (extent_of h.shape b) all code.0 k e in
-          let lt = short_of_none none (take k all) (replicate (longest_code h) false) (drop k all) (code.0, here.1) (sym (take-append-drop k all)) in
-          let long : n ≤ k = omega (arith, lt, here.0, length-take-le k all here.0) in
-          let more = drop n (take k all) in
-          let first : take n (take k all) ≡ left = take-take n k all long ∙ take_at left (replicate (longest_code h) false) n refl in
-          let is : take k all ≡ left ++ more = sym (take-append-drop n (take k all)) ∙ ap (λ (t : List Bool). t ++ more) first in
-          (more, subst (λ (c : List Bool). IsCode h b c) is (code.0, here.1))
+  begun_of_none none =
+      let zeros : List Bool = replicate (longest_code h) false in
+      let s = left ++ zeros in
+      let n = length left in
+      ⊎_elim
+      (λ e. search (rules, enough_for_one, length-extent_of, length-append, length-replicate))
+      (λ found.
+      let k = found.0.1 in
+      let here = read_code_whole (width_of h.ty) h.mode (extent_of h.shape b) s found.0.0 k found.1 in
+      let lt = short_of_none none (take k s) zeros (drop k s) (found.0.0, here.1) (sym (take-append-drop k s)) in
+      let long : n ≤ k = omega (arith, lt, here.0, length-take-le k s here.0) in
+      let more = drop n (take k s) in
+      let is : take k s ≡ left ++ more = cc (take-append-drop n (take k s), take-take n k s long, take_at left zeros n refl) in
+      (more, subst (λ (c : List Bool). IsCode h b c) is (found.0.0, here.1)))
+      (none_or_some (read_code (width_of h.ty) h.mode (extent_of h.shape b) s))

@@ -1,49 +1,13 @@
 -- `slice` shows a run of values that the places lend. Assumes `Logic`.
-use mathlib.Core.Path.{◌≡◌, refl, sym, ap, subst, ◌∙◌}
-use Prim.Native.Nat.{ℕ, ◌+◌, ◌*◌, ◌<◌, ◌^◌}
-use native.Mathlib.Omega.{arith}
-use mathlib.Core.List.{List, [], ◌∷◌, ◌++◌, map}
-use seplogic.Ra.Ura.{Ura}
-use base.Fraction.{full_share}
-use mir.Syntax.{Fn, named, w64}
-use mir.MapTy.{inst_fn}
-use mir.Val.{Val, vptr, vint}
-use base.Logic.{SProp, ent, never, id⊢}
-use base.Fml.{Lft, Share, ftrue, fat, flft}
-use prog.Wp.{Env, Calls, Loops, WpFn, Tables}
-use types.Logic.{Logic}
-use contract.Monad.{fact}
-use contract.Running.{tables, tables_of}
-use sound.WpLaws.{WpFn-mono}
-use types.Kit.{Item, ⋆, ‵, ◌⊛◌, at_ret, ◌$◌, ◌∵◌, !, qed, by, move, keep, drop, use1, split, join, rewrite, fsplit, fjoin, feq_i, feq_l, suffices, frame, done, flt_l, flt_i}
-use types.Part.{whole, sub, agg}
-use types.Run.{stop, fld, of_opd, and_then, no_more, first, blocks, exec, returns, enter, bin, size_word}
-use types.ByLocal.{alloc_all, pass_all, free_all, look_at, get, get_in, sets, sets_last, is, env, take_at, give_at}
-use denote.Exit.{yes, no}
-use denote.RattleType.{owns}
-use denote.Memory.{hidden_shr}
-use denote.Param.{layout}
-use denote.RawPtr.{Ptr, in_a_block}
-use denote.Ref.{Bor, ShrRef}
-use denote.Builtin.{RefOf, usize, SliceRefOf}
-use denote.Signature.{plain}
+use Rattle.zf_lines.proofs.Names.{◌≡◌, refl, sym, ap, subst, ◌∙◌, ℕ, ◌+◌, ◌*◌, ◌<◌, ◌^◌, arith, List, [], ◌∷◌, ◌++◌, map, Ura, full_share, Fn, named, w64, inst_fn, Val, vptr, vint, SProp, ent, never, id⊢, Lft, Share, ftrue, fat, flft, Env, Calls, Loops, WpFn, Tables, Logic, fact, tables, WpFn-mono, Item, ⋆, ‵, ◌⊛◌, at_ret, ◌$◌, ◌∵◌, !, qed, by, move, keep, use1, split, join, rewrite, fsplit, fjoin, feq_i, feq_l, suffices, frame, done, flt_l, flt_i, whole, sub, agg, stop, fld, of_opd, and_then, no_more, first, blocks, exec, returns, enter, bin, size_word, alloc_all, pass_all, free_all, look_at, get, get_in, sets, sets_last, is, env, take_at, give_at, yes, no, owns, hidden_shr, layout, Ptr, in_a_block, Bor, ShrRef, RefOf, usize, plain, nothing, spared, Clauses, Ended, closing, on_entry, triple_of, entered, run_framed, says, needs, Stays, stay_dropped, walk_of, ends_at, Goes-dropped, walk_Meets, after, word, word-Good, length, take, length-take, length-drop, drop_l, Some, length-map, El, R, args, el_x, times_below, uncapped, slice_val}
+use contract.Running.{tables_of}
+use types.Kit.{drop}
+use denote.Builtin.{SliceRefOf}
 use denote.Opens.{hide, unhide}
-use denote.Steps.{nothing}
-use denote.Triple.Carry.{spared}
-use denote.Triple.Clauses.{Clauses, Ended, closing}
-use denote.Triple.Entry.{on_entry}
-use denote.Triple.Spec.{Meets, triple_of}
-use denote.Triple.Table.{entered, run_framed}
-use denote.Triple.Walked.{says, needs, Stays, stay_dropped, walk_of, ends_at, Goes-dropped, walk_Meets}
-use Rattle.std_alloc.{proofs.VecSteps.Shapes.{after}, proofs.RcSteps.{word, word-Good}}
-use lib.ListN.{length, take, length-take, length-drop, drop as drop_l}
-use Rattle.std.{specs.Prelude.{Some}, proofs.lemmas.List.{length-map}}
-use Rattle.core.{proofs.mem.Param.{El, R, args, el_x}, proofs.ptr.Rows.{times_below}}
-use Rattle.core.proofs.slots.Leases.{uncapped}
 use Rattle.zf_lines.{specs.Places.{IsRun}, specs.Ownership.{cells_lent}}
 use Rattle.zf_lines.proofs.Memory.{Cr, Bs, sz, word_had, run_seen}
 use Rattle.zf_lines.specs.contracts.cells.Cells.slice.Key.{name as #self}
-use denote.Slice.{ShrSlice, slice_val, elements_shared}
+use denote.Slice.{ShrSlice, elements_shared}
 use Rattle.zf_lines.proofs.cells.Cells.slice.Statement as stated
 use Rattle.zf_lines.proofs.cells.Cells.slice.Code as code
 
@@ -123,12 +87,6 @@ module _ (E : El) {M : Type 1} {𝓤 : Ura M} (𝓛 : Logic 𝓤) (C : Calls �
       keep ! (1 ∷ 2 ∷ []) $
       by ! (subst (λ (ws : List Val × List Val × List Val × List Val). ent 𝓤 (⋆ 𝓛 Had) (WpFn 𝓤 H C Λ (function E) (ws.0 ++ (ws.1 ++ (ws.2 ++ (ws.3 ++ [])))) Post)) (λ j. (sym e0 j, sym e1 j, sym e2 j, sym e3 j)) (walk asked fits_from fits_len))))))))
 
-meets : (E : El) {M : Type 1} {𝓤 : Ura M} (𝓛 : Logic 𝓤) (𝓣 : Tables 𝓤 𝓛.H)
-    → Meets 𝓛 (ended E).signature (WpFn 𝓤 𝓛.H 𝓣.C 𝓣.Λ (function E)) (closing 𝓛 (ended E) (spec E 𝓛))
-meets E {𝓤 = 𝓤} 𝓛 𝓣 =
-    walk_Meets 𝓛 (ended E) (stayed E) (Goes-dropped 𝓛 1 (RefOf (0 ∷ []) tt (plain (λ _. Cr E)) (λ _. tt)) yes (λ κs x f. refl), (Goes-dropped 𝓛 1 (plain (λ _. Bs E)) no (λ κs x f. refl), (Goes-dropped 𝓛 1 (plain (λ _. usize)) no (λ κs x f. refl), (Goes-dropped 𝓛 1 (plain (λ _. usize)) no (λ κs x f. refl), tt)))) (spec E 𝓛) (WpFn 𝓤 𝓛.H 𝓣.C 𝓣.Λ (function E)) (WpFn-mono 𝓤 𝓛.H 𝓛.laws 𝓣 (function E))
-    (λ z. needs 𝓤 (Asks E z.0.3.0.now z.0.3.1.0 z.0.3.1.1.0 z.0.3.1.1.1.0) _ (entry E 𝓛 𝓣.C 𝓣.Λ z.0.0.0 z.0.1.0 z.0.3.0.ref_ptr.0 z.0.3.0.ref_ptr.1 z.0.3.0.now z.0.3.1.0 z.0.3.1.1.0 z.0.3.1.1.1.0 z.0.4.0 z.0.4.1.0 z.0.4.1.1.0 z.0.4.1.1.1.0))
-
 pub slice_spec : {M : Type 1} → stated.statement M
 unfolding tables_of
 slice_spec 𝓤 𝓛 𝓜 𝓡 wired X LX y =
@@ -136,5 +94,7 @@ slice_spec 𝓤 𝓛 𝓜 𝓡 wired X LX y =
     let 𝓣 : Tables 𝓤 𝓛.H = tables_of 𝓤 𝓛.H 𝓜 (tables 𝓤 𝓛.H 𝓜 𝓡 𝓡.env) in
     let k = #self (args E) in
     spared 𝓛 (ended E).signature (𝓡.run (𝓡.env k)) (run_framed 𝓤 𝓛.H 𝓜 𝓡 (𝓡.env k)) 1 (X.lives, tt) (closing 𝓛 (ended E) (spec E 𝓛))
-    (entered 𝓤 𝓛.H (triple_of 𝓛 (ended E).signature (closing 𝓛 (ended E) (spec E 𝓛))) 𝓣.C 𝓣.Λ k (function E) (code.unfolded 𝓤 𝓛.H 𝓜 𝓡 wired (X, tt)) (meets E 𝓛 𝓣))
+    (entered 𝓤 𝓛.H (triple_of 𝓛 (ended E).signature (closing 𝓛 (ended E) (spec E 𝓛))) 𝓣.C 𝓣.Λ k (function E) (code.unfolded 𝓤 𝓛.H 𝓜 𝓡 wired (X, tt))
+    (walk_Meets 𝓛 (ended E) (stayed E) (Goes-dropped 𝓛 1 (RefOf (0 ∷ []) tt (plain (λ _. Cr E)) (λ _. tt)) yes (λ κs x f. refl), (Goes-dropped 𝓛 1 (plain (λ _. Bs E)) no (λ κs x f. refl), (Goes-dropped 𝓛 1 (plain (λ _. usize)) no (λ κs x f. refl), (Goes-dropped 𝓛 1 (plain (λ _. usize)) no (λ κs x f. refl), tt)))) (spec E 𝓛) (WpFn 𝓤 𝓛.H 𝓣.C 𝓣.Λ (function E)) (WpFn-mono 𝓤 𝓛.H 𝓛.laws 𝓣 (function E))
+    (λ z. needs 𝓤 (Asks E z.0.3.0.now z.0.3.1.0 z.0.3.1.1.0 z.0.3.1.1.1.0) _ (entry E 𝓛 𝓣.C 𝓣.Λ z.0.0.0 z.0.1.0 z.0.3.0.ref_ptr.0 z.0.3.0.ref_ptr.1 z.0.3.0.now z.0.3.1.0 z.0.3.1.1.0 z.0.3.1.1.1.0 z.0.4.0 z.0.4.1.0 z.0.4.1.1.0 z.0.4.1.1.1.0))))
     ((y.0.0, y.0.1, tt, y.0.3, y.0.4), y.1)
