@@ -25,26 +25,21 @@ groups_same a b (suc r) l runs e = search (rules, kept_tail-one, kept_tail-zeros
 
 runs_same : (a b : List Bool) → length a ≡ length b → RunsSame a b
 runs_same [] [] l s f g e = refl
-runs_same [] (d ∷ b) l s f g e = absurd (omega arith)
-runs_same (c ∷ a) [] l s f g e = absurd (omega arith)
 runs_same (c ∷ a) (d ∷ b) l zero f g e = ap (λ ds. true ∷ ds) (zeros_same a b (omega arith))
 runs_same (c ∷ []) (d ∷ []) l (suc s) f g e = refl
-runs_same (c ∷ []) (d ∷ d' ∷ b) l (suc s) f g e = absurd (omega arith)
-runs_same (c ∷ c' ∷ a) (d ∷ []) l (suc s) f g e = absurd (omega arith)
 runs_same (true ∷ c' ∷ a) (true ∷ d' ∷ b) l (suc s) f g e =
     let rest : first_bits s (tail (c' ∷ a)) ≡ first_bits s (tail (d' ∷ b)) = cc in
     ap (λ ds. true ∷ ds) (groups_same (c' ∷ a) (d' ∷ b) s (omega arith) (runs_same (c' ∷ a) (d' ∷ b) (omega arith)) rest)
 runs_same (false ∷ c' ∷ a) (false ∷ d' ∷ b) l (suc s) f g e =
     let rest : first_bits s (code_from_run (c' ∷ a)) ≡ first_bits s (code_from_run (d' ∷ b)) = cc in
     ap (λ ds. false ∷ ds) (runs_same (c' ∷ a) (d' ∷ b) (omega arith) s f g rest)
-runs_same (true ∷ c' ∷ a) (false ∷ d' ∷ b) l (suc s) f g e = let no : true ≡ false = cc in absurd (true≢false no)
-runs_same (false ∷ c' ∷ a) (true ∷ d' ∷ b) l (suc s) f g e = let no : false ≡ true = cc in absurd (false≢true no)
+runs_same (c ∷ c' ∷ a) (d ∷ d' ∷ b) l (suc s) f g e = cc
+runs_same a b l s f g e = absurd (omega arith)
 
 pub tails_same : (a b : List Bool) (r : ℕ) → length a ≡ length b → first_bits r (tail a) ≡ first_bits r (tail b) → kept_tail r a ≡ kept_tail r b
 tails_same [] [] r l e = refl
-tails_same [] (d ∷ b) r l e = absurd (omega arith)
-tails_same (c ∷ a) [] r l e = absurd (omega arith)
 tails_same (c ∷ a) (d ∷ b) r l e = groups_same (c ∷ a) (d ∷ b) r l (runs_same (c ∷ a) (d ∷ b) l) e
+tails_same a b r l e = absurd (omega arith)
 
 -- ---- one plane
 
@@ -182,15 +177,10 @@ kept_planes-planes_in size budget ps some all =
     let count = length-planes_in (length ps) size s in
     let sizes = planes_in-length (length ps) size s in
     ⊎_elim
-    (λ (more : budget < n).
-    let same : first_bits budget (code qs) ≡ first_bits budget (code ps) =
-    ap (first_bits budget) begins ∙ first_bits-first_bits budget n s (omega arith)
-    ∙ first_bits-first_bits budget budget (code ps) (omega arith) in
-    kept_same size budget qs ps some count sizes all same)
+    (λ (more : budget < n). kept_same size budget qs ps some count sizes all (cc (first_bits-first_bits budget n s (omega arith), first_bits-first_bits budget budget (code ps) (omega arith))))
     (λ (fits : n ≤ budget).
-    let own : ps ≡ planes_in (length ps) size (code ps) =
-    full_only size ps (code ps) all (rw append-nil at (begins_itself (code ps) [])) in
+    let own = full_only size ps (code ps) all (rw append-nil at (begins_itself (code ps) [])) in
     let same = full_only size qs (code ps) sizes
     (begins_from_first (code qs) (code ps) (begins ∙ first_bits-first_bits n budget (code ps) fits)) in
-    ap (kept_planes budget) (same ∙ ap (λ p. planes_in p size (code ps)) count ∙ sym own))
+    ap (kept_planes budget) (cc))
     (cases_lt budget n)
