@@ -63,11 +63,8 @@ cut_same n r a b rest more l h cut_a cut_b e =
     let q = min n r in
     let parts : (ds more : List Bool) → plane_code n ds ++ more ≡ take n ds ++ (tail (drop n ds) ++ more) =
     λ ds more. append_assoc (take n ds) (tail (drop n ds)) more in
-    let of_prefix : (k : ℕ) (ds more : List Bool) → k ≤ n → n ≤ length ds
-    → first_bits k (plane_code n ds ++ more) ≡ take k ds =
-    λ k ds more f w. ap (first_bits k) (parts ds more)
-    ∙ first_bits-append (take n ds) (tail (drop n ds) ++ more) k (omega (arith, length-take n ds))
-    ∙ take-take k n ds f in
+    let of_prefix : (k : ℕ) (ds more : List Bool) → k ≤ n → n ≤ length ds → first_bits k (plane_code n ds ++ more) ≡ take k ds =
+    λ k ds more f w. search (rules, append_assoc, first_bits-append, length-take, take-take) in
     let prefixes : (k : ℕ) → k ≤ n → k ≤ r → take k a ≡ take k b =
     λ k f g.
     let of_a = first_bits-first_bits k r (plane_code n a ++ rest) g in
@@ -92,9 +89,8 @@ cut_same n r a b rest more l h cut_a cut_b e =
     omega (arith, length-append (take n a) (tail (drop n a)), length-take n a) in
     let short_b : r - n ≤ length (tail (drop n b)) =
     omega (arith, length-append (take n b) (tail (drop n b)), length-take n b) in
-    rw left (tails_same (drop n a) (drop n b) (r - n) lengths
-    (sym (first_bits-prefix (tail (drop n a)) rest (r - n) short_a) ∙ behind
-    ∙ first_bits-prefix (tail (drop n b)) more (r - n) short_b)))
+    let of_a = first_bits-prefix (tail (drop n a)) rest (r - n) short_a in
+    rw left (tails_same (drop n a) (drop n b) (r - n) lengths (cc (first_bits-prefix (tail (drop n b)) more (r - n) short_b))))
     (cases_lt r n) in
     cc
 
@@ -126,8 +122,6 @@ kept_planes_from-none size n (ds ∷ ps) some all =
 kept_from_same : (size n r : ℕ) (ps qs : List (List Bool)) → 1 ≤ size → n ≤ size → length ps ≡ length qs → All (λ ds. length ds ≡ size) ps → All (λ ds. length ds ≡ size) qs
     → first_bits r (code_from n ps) ≡ first_bits r (code_from n qs) → kept_planes_from r n ps ≡ kept_planes_from r n qs
 kept_from_same size n r [] [] some h l f g e = refl
-kept_from_same size n r [] (b ∷ qs) some h l f g e = absurd (omega arith)
-kept_from_same size n r (a ∷ ps) [] some h l f g e = absurd (omega arith)
 kept_from_same size n r (a ∷ ps) (b ∷ qs) some h l f g e =
     let c = plane_code n a in
     let d = plane_code n b in
@@ -162,6 +156,7 @@ kept_from_same size n r (a ∷ ps) (b ∷ qs) some h l f g e =
     (λ (fits : length c ≤ r).
     whole (plane_same n r a b rest_a rest_b (length_a ∙ sym length_b) (omega (arith, length_a)) fits e) fits)
     (cases_lt r (length c))
+kept_from_same size n r ps qs some h l f g e = absurd (omega arith)
 
 pub kept_same : (size budget : ℕ) (ps qs : List (List Bool)) → 1 ≤ size → length ps ≡ length qs → All (λ ds. length ds ≡ size) ps → All (λ ds. length ds ≡ size) qs
     → first_bits budget (code ps) ≡ first_bits budget (code qs) → kept_planes budget ps ≡ kept_planes budget qs
