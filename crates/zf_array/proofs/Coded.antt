@@ -57,9 +57,7 @@ module _ {X : Type 0} (value : X → ℤ) (w : Width) (d : ℕ) (s : Stored) (c 
 
   -- what is loaded
   pub loaded : (b : ℕ) (values : List ℤ) → existing_of (format_of s) b values ≡ meant (format_of s) b (code_at s b) → existing_of (format now) b values ≡ meant (format now) b ((state now).codes b)
-  loaded b values e =
-      let f = format_now value w d s c room joined now is in
-      ap (λ (g : Format (List Bool)). existing_of g b values) f ∙ e ∙ (λ i. meant (sym f i) b (sym codes_there i b))
+  loaded b values e = let f = format_now value w d s c room joined now is in let k = codes_there in cc
 
   -- a load leaves all as it is
   module _ (t : Stored) (frame : store.frame_of t ≡ store.frame_of s) (same : format_of t ≡ format_of s) (codes : code_at t ≡ code_at s) where
@@ -83,10 +81,9 @@ module _ {X : Type 0} (value : X → ℤ) (w : Width) (d : ℕ) (s : Stored) (c 
     pub stored_coded : (b : ℕ) (values : List ℤ) → code_at t ≡ with_at (code_at s) b (encoded (format_of s) b values)
         → state (held_by value t c) ≡ coded (format now) (state now) (with_at (state now).codes b (encoded (format now) b values))
     stored_coded b values codes =
-        state_after value w d s c room joined t c frame fits_stored
-        ∙ none_coded value (format_of t) c (code_at t) (none_held empty) (state now) lines_there counts_there
-        ∙ (λ i. coded (same i) (state now) (codes i))
-        ∙ (λ i. coded (sym (format_now value w d s c room joined now is) i) (state now) (with_at (sym codes_there i) b (encoded (sym (format_now value w d s c room joined now is) i) b values)))
+        let f = format_now value w d s c room joined now is in
+        let after = state_after value w d s c room joined t c frame fits_stored in
+        let e = none_coded value (format_of t) c (code_at t) (none_held empty) (state now) lines_there counts_there in cc (codes_there)
 
 -- what stands for its codes alone has no block in any line
 pub coded_empty : (a : Held) → IsCoded a → HasEmptyLines a

@@ -1,24 +1,23 @@
 -- What is written through a loan of a part of a block.
-use Rattle.std.proofs.Common.{◌≡◌, ◌⊎◌, inl, inr, refl, sym, ap, subst, ◌∙◌, ℕ, suc, ◌+◌, ◌-◌, ◌^◌, ◌<◌, ◌≤◌, ℤ, pos, cond, Bool, true, false, Some, None, List, [], ◌∷◌, ◌++◌, map, length, get_or, set, take, drop, replicate, append_assoc, length-append, length-drop, drop-cons, take_at, drop_at, arith, rules}
+use Rattle.std.proofs.Common.{◌≡◌, ◌⊎◌, inl, inr, refl, sym, ap, subst, ◌∙◌, ℕ, ◌+◌, ◌-◌, ◌^◌, ◌<◌, ◌≤◌, ℤ, pos, cond, Bool, true, false, Some, List, [], ◌∷◌, ◌++◌, map, length, get_or, set, take, drop, append_assoc, length-append, length-drop, drop-cons, take_at, drop_at, arith, rules}
 use Rattle.std.{specs.Int.{Width}, proofs.lemmas.Bool.{cases_lt, cases_Bool, eqb-true, false≢true}}
-use Rattle.std.proofs.lemmas.List.{length-map, map-append, take-map, drop-map, length-take-le, take-append-drop, drop-drop, get_or-take, get_or-drop, get_or_append_left, get_or-append_right, get_or_past, drop_all, append-nil, set_split}
+use Rattle.std.proofs.lemmas.List.{length-map, map-append, take-map, drop-map, length-take-le, take-append-drop, drop-drop, get_or-take, get_or-drop, get_or_append_left, get_or-append_right, drop_all, append-nil, set_split}
 use Rattle.std.proofs.Math.Seq.{take-add}
-use Rattle.zf_spec.specs.Grid.{upto, blocks}
-use Rattle.zf_spec.proofs.Counting.{length-map-upto, get_or-map-upto, map-get_or-upto, map-upto_same}
+use Rattle.zf_spec.specs.Grid.{blocks}
+use Rattle.zf_spec.proofs.Counting.{map-get_or-upto, map-upto_same}
 use Rattle.zf_base.{specs.Formats.{Format, existing_of}, specs.declared.position.Pos.{Pos}}
 use Rattle.zf_base.proofs.Formats.{existing_of_same, length-existing_of, get_or-existing_of, get_or-existing_of_exists, existing_of-existing_of, with_at-other}
-use Rattle.zf_header.{specs.declared.header.Header.{Header}, specs.HeaderBits.{block_bits}}
+use Rattle.zf_header.{specs.declared.header.Header.{Header}}
 use Rattle.zf_cached.{specs.State.{State}, specs.Touch.{touch_for_writing, with_values}}
-use Rattle.zf_cached.{specs.Changes.{zeros}, proofs.States.{same_state}}
 use Rattle.zf_lines.{specs.Rows.{line_at, part, over, over_part}, proofs.Sizes.{length-over}}
 use Rattle.zf_lines.specs.Rows as rows
 use Rattle.zf_cache.specs.Kept.{Kept, HasRow, IsDirty, tag_at, block_in, line_of, dirty_tag}
 use Rattle.zf_cache.{specs.Standing.{state_of, state_at}, specs.Loans.{StandsFor}, proofs.Sound.{values_here}}
 use Rattle.zf_cache.{proofs.Steps.{part_written}, proofs.Tags.{named, names-dirty}}
-use Rattle.zf_store.{specs.Stored.{Stored, code_at, format_of, rate_of}, proofs.Kept.{block_len_is}}
+use Rattle.zf_store.{specs.Stored.{Stored, code_at, format_of}, proofs.Kept.{block_len_is}}
 use Rattle.zf_array.{specs.Standing.{Held, format, state, array_of}, specs.Parts.{held_by, IsJoined}}
 use Rattle.zf_array.specs.Loans.{spliced, with_part, with_block, with_value}
-use Rattle.zf_array.proofs.Standing.{none_past, clean_past, zeros_past, in_array, state_now, format_now, header_now}
+use Rattle.zf_array.proofs.Standing.{IsBounded, state_array, bounded_of, in_array, state_now, format_now, header_now}
 
 -- ---- values with others in the place of some
 
@@ -48,9 +47,7 @@ spliced_part : (xs : List ℤ) (a n : ℕ) → spliced xs a n (take n (drop a xs
 spliced_part xs a n = ap (λ (ys : List ℤ). ys ++ drop (a + n) xs) (sym (take-add a n xs)) ∙ take-append-drop (a + n) xs
 
 pub part_spliced : (xs : List ℤ) (a n : ℕ) (ys : List ℤ) → length ys ≡ n → a + n ≤ length xs → take n (drop a (spliced xs a n ys)) ≡ ys
-part_spliced xs a n ys long within =
-    ap (λ (zs : List ℤ). take n (drop a zs)) (append_assoc (take a xs) ys (drop (a + n) xs))
-    ∙ ap (take n) (drop_at (take a xs) (ys ++ drop (a + n) xs) a (prefix_long xs a n ys long within)) ∙ take_at ys (drop (a + n) xs) n long
+part_spliced xs a n ys long within = search (rules, append_assoc, drop_at, prefix_long, take_at)
 
 -- values of a block with others in the place of some that exist
 module _ (f : Format (List Bool)) (b : ℕ) (vs : List ℤ) (a n : ℕ) (ys : List ℤ) (whole : existing_of f b vs ≡ vs) (long : length ys ≡ n) (within : a + n ≤ f.block_len)
@@ -76,14 +73,13 @@ module _ (f : Format (List Bool)) (b : ℕ) (vs : List ℤ) (a n : ℕ) (ys : Li
       let on : a + (p - a) ≡ p = omega arith in search (rules, false≢true)
   none_there p lt none (inr h) (inr k) = behind vs a n ys long inside p k ∙ none_outside p lt none
 
-  same_there : (p : ℕ) → p < f.block_len → (f.exists b p ≡ true) ⊎ (f.exists b p ≡ false) → cond (f.exists b p) (get_or new p (pos 0)) (pos 0) ≡ get_or new p (pos 0)
-  same_there p lt (inl e) = ap (λ (t : Bool). cond t (get_or new p (pos 0)) (pos 0)) e
-  same_there p lt (inr e) = ap (λ (t : Bool). cond t (get_or new p (pos 0)) (pos 0)) e ∙ sym (none_there p lt e (cases_lt p a) (cases_lt p (a + n)))
+  same_there : (p : ℕ) → p < f.block_len → cond (f.exists b p) (get_or new p (pos 0)) (pos 0) ≡ get_or new p (pos 0)
+  same_there p lt = search (rules, cases_Bool, none_there, cases_lt)
 
   pub spliced_exists : existing_of f b (spliced vs a n ys) ≡ spliced vs a n ys
   unfolding existing_of
   spliced_exists =
-      map-upto_same (λ p. cond (f.exists b p) (get_or new p (pos 0)) (pos 0)) (λ p. get_or new p (pos 0)) f.block_len (λ p lt. same_there p lt (cases_Bool (f.exists b p)))
+      map-upto_same (λ p. cond (f.exists b p) (get_or new p (pos 0)) (pos 0)) (λ p. get_or new p (pos 0)) f.block_len same_there
       ∙ map-get_or-upto new f.block_len (pos 0) (length-new ∙ size)
 
 module _ {X : Type 0} (value : X → ℤ) (f : Format (List Bool)) (b : ℕ) (row : List X) (a n : ℕ) (whole : length row ≡ f.block_len) (within : a + n ≤ f.block_len) where
@@ -101,57 +97,24 @@ module _ {X : Type 0} (value : X → ℤ) (f : Format (List Bool)) (b : ℕ) (ro
   over_is ws =
       let ys = map value (over (part row a n) ws) in
       let long : length ys ≡ n = length-map (over (part row a n) ws) value ∙ length-over (part row a n) ws ∙ part_long in
-      let sum = drop-drop n a row in
-      let made : map value (over_part row a n ws) ≡ spliced (map value row) a n ys =
-      map-append value (take a row) (over (part row a n) ws ++ drop n (drop a row))
-      ∙ ap (λ (zs : List ℤ). map value (take a row) ++ zs) (map-append value (over (part row a n) ws) (drop n (drop a row)))
-      ∙ sym (append_assoc (map value (take a row)) ys (map value (drop n (drop a row))))
-      ∙ ap (λ (zs : List ℤ). zs ++ ys ++ map value (drop n (drop a row))) (sym (take-map value a row))
-      ∙ ap (λ (zs : List X). take a (map value row) ++ ys ++ map value zs) sum
-      ∙ ap (λ (zs : List ℤ). take a (map value row) ++ ys ++ zs) (sym (drop-map value (a + n) row)) in
+      let made : map value (over_part row a n ws) ≡ spliced (map value row) a n ys = simp (map-append, append_assoc, take-map, drop-map, drop-drop) in
       ap (existing_of f b) made ∙ spliced_exist ys long
 
   -- the part that is lent has the block's values
   pub part_is : existing_of f b (spliced (existing_of f b (map value row)) a n (map value (part row a n))) ≡ existing_of f b (map value row)
   part_is =
-      let ys = map value (part row a n) in
-      let long : length ys ≡ n = length-map (part row a n) value ∙ part_long in
-      let there : ys ≡ take n (drop a (map value row)) = sym (take-map value n (drop a row)) ∙ ap (take n) (sym (drop-map value a row)) in
-      sym (spliced_exist ys long) ∙ ap (λ (zs : List ℤ). existing_of f b (spliced (map value row) a n zs)) there ∙ ap (existing_of f b) (spliced_part (map value row) a n)
+      let long : length (map value (part row a n)) ≡ n = length-map (part row a n) value ∙ part_long in
+      cc (take-map value n (drop a row), drop-map value a row, spliced_exist (map value (part row a n)) long, spliced_part (map value row) a n)
 
 -- one value is a part of one
 one_part : {X : Type 0} (xs : List X) (p : ℕ) (x : X) → p < length xs → get_or xs p x ≡ x → x ∷ [] ≡ part xs p 1
 one_part xs p x inside e = sym (ap (take 1) (drop-cons xs p x inside) ∙ ap (λ y. y ∷ []) e)
-
--- ---- a state of which nothing is said past its lines and blocks
-
-pub record IsBounded (h : Header) (s : State (List Bool)) : Type 0 where
-  pub held : (l : ℕ) → s.lines ≤ l → None ≡ s.held l
-  pub dirty : (b : ℕ) → blocks h.shape ≤ b → false ≡ s.dirty b
-  pub values : (b : ℕ) → blocks h.shape ≤ b → zeros (format (array_of h s)) ≡ s.values b
-  pub codes : (b : ℕ) → blocks h.shape ≤ b → replicate (block_bits h.mode) false ≡ s.codes b
-
-from_list : {Y : Type 0} (g : ℕ → Y) (n k : ℕ) (y : Y) → (n ≤ k → y ≡ g k) → get_or (map g (upto n)) k y ≡ g k
-from_list g n k y behind = search (rules, cases_lt, get_or-map-upto, get_or_past, length-map-upto, behind)
-
-pub state_array : (h : Header) (s : State (List Bool)) → IsBounded h s → state (array_of h s) ≡ s
-unfolding state array_of
-state_array h s bounded = search (rules, same_state, length-map-upto, from_list)
 
 pub bounded_values : (h : Header) (s : State (List Bool)) (b : ℕ) (values : List ℤ) → b < blocks h.shape → IsBounded h s → IsBounded h (with_values s b values)
 unfolding with_values array_of
 bounded_values h s b values below bounded = search (rules, with_at-other)
 
 module _ {X : Type 0} (value : X → ℤ) (w : Width) (d : ℕ) (s : Stored) (c : Kept X) (room : ℕ) (joined : IsJoined value w d s c room) (now : Held) (is : held_by value s c ≡ now) where
-  bounded_of : IsBounded s.header (state_of value c (format_of s) (code_at s))
-  unfolding state_at array_of
-  bounded_of = record {
-    held = none_past value s c joined.count joined.fits;
-    dirty = clean_past value s c joined.count joined.fits;
-    values = zeros_past value s c joined.count joined.fits;
-    codes = λ b past. sym (get_or_past s.codes b (replicate (rate_of s) false) (omega (arith, joined.count)));
-  }
-
   pub tag_is : (b : ℕ) → (state now).dirty b ≡ true → IsDirty c b
   unfolding state_at
   tag_is b dirty = eqb-true (tag_at c.tags (line_of c b)) (dirty_tag b) (sym (ap (λ (u : State (List Bool)). u.dirty b) (state_now value w d s c room joined now is)) ∙ dirty)
@@ -177,28 +140,19 @@ module _ {X : Type 0} (value : X → ℤ) (w : Width) (d : ℕ) (s : Stored) (c 
 
     -- the fields stay joined, whatever is written
     pub joined_lent : (ws : List X) → IsJoined value w d s (record c { lines = rows.with_part c.lines (line_of c b) a n ws }) room
-    joined_lent ws = record {
-      same_type = joined.same_type;
-      dims = joined.dims;
-      shape = joined.shape;
-      rate = joined.rate;
-      count = joined.count;
-      fits = (written ws).fits;
-      room_is = joined.room_is;
-    }
+    joined_lent ws = let fits = (written ws).fits in search rules
 
     module _ (r : List X) (is_r : r ≡ part (line_at c.lines (line_of c b)) a n) where
       pub ends_as : (ws : List X) → held_by value s (record c { lines = rows.with_part c.lines (line_of c b) a n ws }) ≡ with_part now b a n (map value (over r ws))
       ends_as ws =
-          let made = ap (array_of s.header) ((written ws).state ∙ ap (with_values _ b) (over_is value (format_of s) b (line_at c.lines (line_of c b)) a n row_whole row_within ws)) in
-          let End = λ (h : Header) (u : State (List Bool)) (f : Format (List Bool)) (vs : List ℤ) (q : List X). array_of h (with_values u b (existing_of f b (spliced vs a n (map value (over q ws))))) in
-          made
-          ∙ (λ i. End (sym (header_now value w d s c room joined now is) i) (sym (state_now value w d s c room joined now is) i) (sym (format_now value w d s c room joined now is) i) (sym values_are i) (sym is_r i))
+          let over_row = over_is value (format_of s) b (line_at c.lines (line_of c b)) a n row_whole row_within ws in
+          let h = header_now value w d s c room joined now is in
+          let u = state_now value w d s c room joined now is in
+          let f = format_now value w d s c room joined now is in cc ((written ws).state, values_are)
 
       pub shown : existing_of (format now) b (spliced ((state now).values b) a n (map value r)) ≡ (state now).values b
       shown =
-          (λ i. existing_of (format_now value w d s c room joined now is i) b (spliced (values_are i) a n (map value (is_r i))))
-          ∙ part_is value (format_of s) b (line_at c.lines (line_of c b)) a n row_whole row_within ∙ sym values_are
+          cc (format_now value w d s c room joined now is, values_are, part_is value (format_of s) b (line_at c.lines (line_of c b)) a n row_whole row_within)
 
       pub long : length r ≡ n
       long = ap length is_r ∙ part_long value (format_of s) b (line_at c.lines (line_of c b)) a n row_whole row_within
@@ -211,7 +165,7 @@ module _ {X : Type 0} (value : X → ℤ) (w : Width) (d : ℕ) (s : Stored) (c 
     pub state_spliced : (vs : List ℤ) → state (with_part now b a n vs) ≡ with_values (state now) b (existing_of (format now) b (spliced ((state now).values b) a n vs))
     state_spliced vs =
         let below : b < blocks now.header.shape = subst (λ (h : Header). b < blocks h.shape) (sym (header_now value w d s c room joined now is)) (in_array value s c joined.count joined.fits (line_of c b) b names_b) in
-        let bounded = subst (λ (h : Header). IsBounded h (state now)) (sym (header_now value w d s c room joined now is)) (subst (λ (u : State (List Bool)). IsBounded s.header u) (sym (state_now value w d s c room joined now is)) bounded_of) in
+        let bounded = subst (λ (h : Header). IsBounded h (state now)) (sym (header_now value w d s c room joined now is)) (subst (λ (u : State (List Bool)). IsBounded s.header u) (sym (state_now value w d s c room joined now is)) (bounded_of value s c joined.count joined.fits)) in
         state_array now.header (with_values (state now) b _) (bounded_values now.header (state now) b _ below bounded)
 
 pub header_block : (now : Held) (b : ℕ) (vs : List ℤ) → (with_block now b vs).header ≡ now.header
@@ -230,8 +184,7 @@ header_spliced now b a n vs = refl
 
 -- another value in the place of one
 spliced_one : (vs : List ℤ) (p : ℕ) (v : ℤ) → p < length vs → spliced vs p 1 (v ∷ []) ≡ set vs p v
-spliced_one vs p v inside =
-    append_assoc (take p vs) (v ∷ []) (drop (p + 1) vs) ∙ ap (λ k. take p vs ++ v ∷ drop k vs) (let e : p + 1 ≡ suc p = omega arith in e) ∙ sym (set_split vs p v inside)
+spliced_one vs p v inside = search (rules, append_assoc, set_split)
 
 -- the array a is the array now with block b touched for writing, and its n values from place p on are ys
 module _ (now a : Held) (b p n : ℕ) (ys : List ℤ) (head : a.header ≡ now.header) (is : state a ≡ touch_for_writing (format now) (state now) b) (long : length ys ≡ n)
@@ -284,8 +237,7 @@ module _ (now a : Held) (b p : ℕ) (y : ℤ) (head : a.header ≡ now.header) (
 
   pub value_there : y ≡ get_or (t.values b) p (pos 0)
   value_there =
-      ap (λ (xs : List ℤ). get_or xs 0 (pos 0))
-      (found_there now a b p 1 (y ∷ []) head is refl shows one_within one_exists ∙ ap (take 1) (drop-cons (t.values b) p (pos 0) one_inside))
+      let e = found_there now a b p 1 (y ∷ []) head is refl shows one_within one_exists ∙ ap (take 1) (drop-cons (t.values b) p (pos 0) one_inside) in cc
 
   set_there : (v : ℤ) → with_values t b (spliced (t.values b) p 1 (v ∷ [])) ≡ with_values t b (set (t.values b) p v)
   set_there v = ap (with_values t b) (spliced_one (t.values b) p v one_inside)

@@ -14,35 +14,26 @@ use Rattle.zf_base.specs.declared.shape.ShapeFault.TheVariants as shape
 
 first_fault-some : (a b : List (Bool × HeaderFault)) (f : HeaderFault) → Some f ≡ first_fault a → Some f ≡ first_fault (a ++ b)
 first_fault-some [] b f e = absurd cc
-first_fault-some (line ∷ a) b f e =
-    elim line.0 as (λ t. Some f ≡ cond t (Some line.1) (first_fault a) → Some f ≡ cond t (Some line.1) (first_fault (a ++ b))) [
-      | true ↦ λ h. h
-      | false ↦ λ h. first_fault-some a b f h
-    ] e
+first_fault-some ((true, g) ∷ a) b f e = e
+first_fault-some ((false, g) ∷ a) b f e = first_fault-some a b f e
 
 first_fault-none : (a b : List (Bool × HeaderFault)) → None ≡ first_fault a → first_fault b ≡ first_fault (a ++ b)
 first_fault-none [] b e = refl
-first_fault-none (line ∷ a) b e =
-    elim line.0 as (λ t. None ≡ cond t (Some line.1) (first_fault a) → first_fault b ≡ cond t (Some line.1) (first_fault (a ++ b))) [
-      | true ↦ λ h. absurd cc
-      | false ↦ λ h. first_fault-none a b h
-    ] e
+first_fault-none ((true, g) ∷ a) b e = absurd cc
+first_fault-none ((false, g) ∷ a) b e = first_fault-none a b e
 
 pub prefix_fault : (bytes : List ℕ) (f : HeaderFault) → Some f ≡ first_fault (prefix_faults bytes) → Some f ≡ header_fault bytes
 unfolding header_fault
-prefix_fault bytes f e =
-    first_fault-some (prefix_faults bytes ++ size_faults bytes) (mode_faults bytes) f (first_fault-some (prefix_faults bytes) (size_faults bytes) f e)
+prefix_fault bytes f e = search (rules, first_fault-some)
 
 pub size_fault : (bytes : List ℕ) (f : HeaderFault) → None ≡ first_fault (prefix_faults bytes) → Some f ≡ first_fault (size_faults bytes) → Some f ≡ header_fault bytes
 unfolding header_fault
-size_fault bytes f prefix e =
-    first_fault-some (prefix_faults bytes ++ size_faults bytes) (mode_faults bytes) f (e ∙ first_fault-none (prefix_faults bytes) (size_faults bytes) prefix)
+size_fault bytes f prefix e = search (rules, first_fault-some, first_fault-none)
 
 -- where the prefix and the size are good, the mode decides
 pub mode_fault : (bytes : List ℕ) → None ≡ first_fault (prefix_faults bytes) → None ≡ first_fault (size_faults bytes) → first_fault (mode_faults bytes) ≡ header_fault bytes
 unfolding header_fault
-mode_fault bytes prefix size =
-    first_fault-none (prefix_faults bytes ++ size_faults bytes) (mode_faults bytes) (size ∙ first_fault-none (prefix_faults bytes) (size_faults bytes) prefix)
+mode_fault bytes prefix size = search (rules, first_fault-none)
 
 -- ---- sizes from fields
 
@@ -64,8 +55,7 @@ list_any-none p f [] none = refl
 list_any-none p f (k ∷ ks) none = rw (none k, list_any-none p f ks none) refl
 
 not_zero : (n : ℕ) → 1 ≤ n → (n == 0) ≡ false
-not_zero zero some = absurd (omega arith)
-not_zero (suc n) some = grind (arith, nat_tests)
+not_zero n some = grind (arith, nat_tests)
 
 -- so they can only be too many values
 pub shape_fault-sizes_in : (s : List Bool) → shape_fault (sizes_in s) ≡ cond (nat_lt max_values (product (sizes_in s))) (Some shape.TooLarge) None

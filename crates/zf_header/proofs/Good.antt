@@ -1,7 +1,7 @@
 -- What bytes without a fault are.
 use Rattle.std.proofs.Common.{rules, ◌≡◌, ℕ, ◌^◌, ◌<◌, ◌≤◌, ◌==◌, Bool, true, false, not, ◌&&◌, ◌||◌, cond, nat_le, List, [], ◌∷◌, length, Some, None, refl, arith}
 use Rattle.std.{specs.List.{AllByRecursion}, proofs.lemmas.Bool.Decides.{nat_tests}}
-use Rattle.std.proofs.lemmas.Bool.{ltb-false, leb-false, le-leb, cases_lt, cases_eq, eq-eqb, ne_eqb, le-ltb, lt-leb, and_left, and_right, not_from_true, not-false}
+use Rattle.std.proofs.lemmas.Bool.{ltb-false, cases_lt, cases_eq, eq-eqb, ne_eqb, le-ltb, lt-leb, and_left, and_right, not_from_true, not-false}
 use Rattle.zf_spec.{specs.Grid.{product, max_values}, specs.Stream.{magic, codec, to_bits}}
 use Rattle.zf_header.{specs.declared.header.HeaderFault.{HeaderFault}, proofs.Bits.{number_at_below}}
 use Rattle.zf_header.specs.HeaderFields.{magic_in, codec_in, type_in, dims_in, sizes_in, mode_in, is_long_rate}
@@ -44,7 +44,7 @@ beside true x e h = e
 beside false x e h = absurd cc
 
 outside : (a m b : ℕ) → (nat_le a m && nat_le m b) ≡ false → a ≤ m → b < m
-outside a m b e above = leb-false m b (beside (nat_le a m) (nat_le m b) e (le-leb a m above))
+outside a m b e above = grind (arith, nat_tests)
 
 good_mode : (bytes : List ℕ) → AllFalse (mode_faults bytes) → mode_in (to_bits bytes) < 2 ^ 12 → GoodMode bytes
 good_mode bytes none small = search (rules, cases_lt, cases_eq, outside, eq-eqb, ltb-false, beside, not-false)
@@ -65,10 +65,7 @@ above_range : (a m b : ℕ) → b < m → (nat_le a m && nat_le m b) ≡ false
 above_range a m b lt = and_right _ _ (lt-leb m b lt)
 
 mode_lines : (bytes : List ℕ) → GoodMode bytes → AllFalse (mode_faults bytes)
-mode_lines bytes (short few) = search (rules, ne_eqb, below_range, and_left)
-mode_lines bytes (precise low high) = search (rules, ne_eqb, below_range, and_left)
-mode_lines bytes (without_loss is) = search (rules, ne_eqb, below_range, and_left)
-mode_lines bytes (long begun enough is_rate) = search (rules, above_range, and_right, le-ltb, not_from_true)
+mode_lines bytes g = search (rules, ne_eqb, below_range, and_left, above_range, and_right, le-ltb, not_from_true)
 
 codec_known : (d : ℕ) → (codec d == 5 || codec d == 69) ≡ true
 codec_known d = elim (nat_le d 2) as (λ t. (cond t 5 69 == 5 || cond t 5 69 == 69) ≡ true) [ true ↦ refl | false ↦ refl ]

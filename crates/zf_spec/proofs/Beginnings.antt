@@ -1,23 +1,20 @@
 -- Lists of bits that begin a list continued with zeros.
-use Rattle.std.proofs.Common.{◌≡◌, refl, sym, ap, subst, ◌∙◌, ℕ, zero, suc, ◌-◌, ◌≤◌, Bool, false, List, [], ◌∷◌, ◌++◌, length, take, drop, arith}
+use Rattle.std.proofs.Common.{◌≡◌, refl, sym, ap, subst, ℕ, zero, suc, ◌-◌, ◌≤◌, Bool, List, [], ◌∷◌, ◌++◌, length, take, drop, arith, rules}
 use Rattle.std.proofs.Math.Seq.{drop-nil}
 use Rattle.zf_spec.specs.ReadPlanes.{Begins, first_bits}
 
 pub length-first_bits : (n : ℕ) (s : List Bool) → length (first_bits n s) ≡ n
 length-first_bits zero s = refl
-length-first_bits (suc n) [] = ap suc (length-first_bits n [])
-length-first_bits (suc n) (b ∷ s) = ap suc (length-first_bits n s)
+length-first_bits (suc n) s = let rest = length-first_bits n in search rules
 
 pub first_begins : (n : ℕ) (s : List Bool) → Begins (first_bits n s) s
 first_begins zero s = tt
-first_begins (suc n) [] = (refl, first_begins n [])
-first_begins (suc n) (b ∷ s) = (refl, first_begins n s)
+first_begins (suc n) s = let rest = first_begins n in search rules
 
 -- bits that begin s are its first bits
 pub begins_is_first : (bits s : List Bool) → Begins bits s → bits ≡ first_bits (length bits) s
 begins_is_first [] s h = refl
-begins_is_first (b ∷ bits) [] h = ap (λ c. c ∷ bits) h.0 ∙ ap (λ cs. false ∷ cs) (begins_is_first bits [] h.1)
-begins_is_first (b ∷ bits) (c ∷ s) h = ap (λ a. a ∷ bits) h.0 ∙ ap (λ cs. c ∷ cs) (begins_is_first bits s h.1)
+begins_is_first (b ∷ bits) s h = let rest = begins_is_first bits in search rules
 
 pub begins_from_first : (bits s : List Bool) → bits ≡ first_bits (length bits) s → Begins bits s
 begins_from_first bits s e = subst (λ cs. Begins cs s) (sym e) (first_begins (length bits) s)
@@ -25,18 +22,15 @@ begins_from_first bits s e = subst (λ cs. Begins cs s) (sym e) (first_begins (l
 -- what begins in two parts
 pub begins_append : (a b s : List Bool) → Begins a s → Begins b (drop (length a) s) → Begins (a ++ b) s
 begins_append [] b s f g = g
-begins_append (x ∷ a) b [] f g = (f.0, begins_append a b [] f.1 (rw drop-nil g))
-begins_append (x ∷ a) b (c ∷ s) f g = (f.0, begins_append a b s f.1 g)
+begins_append (x ∷ a) b s f g = let rest = begins_append a b in search (rules, drop-nil)
 
 pub begins_prefix : (a b s : List Bool) → Begins (a ++ b) s → Begins a s
 begins_prefix [] b s h = tt
-begins_prefix (x ∷ a) b [] h = (h.0, begins_prefix a b [] h.1)
-begins_prefix (x ∷ a) b (c ∷ s) h = (h.0, begins_prefix a b s h.1)
+begins_prefix (x ∷ a) b s h = let rest = begins_prefix a b in search rules
 
 pub begins_rest : (a b s : List Bool) → Begins (a ++ b) s → Begins b (drop (length a) s)
 begins_rest [] b s h = h
-begins_rest (x ∷ a) b [] h = rw drop-nil at (begins_rest a b [] h.1)
-begins_rest (x ∷ a) b (c ∷ s) h = begins_rest a b s h.1
+begins_rest (x ∷ a) b s h = let rest = begins_rest a b in search (rules, drop-nil)
 
 -- a list begins each list that goes on with it
 pub begins_itself : (a b : List Bool) → Begins a (a ++ b)
@@ -47,8 +41,7 @@ begins_itself (x ∷ a) b = (refl, begins_itself a b)
 pub first_bits-first_bits : (m n : ℕ) (s : List Bool) → m ≤ n → first_bits m (first_bits n s) ≡ first_bits m s
 first_bits-first_bits zero n s h = refl
 first_bits-first_bits (suc m) zero s h = absurd (omega arith)
-first_bits-first_bits (suc m) (suc n) [] h = ap (λ bs. false ∷ bs) (first_bits-first_bits m n [] (omega arith))
-first_bits-first_bits (suc m) (suc n) (b ∷ s) h = ap (λ bs. b ∷ bs) (first_bits-first_bits m n s (omega arith))
+first_bits-first_bits (suc m) (suc n) s h = let rest = first_bits-first_bits m n in search rules
 
 pub first_bits-append : (a b : List Bool) (n : ℕ) → n ≤ length a → first_bits n (a ++ b) ≡ take n a
 first_bits-append a b zero h = refl
@@ -60,9 +53,7 @@ pub first_bits-rest : (a b c : List Bool) (n : ℕ) → length a ≤ n → first
 first_bits-rest [] b c n h e = let z : n - 0 ≡ n = omega arith in rw z e
 first_bits-rest (x ∷ a) b c zero h e = absurd (omega arith)
 first_bits-rest (x ∷ a) b c (suc n) h e =
-    let z : suc n - suc (length a) ≡ n - length a = omega arith in
-    let rest : first_bits n (a ++ b) ≡ first_bits n (a ++ c) = cc in
-    rw z (first_bits-rest a b c n (omega arith) rest)
+    let z : suc n - suc (length a) ≡ n - length a = omega arith in rw z (first_bits-rest a b c n (omega arith) cc)
 
 -- past the first n bits a list does not count
 pub first_bits-prefix : (a b : List Bool) (n : ℕ) → n ≤ length a → first_bits n (a ++ b) ≡ first_bits n a

@@ -75,8 +75,7 @@ filled_only bs n h e = search rules
 
 pub length-first_bytes : (n : ℕ) (s : List ℕ) → length (first_bytes n s) ≡ n
 length-first_bytes zero s = refl
-length-first_bytes (suc n) [] = ap suc (length-first_bytes n [])
-length-first_bytes (suc n) (b ∷ s) = ap suc (length-first_bytes n s)
+length-first_bytes (suc n) s = let rest = length-first_bytes n in search rules
 
 pub All-first_bytes : (n : ℕ) (s : List ℕ) → All (λ b. b < 256) s → All (λ b. b < 256) (first_bytes n s)
 All-first_bytes zero s all = All-nil (λ b. b < 256)
@@ -93,10 +92,8 @@ first_bytes-all (b ∷ s) = ap (λ zs. b ∷ zs) (first_bytes-all s)
 
 pub first_bytes-add : (m n : ℕ) (s : List ℕ) → first_bytes (m + n) s ≡ first_bytes m s ++ first_bytes n (drop m s)
 first_bytes-add zero n s = let e : zero + n ≡ n = omega arith in rw e refl
-first_bytes-add (suc m) n [] =
-    let e : suc m + n ≡ suc (m + n) = omega arith in rw (e, first_bytes-add m n [], drop-nil) refl
-first_bytes-add (suc m) n (b ∷ s) =
-    let e : suc m + n ≡ suc (m + n) = omega arith in rw (e, first_bytes-add m n s) refl
+first_bytes-add (suc m) n s =
+    let e : suc m + n ≡ suc (m + n) = omega arith in let rest = first_bytes-add m n in search (rules, drop-nil)
 
 -- ---- the bytes of a number, the lowest first: std's words by recursion
 
@@ -121,9 +118,7 @@ low_bytes_small (suc k) n = All-cons (λ b. b < 256) (n % 256) (low_bytes k (n /
 low_number-low_bytes : (k n : ℕ) → n < 256 ^ k → low_number (low_bytes k n) ≡ n
 unfolding low_bytes low_number
 low_number-low_bytes zero n h = omega arith
-low_number-low_bytes (suc k) n h =
-    let rest = low_number-low_bytes k (n / 256) (omega arith) in
-    omega arith
+low_number-low_bytes (suc k) n h = let rest = low_number-low_bytes k (n / 256) (omega arith) in omega arith
 
 low_bytes-low_number : (bs : List ℕ) → All (λ b. b < 256) bs → low_bytes (length bs) (low_number bs) ≡ bs
 unfolding low_bytes low_number
@@ -156,13 +151,12 @@ bytes_low_first-is i (suc k) n =
 -- one more byte at the end
 low_number-push : (bs : List ℕ) (k : ℕ) → length bs ≡ suc k → low_number bs ≡ low_number (take k bs) + get_or bs k 0 * 256 ^ k
 unfolding low_number
-low_number-push [] k l = absurd (omega arith)
 low_number-push (b ∷ []) zero l = omega arith
-low_number-push (b ∷ c ∷ bs) zero l = absurd (omega arith)
 low_number-push (b ∷ bs) (suc k) l =
     let rest = low_number-push bs k (omega arith) in
     let power = ap (λ p. get_or bs k 0 * p) (pow-suc 256 k) in
     omega arith
+low_number-push bs k l = absurd (omega arith)
 
 sum_through-is : (bs : List ℕ) (k : ℕ) → suc k ≤ length bs → sum_through (λ i. byte_worth i (get_or bs i 0)) k ≡ low_number (take (suc k) bs)
 unfolding low_number

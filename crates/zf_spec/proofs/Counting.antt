@@ -23,8 +23,7 @@ pub count_from-add : (k m n : ℕ) → count_from k (m + n) ≡ count_from k m +
 count_from-add k zero n = let e : zero + n ≡ n = omega arith in let f : k + zero ≡ k = omega arith in rw (e, f) refl
 count_from-add k (suc m) n =
     let e : suc m + n ≡ suc (m + n) = omega arith in
-    let f : suc k + m ≡ k + suc m = omega arith in
-    rw e (ap (λ ks. k ∷ ks) (count_from-add (suc k) m n ∙ ap (λ j. count_from (suc k) m ++ count_from j n) f))
+    let f : suc k + m ≡ k + suc m = omega arith in cc (count_from-add (suc k) m n)
 
 -- what is among the numbers from k on, n of them, lies from k to below k + n
 pub count_from_bounds : (k n q : ℕ) → Contains (count_from k n) q → (k ≤ q) × (q < k + n)
@@ -60,17 +59,8 @@ map-get_or-upto xs n d l = from_places (λ k. get_or xs k d) n d xs l (λ k h. r
 
 -- functions that agree below n make the same list of the numbers below n
 pub map-upto_same : {X : Type 0} (f g : ℕ → X) (n : ℕ) → ((k : ℕ) → k < n → f k ≡ g k) → map f (upto n) ≡ map g (upto n)
-map-upto_same {X} f g n h = from 0 n (λ k p q. h k (omega arith))
-  where
-    from : (j m : ℕ) → ((k : ℕ) → j ≤ k → k < j + m → f k ≡ g k) → map f (count_from j m) ≡ map g (count_from j m)
-    from j zero h = refl
-    from j (suc m) h = ap (λ x. x ∷ map f (count_from (suc j) m)) (h j (omega arith) (omega arith)) ∙ ap (λ xs. g j ∷ xs) (from (suc j) m (λ k p q. h k (omega arith) (omega arith)))
+map-upto_same {X} f g n h = ext_get_or (f 0) _ _ (length-map-upto f n ∙ sym (length-map-upto g n)) (λ k s. search (rules, get_or-map-upto, length-map-upto, h))
 
 -- a list of four is that of its elements
 pub four_elements : (xs : List ℕ) → length xs ≡ 4 → get_or xs 0 0 ∷ get_or xs 1 0 ∷ get_or xs 2 0 ∷ get_or xs 3 0 ∷ [] ≡ xs
-four_elements [] four = absurd (omega arith)
-four_elements (a ∷ []) four = absurd (omega arith)
-four_elements (a ∷ b ∷ []) four = absurd (omega arith)
-four_elements (a ∷ b ∷ c ∷ []) four = absurd (omega arith)
-four_elements (a ∷ b ∷ c ∷ d ∷ []) four = refl
-four_elements (a ∷ b ∷ c ∷ d ∷ e ∷ xs) four = absurd (omega arith)
+four_elements xs four = map-get_or-upto xs 4 0 four

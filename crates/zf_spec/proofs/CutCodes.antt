@@ -18,10 +18,9 @@ length-kept_group left ds run long = search (rules, length-zeros)
 
 length-kept_run : (behind : ℕ) (ds : List Bool) → length (kept_run behind ds) ≡ length ds
 length-kept_run behind [] = refl
-length-kept_run zero (d ∷ ds) = ap suc (length-zeros ds)
-length-kept_run (suc behind) (d ∷ []) = refl
 length-kept_run (suc left) (true ∷ e ∷ ds) = ap suc (length-kept_group left (e ∷ ds) (kept_run (left - 1) (e ∷ ds)) (length-kept_run (left - 1) (e ∷ ds)))
 length-kept_run (suc behind) (false ∷ e ∷ ds) = ap suc (length-kept_run behind (e ∷ ds))
+length-kept_run behind (d ∷ ds) = search (rules, length-zeros)
 
 length-kept_tail : (left : ℕ) (ds : List Bool) → length (kept_tail left ds) ≡ length ds
 length-kept_tail left ds = length-kept_group left ds (kept_run (left - 1) ds) (length-kept_run (left - 1) ds)
@@ -50,14 +49,13 @@ cut_tail_of (suc r) (d ∷ ds) run more =
     let code = tail-some (kept_run r (d ∷ ds)) in grind arith
 
 cut_run : (ds : List Bool) → RunIsCut ds
-cut_run [] behind more = absurd (omega arith)
-cut_run (d ∷ []) behind more = absurd (omega arith)
 cut_run (d ∷ e ∷ ds) zero more = let code = ap length (code_from_run-true (zeros (e ∷ ds)) (omega (arith, length-zeros (e ∷ ds)))) in omega arith
 cut_run (true ∷ e ∷ ds) (suc left) more =
     let next = cut_tail_of left (e ∷ ds) (cut_run (e ∷ ds)) in
     grind (arith, code_from_run-true, length-kept_tail)
 cut_run (false ∷ e ∷ ds) (suc behind) more =
     let next = cut_run (e ∷ ds) behind in grind (arith, code_from_run-false, length-kept_run)
+cut_run ds behind more = absurd (omega arith)
 
 cut_tail : (r : ℕ) (ds : List Bool) → r < length (tail ds) → r < length (tail (kept_tail r ds))
 cut_tail r ds more = cut_tail_of r ds (cut_run ds) more

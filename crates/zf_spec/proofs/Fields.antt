@@ -1,5 +1,5 @@
 -- The lowest bits of a number, and the number that bits stand for.
-use Rattle.std.proofs.Common.{◌≡◌, refl, sym, ap, ◌∙◌, ℕ, zero, suc, ◌+◌, ◌*◌, ◌/◌, ◌%◌, ◌^◌, ◌<◌, Bool, true, false, List, [], ◌∷◌, ◌++◌, length, get_or, replicate, pow-suc, mod-eq_of_lt, pow_pos, arith}
+use Rattle.std.proofs.Common.{◌≡◌, refl, sym, ap, ◌∙◌, ℕ, zero, suc, ◌+◌, ◌*◌, ◌/◌, ◌%◌, ◌^◌, ◌<◌, Bool, false, List, [], ◌∷◌, ◌++◌, length, get_or, replicate, pow-suc, mod-eq_of_lt, pow_pos, arith, rules}
 use Rattle.std.{proofs.lemmas.Nat.{mod-pow-add, shr-shr}, proofs.Math.Nat.{div-one, mod-one}}
 use Rattle.zf_spec.{specs.Numbers.{is_odd, digit_value, field, number}, proofs.Halves.{digit_value-is_odd}}
 
@@ -11,9 +11,8 @@ length-field (suc n) v = ap suc (length-field n (v / 2))
 pub number-field : (n v : ℕ) → number (field n v) ≡ v % 2 ^ n
 number-field zero v = sym (mod-one v)
 number-field (suc n) v =
-    let e : 2 ^ suc n ≡ 2 ^ (n + 1) = ap (λ k. 2 ^ k) (omega arith) in
-    let here : number (field (suc n) v) ≡ v % 2 ^ (n + 1) =
-    omega (arith, mod-pow-add v n 1, digit_value-is_odd v, number-field n (v / 2)) in cc
+    let e : n + 1 ≡ suc n = omega arith in
+    rw (← e) (omega (arith, mod-pow-add v n 1, digit_value-is_odd v, number-field n (v / 2)))
 
 pub is_odd-digit_value : (b : Bool) (n : ℕ) → is_odd (digit_value b + 2 * n) ≡ b
 is_odd-digit_value b n = grind arith
@@ -24,23 +23,20 @@ half-digit_value b n = grind arith
 -- bits are the field of their number
 pub field-number : (n : ℕ) (bs : List Bool) → length bs ≡ n → field n (number bs) ≡ bs
 field-number zero [] l = refl
-field-number zero (b ∷ bs) l = cc
-field-number (suc n) [] l = cc
 field-number (suc n) (b ∷ bs) l =
     cc (is_odd-digit_value b (number bs), half-digit_value b (number bs), field-number n bs (omega arith))
+field-number n bs l = cc
 
 pub number-lt : (bs : List Bool) → number bs < 2 ^ length bs
 number-lt [] = omega arith
-number-lt (true ∷ bs) = omega (arith, number-lt bs, pow-suc 2 (length bs))
-number-lt (false ∷ bs) = omega (arith, number-lt bs, pow-suc 2 (length bs))
+number-lt (b ∷ bs) = let rest = number-lt bs in search (rules, pow-suc)
 
 -- a field is its lower part and then its higher part
 pub field-add : (m n v : ℕ) → field (m + n) v ≡ field m v ++ field n (v / 2 ^ m)
 field-add zero n v = let e : zero + n ≡ n = omega arith in rw e (ap (field n) (sym (div-one v)))
 field-add (suc m) n v =
     let e : suc m + n ≡ suc (m + n) = omega arith in
-    let up : v / 2 / 2 ^ m ≡ v / 2 ^ suc m = shr-shr v 1 m ∙ ap (λ k. v / 2 ^ k) (omega arith) in
-    rw e (ap (λ bs. is_odd v ∷ bs) (field-add m n (v / 2) ∙ ap (λ u. field m (v / 2) ++ field n u) up))
+    let step : 1 + m ≡ suc m = omega arith in cc (shr-shr v 1 m, field-add m n (v / 2))
 
 -- only the n lowest bits of a number count
 pub field-mod : (n v : ℕ) → field n (v % 2 ^ n) ≡ field n v
@@ -62,5 +58,4 @@ pub get_or-field : (n v k : ℕ) (d : Bool) → k < n → get_or (field n v) k d
 get_or-field zero v k d h = absurd (omega arith)
 get_or-field (suc n) v zero d h = ap is_odd (sym (div-one v))
 get_or-field (suc n) v (suc k) d h =
-    let up : v / 2 / 2 ^ k ≡ v / 2 ^ suc k = shr-shr v 1 k ∙ ap (λ j. v / 2 ^ j) (omega arith) in
-    get_or-field n (v / 2) k d (omega arith) ∙ ap is_odd up
+    let step : 1 + k ≡ suc k = omega arith in let rest = get_or-field n (v / 2) k d (omega arith) in cc (shr-shr v 1 k)

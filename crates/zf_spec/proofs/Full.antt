@@ -43,24 +43,17 @@ tail_of_zeros zero s h = tt
 tail_of_zeros (suc m) s h = subst (λ c. Begins c s) (sym (tail-zeros m)) h
 
 full_group_begins : (m : ℕ) (s : List Bool) → 1 ≤ m → ((t : List Bool) → FullRun m t) → Begins (tail (group_in m s (run_in m))) s
-full_group_begins m [] h run = tail_of_zeros m [] (refl, tt)
-full_group_begins m (false ∷ s) h run = tail_of_zeros m (false ∷ s) (refl, tt)
-full_group_begins m (true ∷ s) h run = subst (λ c. Begins c (true ∷ s)) (sym (tail-some (run_in m s) (run s).0)) (refl, (run s).1)
+full_group_begins m s h run = search (rules, tail_of_zeros, tail-some, run)
 
 pub full_run_begins : (m : ℕ) (s : List Bool) → FullRun (suc m) s
 full_run_begins zero s = (refl, tt)
-full_run_begins (suc m) [] =
-    let rest = full_run_begins m [] in search (rules, code_from_run-false, length-run_in)
-full_run_begins (suc m) (false ∷ s) =
-    let rest = full_run_begins m s in search (rules, code_from_run-false, length-run_in)
 full_run_begins (suc m) (true ∷ s) =
     let code = code_from_run-true (tail_in (suc m) s) (omega (arith, length-tail_in (suc m) s)) in
     (refl, subst (λ c. Begins c (true ∷ s)) (sym code) (refl, full_group_begins (suc m) s (omega arith) (full_run_begins m)))
+full_run_begins (suc m) s = let rest = full_run_begins m in search (rules, code_from_run-false, length-run_in)
 
 pub full_tail_begins : (m : ℕ) (s : List Bool) → Begins (tail (tail_in m s)) s
-full_tail_begins zero [] = tt
-full_tail_begins zero (false ∷ s) = tt
-full_tail_begins zero (true ∷ s) = tt
+full_tail_begins zero s = search rules
 full_tail_begins (suc m) s = full_group_begins (suc m) s (omega arith) (full_run_begins m)
 
 -- ---- no other digits have such a code
@@ -70,20 +63,14 @@ full_group_only : (ds s : List Bool) → ((t : List Bool) → has_one ds ≡ tru
 full_group_only ds s run h = search (rules, zeros_from_none, true≢false, false≢true)
 
 full_run_only : (ds t : List Bool) → has_one ds ≡ true → Begins (code_from_run ds) t → ds ≡ run_in (length ds) t
-full_run_only [] t e h = absurd (false≢true e)
 full_run_only (true ∷ []) t e h = refl
-full_run_only (false ∷ []) t e h = absurd (false≢true e)
-full_run_only (true ∷ d ∷ ds) [] e h = absurd (true≢false h.0)
-full_run_only (true ∷ d ∷ ds) (false ∷ t) e h = absurd (true≢false h.0)
 full_run_only (true ∷ d ∷ ds) (true ∷ t) e h = ap (λ cs. true ∷ cs) (full_group_only (d ∷ ds) t (full_run_only (d ∷ ds)) h.1)
 full_run_only (false ∷ d ∷ ds) [] e h = ap (λ cs. false ∷ cs) (full_run_only (d ∷ ds) [] e h.1)
-full_run_only (false ∷ d ∷ ds) (true ∷ t) e h = absurd (false≢true h.0)
 full_run_only (false ∷ d ∷ ds) (false ∷ t) e h = ap (λ cs. false ∷ cs) (full_run_only (d ∷ ds) t e h.1)
+full_run_only ds t e h = search (rules, false≢true, true≢false)
 
 pub full_tail_only : (ds s : List Bool) → Begins (tail ds) s → ds ≡ tail_in (length ds) s
-full_tail_only [] [] h = refl
-full_tail_only [] (false ∷ s) h = refl
-full_tail_only [] (true ∷ s) h = refl
+full_tail_only [] s h = search rules
 full_tail_only (d ∷ ds) s h = full_group_only (d ∷ ds) s (full_run_only (d ∷ ds)) h
 
 -- ---- planes
@@ -112,17 +99,11 @@ length-planes_in_from (suc p) size n s = let ds = plane_in size n s in ap suc (l
 
 pub planes_in_from-length : (p size n : ℕ) (s : List Bool) → n ≤ size → All (λ ds. length ds ≡ size) (planes_in_from p size n s)
 planes_in_from-length zero size n s h = All-nil (λ ds. length ds ≡ size)
-planes_in_from-length (suc p) size n s h =
-    let ds = plane_in size n s in
-    let l = length-plane_in size n s h in
-    All-cons (λ ds. length ds ≡ size) ds (planes_in_from p size (max n (reach ds)) (drop (length (plane_code n ds)) s)) l (planes_in_from-length p size (max n (reach ds)) (drop (length (plane_code n ds)) s) (reach_within size n ds h l))
+planes_in_from-length (suc p) size n s h = let next = planes_in_from-length p size in search (rules, All-cons, length-plane_in, reach_within)
 
 full_from_begins : (p size n : ℕ) (s : List Bool) → Begins (code_from n (planes_in_from p size n s)) s
 full_from_begins zero size n s = tt
-full_from_begins (suc p) size n s =
-    let ds = plane_in size n s in
-    let rest = drop (length (plane_code n ds)) s in
-    begins_append (plane_code n ds) (code_from (max n (reach ds)) (planes_in_from p size (max n (reach ds)) rest)) s (full_plane_begins size n s) (full_from_begins p size (max n (reach ds)) rest)
+full_from_begins (suc p) size n s = let next = full_from_begins p size in search (rules, begins_append, full_plane_begins)
 
 full_from_only : (size n : ℕ) (ps : List (List Bool)) (s : List Bool) → n ≤ size → All (λ ds. length ds ≡ size) ps → Begins (code_from n ps) s → ps ≡ planes_in_from (length ps) size n s
 full_from_only size n [] s h all b = refl

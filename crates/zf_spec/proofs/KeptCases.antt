@@ -33,11 +33,9 @@ kept_run-cut zero zero e rest h = ap (λ n. true ∷ replicate n false) (let n :
 kept_run-cut zero (suc j) e rest h = search (rules, length-append, length-replicate)
 kept_run-cut (suc s) zero e rest h = absurd (omega arith)
 kept_run-cut (suc s) (suc zero) e rest h =
-    let n : suc (zero - s) + length rest ≡ suc (suc zero - suc s) + length rest = omega arith in
-    ap (λ ds. false ∷ ds) (kept_run-cut s zero e rest (omega arith) ∙ ap (λ n. replicate s false ++ true ∷ replicate n false) n)
+    let n : suc (zero - s) + length rest ≡ suc (suc zero - suc s) + length rest = omega arith in let next = kept_run-cut s zero e rest (omega arith) in cc
 kept_run-cut (suc s) (suc (suc j)) e rest h =
-    let n : suc (suc j - s) + length rest ≡ suc (suc (suc j) - suc s) + length rest = omega arith in
-    ap (λ ds. false ∷ ds) (kept_run-cut s (suc j) e rest (omega arith) ∙ ap (λ n. replicate s false ++ true ∷ replicate n false) n)
+    let n : suc (suc j - s) + length rest ≡ suc (suc (suc j) - suc s) + length rest = omega arith in let next = kept_run-cut s (suc j) e rest (omega arith) in cc
 
 -- its j + 2 bits are left: it is kept, and what follows has the others
 pub kept_tail-whole : (r j : ℕ) (e : Bool) (rest : List Bool) → j + 2 ≤ r → kept_tail r (replicate j false ++ true ∷ e ∷ rest) ≡ replicate j false ++ true ∷ kept_tail (r - (j + 2)) (e ∷ rest)
@@ -58,12 +56,11 @@ kept_run-last s (suc (suc j)) =
     rw n (ap (λ ds. false ∷ ds) (kept_run-last s (suc j)))
 
 kept_run-last_cut : (s j : ℕ) → s < j → kept_run s (replicate j false ++ true ∷ []) ≡ replicate s false ++ true ∷ replicate (j - s) false
-kept_run-last_cut s zero h = absurd (omega arith)
 kept_run-last_cut zero (suc j) h = search (rules, length-append, length-replicate)
-kept_run-last_cut (suc s) (suc zero) h = absurd (omega arith)
 kept_run-last_cut (suc s) (suc (suc j)) h =
     let n : suc j - s ≡ suc (suc j) - suc s = omega arith in
     ap (λ ds. false ∷ ds) (kept_run-last_cut s (suc j) (omega arith) ∙ ap (λ n. replicate s false ++ true ∷ replicate n false) n)
+kept_run-last_cut s j h = absurd (omega arith)
 
 -- its j + 1 bits are left, since the one of the last rank is implied
 pub kept_tail-last : (r j : ℕ) → j + 1 ≤ r → kept_tail r (replicate j false ++ true ∷ []) ≡ replicate j false ++ true ∷ []

@@ -25,26 +25,21 @@ groups_same a b (suc r) l runs e = search (rules, kept_tail-one, kept_tail-zeros
 
 runs_same : (a b : List Bool) → length a ≡ length b → RunsSame a b
 runs_same [] [] l s f g e = refl
-runs_same [] (d ∷ b) l s f g e = absurd (omega arith)
-runs_same (c ∷ a) [] l s f g e = absurd (omega arith)
 runs_same (c ∷ a) (d ∷ b) l zero f g e = ap (λ ds. true ∷ ds) (zeros_same a b (omega arith))
 runs_same (c ∷ []) (d ∷ []) l (suc s) f g e = refl
-runs_same (c ∷ []) (d ∷ d' ∷ b) l (suc s) f g e = absurd (omega arith)
-runs_same (c ∷ c' ∷ a) (d ∷ []) l (suc s) f g e = absurd (omega arith)
 runs_same (true ∷ c' ∷ a) (true ∷ d' ∷ b) l (suc s) f g e =
     let rest : first_bits s (tail (c' ∷ a)) ≡ first_bits s (tail (d' ∷ b)) = cc in
     ap (λ ds. true ∷ ds) (groups_same (c' ∷ a) (d' ∷ b) s (omega arith) (runs_same (c' ∷ a) (d' ∷ b) (omega arith)) rest)
 runs_same (false ∷ c' ∷ a) (false ∷ d' ∷ b) l (suc s) f g e =
     let rest : first_bits s (code_from_run (c' ∷ a)) ≡ first_bits s (code_from_run (d' ∷ b)) = cc in
     ap (λ ds. false ∷ ds) (runs_same (c' ∷ a) (d' ∷ b) (omega arith) s f g rest)
-runs_same (true ∷ c' ∷ a) (false ∷ d' ∷ b) l (suc s) f g e = let no : true ≡ false = cc in absurd (true≢false no)
-runs_same (false ∷ c' ∷ a) (true ∷ d' ∷ b) l (suc s) f g e = let no : false ≡ true = cc in absurd (false≢true no)
+runs_same (c ∷ c' ∷ a) (d ∷ d' ∷ b) l (suc s) f g e = cc
+runs_same a b l s f g e = absurd (omega arith)
 
 pub tails_same : (a b : List Bool) (r : ℕ) → length a ≡ length b → first_bits r (tail a) ≡ first_bits r (tail b) → kept_tail r a ≡ kept_tail r b
 tails_same [] [] r l e = refl
-tails_same [] (d ∷ b) r l e = absurd (omega arith)
-tails_same (c ∷ a) [] r l e = absurd (omega arith)
 tails_same (c ∷ a) (d ∷ b) r l e = groups_same (c ∷ a) (d ∷ b) r l (runs_same (c ∷ a) (d ∷ b) l) e
+tails_same a b r l e = absurd (omega arith)
 
 -- ---- one plane
 
@@ -68,11 +63,8 @@ cut_same n r a b rest more l h cut_a cut_b e =
     let q = min n r in
     let parts : (ds more : List Bool) → plane_code n ds ++ more ≡ take n ds ++ (tail (drop n ds) ++ more) =
     λ ds more. append_assoc (take n ds) (tail (drop n ds)) more in
-    let of_prefix : (k : ℕ) (ds more : List Bool) → k ≤ n → n ≤ length ds
-    → first_bits k (plane_code n ds ++ more) ≡ take k ds =
-    λ k ds more f w. ap (first_bits k) (parts ds more)
-    ∙ first_bits-append (take n ds) (tail (drop n ds) ++ more) k (omega (arith, length-take n ds))
-    ∙ take-take k n ds f in
+    let of_prefix : (k : ℕ) (ds more : List Bool) → k ≤ n → n ≤ length ds → first_bits k (plane_code n ds ++ more) ≡ take k ds =
+    λ k ds more f w. search (rules, append_assoc, first_bits-append, length-take, take-take) in
     let prefixes : (k : ℕ) → k ≤ n → k ≤ r → take k a ≡ take k b =
     λ k f g.
     let of_a = first_bits-first_bits k r (plane_code n a ++ rest) g in
@@ -97,9 +89,8 @@ cut_same n r a b rest more l h cut_a cut_b e =
     omega (arith, length-append (take n a) (tail (drop n a)), length-take n a) in
     let short_b : r - n ≤ length (tail (drop n b)) =
     omega (arith, length-append (take n b) (tail (drop n b)), length-take n b) in
-    rw left (tails_same (drop n a) (drop n b) (r - n) lengths
-    (sym (first_bits-prefix (tail (drop n a)) rest (r - n) short_a) ∙ behind
-    ∙ first_bits-prefix (tail (drop n b)) more (r - n) short_b)))
+    let of_a = first_bits-prefix (tail (drop n a)) rest (r - n) short_a in
+    rw left (tails_same (drop n a) (drop n b) (r - n) lengths (cc (first_bits-prefix (tail (drop n b)) more (r - n) short_b))))
     (cases_lt r n) in
     cc
 
@@ -131,8 +122,6 @@ kept_planes_from-none size n (ds ∷ ps) some all =
 kept_from_same : (size n r : ℕ) (ps qs : List (List Bool)) → 1 ≤ size → n ≤ size → length ps ≡ length qs → All (λ ds. length ds ≡ size) ps → All (λ ds. length ds ≡ size) qs
     → first_bits r (code_from n ps) ≡ first_bits r (code_from n qs) → kept_planes_from r n ps ≡ kept_planes_from r n qs
 kept_from_same size n r [] [] some h l f g e = refl
-kept_from_same size n r [] (b ∷ qs) some h l f g e = absurd (omega arith)
-kept_from_same size n r (a ∷ ps) [] some h l f g e = absurd (omega arith)
 kept_from_same size n r (a ∷ ps) (b ∷ qs) some h l f g e =
     let c = plane_code n a in
     let d = plane_code n b in
@@ -167,6 +156,7 @@ kept_from_same size n r (a ∷ ps) (b ∷ qs) some h l f g e =
     (λ (fits : length c ≤ r).
     whole (plane_same n r a b rest_a rest_b (length_a ∙ sym length_b) (omega (arith, length_a)) fits e) fits)
     (cases_lt r (length c))
+kept_from_same size n r ps qs some h l f g e = absurd (omega arith)
 
 pub kept_same : (size budget : ℕ) (ps qs : List (List Bool)) → 1 ≤ size → length ps ≡ length qs → All (λ ds. length ds ≡ size) ps → All (λ ds. length ds ≡ size) qs
     → first_bits budget (code ps) ≡ first_bits budget (code qs) → kept_planes budget ps ≡ kept_planes budget qs
@@ -182,15 +172,10 @@ kept_planes-planes_in size budget ps some all =
     let count = length-planes_in (length ps) size s in
     let sizes = planes_in-length (length ps) size s in
     ⊎_elim
-    (λ (more : budget < n).
-    let same : first_bits budget (code qs) ≡ first_bits budget (code ps) =
-    ap (first_bits budget) begins ∙ first_bits-first_bits budget n s (omega arith)
-    ∙ first_bits-first_bits budget budget (code ps) (omega arith) in
-    kept_same size budget qs ps some count sizes all same)
+    (λ (more : budget < n). kept_same size budget qs ps some count sizes all (cc (first_bits-first_bits budget n s (omega arith), first_bits-first_bits budget budget (code ps) (omega arith))))
     (λ (fits : n ≤ budget).
-    let own : ps ≡ planes_in (length ps) size (code ps) =
-    full_only size ps (code ps) all (rw append-nil at (begins_itself (code ps) [])) in
+    let own = full_only size ps (code ps) all (rw append-nil at (begins_itself (code ps) [])) in
     let same = full_only size qs (code ps) sizes
     (begins_from_first (code qs) (code ps) (begins ∙ first_bits-first_bits n budget (code ps) fits)) in
-    ap (kept_planes budget) (same ∙ ap (λ p. planes_in p size (code ps)) count ∙ sym own))
+    ap (kept_planes budget) (cc))
     (cases_lt budget n)

@@ -22,11 +22,8 @@ by_four h = map (λ m. map (h m) (upto 4)) (upto 4)
 undoes_from : (f g : ℕ → ℕ → ℤ) → by_four (λ m k. total (λ i. f m i *ℤ g i k) 0 4) ≡ by_four same_number
     → Undoes f g
 undoes_from f g e m k p l =
-    let at : (h : ℕ → ℕ → ℤ) → get_or (get_or (by_four h) m []) k (pos 0) ≡ h m k =
-    λ h. ap (λ (r : List ℤ). get_or r k (pos 0)) (get_or-map-upto (λ m. map (h m) (upto 4)) 4 m [] p)
-    ∙ get_or-map-upto (h m) 4 k (pos 0) l in
-    sym (at (λ m k. total (λ i. f m i *ℤ g i k) 0 4))
-    ∙ ap (λ (t : List (List ℤ)). get_or (get_or t m []) k (pos 0)) e ∙ at same_number
+    let at : (h : ℕ → ℕ → ℤ) → get_or (get_or (by_four h) m []) k (pos 0) ≡ h m k = λ h. search (rules, get_or-map-upto) in
+    cc (at (λ m k. total (λ i. f m i *ℤ g i k) 0 4), at same_number, e)
 
 plain_undoes_signed : Undoes plain_choose signed_choose
 plain_undoes_signed = undoes_from plain_choose signed_choose refl

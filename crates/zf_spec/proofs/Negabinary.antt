@@ -19,41 +19,27 @@ pub digits_sum-digits : (k : ℕ) (v : ℤ) → IsSameModulo k (digits_sum (digi
 digits_sum-digits zero v = (neg_ℤ v, omega (arith, ints))
 digits_sum-digits (suc k) v =
     let rest = digits_sum-digits k (neg_ℤ (floor_half v)) in
-    let p = rest.0 *ℤ pos (2 ^ k) in
-    let more : digits_sum (digits k (neg_ℤ (floor_half v))) ≡ neg_ℤ (floor_half v) +ℤ p = rest.1 in
-    let twice = double_power k (neg_ℤ rest.0) in
-    let turned : neg_ℤ rest.0 *ℤ pos (2 ^ k) ≡ neg_ℤ p = neg-*ℤ rest.0 (pos (2 ^ k)) in
-    (neg_ℤ rest.0, omega (arith, ints, half_split v, more, twice, turned))
+    let turned = neg-*ℤ rest.0 (pos (2 ^ k)) in
+    (neg_ℤ rest.0, omega (arith, ints, half_split v, rest.1, double_power k (neg_ℤ rest.0), turned))
 
 -- digits whose sum is v modulo 2^k begin with the lowest digit of v, and the others have the sum of its negated half
 first_digit : (k : ℕ) (d : Bool) (s v : ℤ) → IsSameModulo (suc k) (pos (digit_value d) +ℤ negsuc 1 *ℤ s) v → (d ≡ is_odd_int v) × IsSameModulo k s (neg_ℤ (floor_half v))
 first_digit k d s v (q, e) = by d (is_odd_int v) (half_split v) e
   where
-    p : ℤ
-    p = q *ℤ pos (2 ^ k)
-
-    twice : q *ℤ pos (2 ^ suc k) ≡ pos 2 *ℤ p
-    twice = double_power k q
-
-    turned : neg_ℤ q *ℤ pos (2 ^ k) ≡ neg_ℤ p
-    turned = neg-*ℤ q (pos (2 ^ k))
-
     by : (d t : Bool) → v ≡ pos (digit_value t) +ℤ pos 2 *ℤ floor_half v → pos (digit_value d) +ℤ negsuc 1 *ℤ s ≡ v +ℤ q *ℤ pos (2 ^ suc k)
         → (d ≡ t) × IsSameModulo k s (neg_ℤ (floor_half v))
-    by true true h e = (refl, (neg_ℤ q, omega (arith, ints, h, e, twice, turned)))
-    by false false h e = (refl, (neg_ℤ q, omega (arith, ints, h, e, twice, turned)))
-    by true false h e = absurd (omega (arith, ints, h, e, twice))
-    by false true h e = absurd (omega (arith, ints, h, e, twice))
+    by true true h e = (refl, (neg_ℤ q, omega (arith, ints, h, e, double_power k q, neg-*ℤ q (pos (2 ^ k)))))
+    by false false h e = (refl, (neg_ℤ q, omega (arith, ints, h, e, double_power k q, neg-*ℤ q (pos (2 ^ k)))))
+    by d t h e = absurd (omega (arith, ints, h, e, double_power k q))
 
 -- the k lowest digits are the only k digits with that sum
 pub digits_only : (k : ℕ) (ds : List Bool) (v : ℤ) → length ds ≡ k → IsSameModulo k (digits_sum ds) v → ds ≡ digits k v
 digits_only zero [] v l h = refl
-digits_only zero (d ∷ ds) v l h = cc
-digits_only (suc k) [] v l h = cc
 digits_only (suc k) (d ∷ ds) v l h =
     let first = first_digit k d (digits_sum ds) v h in
     let rest = digits_only k ds (neg_ℤ (floor_half v)) (omega arith) first.1 in
     cc (first.0, rest)
+digits_only k ds v l h = cc
 
 -- a value of the type is the value of its digits
 pub value_of-digits : (w : Width) (v : ℤ) → FitsSigned w v → value_of w (digits (bits w) v) ≡ v

@@ -1,5 +1,5 @@
 -- The code of a plane: the cases of its tail, and how long the code of planes is at most.
-use Rattle.std.proofs.Common.{rules, ◌≡◌, refl, sym, ap, ◌∙◌, ℕ, zero, suc, ◌+◌, ◌-◌, ◌*◌, ◌≤◌, max, Bool, true, false, cond, List, [], ◌∷◌, ◌++◌, length, take, drop, replicate, All, arith}
+use Rattle.std.proofs.Common.{rules, ◌≡◌, refl, sym, ap, ◌∙◌, ℕ, suc, ◌+◌, ◌-◌, ◌*◌, ◌≤◌, max, Bool, true, false, cond, List, [], ◌∷◌, ◌++◌, length, take, drop, replicate, All, arith}
 use Rattle.std.{proofs.lemmas.Bool.{true≢false}, proofs.lemmas.List.{length-append, length-take, length-drop}}
 use Rattle.std.proofs.lemmas.List.Elements.{All-head, All-tail}
 use Rattle.zf_spec.specs.Planes.{has_one, reach, group, code_from_run, tail, plane_code, code_from, code}
@@ -11,19 +11,16 @@ pub tail-zeros : (n : ℕ) → tail (replicate (suc n) false) ≡ false ∷ []
 tail-zeros n = ap (λ t. cond t (true ∷ code_from_run (replicate (suc n) false)) (false ∷ [])) (has_one-zeros (suc n))
 
 code_from_run-first : (j : ℕ) (e : Bool) (rest : List Bool) → code_from_run (replicate j false ++ true ∷ e ∷ rest) ≡ replicate j false ++ true ∷ tail (e ∷ rest)
-code_from_run-first zero e rest = refl
-code_from_run-first (suc zero) e rest = refl
 code_from_run-first (suc (suc j)) e rest = ap (λ ds. false ∷ ds) (code_from_run-first (suc j) e rest)
+code_from_run-first j e rest = refl
 
 code_from_run-last : (j : ℕ) → code_from_run (replicate j false ++ true ∷ []) ≡ replicate j false
-code_from_run-last zero = refl
-code_from_run-last (suc zero) = refl
 code_from_run-last (suc (suc j)) = ap (λ ds. false ∷ ds) (code_from_run-last (suc j))
+code_from_run-last j = refl
 
 -- digits that begin with zeros and then a one have a group bit and a run
 tail_some : (j : ℕ) (rest : List Bool) → tail (replicate j false ++ true ∷ rest) ≡ true ∷ code_from_run (replicate j false ++ true ∷ rest)
-tail_some zero rest = refl
-tail_some (suc j) rest = ap (λ t. cond t (true ∷ code_from_run (replicate (suc j) false ++ true ∷ rest)) (false ∷ [])) (has_one-append_one (replicate j false) rest)
+tail_some j rest = search (rules, has_one-append_one)
 
 -- the first one after j zeros, where something follows
 pub tail-first : (j : ℕ) (e : Bool) (rest : List Bool) → tail (replicate j false ++ true ∷ e ∷ rest) ≡ true ∷ (replicate j false ++ true ∷ tail (e ∷ rest))
@@ -41,12 +38,9 @@ group_bound ds run h f = search rules
 in_run_bound : (ds : List Bool) → has_one ds ≡ true → 1 + length (code_from_run ds) ≤ length ds + reach ds
 in_run_bound [] h = absurd (true≢false (sym h))
 in_run_bound (d ∷ []) h = omega (arith, reach_some d [] h)
-in_run_bound (true ∷ e ∷ ds) h =
-    let rest = group_bound (e ∷ ds) (code_from_run (e ∷ ds)) (omega arith) (in_run_bound (e ∷ ds)) in
-    omega (arith, reach_some true (e ∷ ds) h)
-in_run_bound (false ∷ e ∷ ds) h =
-    let rest = in_run_bound (e ∷ ds) h in
-    omega (arith, reach_some false (e ∷ ds) h)
+in_run_bound (d ∷ e ∷ ds) h =
+    let group = group_bound (e ∷ ds) (code_from_run (e ∷ ds)) (omega arith) (in_run_bound (e ∷ ds)) in
+    let rest = in_run_bound (e ∷ ds) in search (rules, reach_some)
 
 pub length-tail-le : (ds : List Bool) → length (tail ds) ≤ length ds + reach ds
 length-tail-le [] = omega arith
@@ -57,9 +51,8 @@ reach-rest : (d : Bool) (ds : List Bool) → reach ds ≤ reach (d ∷ ds) - 1
 reach-rest d ds = search (rules, reach_some, reach_none)
 
 pub reach-drop-le : (n : ℕ) (ds : List Bool) → reach (drop n ds) ≤ reach ds - n
-reach-drop-le zero ds = omega arith
-reach-drop-le (suc n) [] = omega arith
 reach-drop-le (suc n) (d ∷ ds) = omega (arith, reach-drop-le n ds, reach-rest d ds)
+reach-drop-le n ds = omega arith
 
 -- a plane of this size takes at most its size and the ranks that have their first one in it
 pub length-plane_code-le : (size n : ℕ) (ds : List Bool) → length ds ≡ size → n ≤ size → length (plane_code n ds) + n ≤ size + max n (reach ds)

@@ -48,8 +48,6 @@ raster-coordinates (suc m ∷ ns) k h =
 -- a position is that of its raster number
 pub coordinates-raster : (ns ps : List ℕ) → length ps ≡ length ns → is_inside ns ps ≡ true → coordinates ns (raster ns ps) ≡ ps
 coordinates-raster [] [] l h = refl
-coordinates-raster [] (p ∷ ps) l h = cc
-coordinates-raster (n ∷ ns) [] l h = cc
 coordinates-raster (n ∷ ns) (p ∷ ps) l h =
     let parts = and_parts (ltb p n) (is_inside ns ps) h in
     let small : p < n = ltb-true p n parts.0 in
@@ -57,12 +55,12 @@ coordinates-raster (n ∷ ns) (p ∷ ps) l h =
     let first : (p + n * raster ns ps) % n ≡ p = add-mul-mod_self_left p n (raster ns ps) ∙ mod-eq_of_lt small in
     let others : (p + n * raster ns ps) / n ≡ raster ns ps = add-mul-div_left p (raster ns ps) some ∙ ap (λ q. q + raster ns ps) (div-eq_of_lt small) ∙ omega arith in
     cc (coordinates-raster ns ps (omega arith) parts.1)
+coordinates-raster ns ps l h = cc
 
 -- the raster number of a position in the box is below the number of positions
 pub raster_below : (ns ps : List ℕ) → length ps ≡ length ns → is_inside ns ps ≡ true → raster ns ps < product ns
 raster_below [] [] l h = omega arith
-raster_below [] (p ∷ ps) l h = cc
-raster_below (n ∷ ns) [] l h = cc
 raster_below (n ∷ ns) (p ∷ ps) l h =
     let parts = and_parts (ltb p n) (is_inside ns ps) h in
     omega (arith, ltb-true p n parts.0, mul-le-mul_left n (raster_below ns ps (omega arith) parts.1))
+raster_below ns ps l h = cc

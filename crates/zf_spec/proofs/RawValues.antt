@@ -1,5 +1,5 @@
 -- Values and their raw bytes, and the length of the header.
-use Rattle.std.proofs.Common.{rules, ◌≡◌, refl, ap, ◌∙◌, ℕ, zero, suc, ◌+◌, ◌-◌, ◌*◌, ◌/◌, ◌^◌, ◌<◌, ◌≤◌, cond, le-leb, ℤ, pos, negsuc, FitsSigned, List, [], ◌∷◌, ◌++◌, length, drop, flat_map, All, drop_at, suc-mul, arith}
+use Rattle.std.proofs.Common.{rules, ◌≡◌, refl, ap, ◌∙◌, ℕ, zero, suc, ◌+◌, ◌-◌, ◌*◌, ◌/◌, ◌^◌, ◌<◌, ◌≤◌, cond, le-leb, ℤ, FitsSigned, List, [], ◌∷◌, ◌++◌, length, drop, flat_map, All, drop_at, suc-mul, arith}
 use Rattle.std.{proofs.lemmas.Int.{of_z-to_z, to_z-of_z}, proofs.lemmas.Bool.{lt-leb}}
 use Rattle.std.proofs.lemmas.List.{length-append}
 use Rattle.std.proofs.lemmas.List.Elements.{All-head, All-tail, All-nil, All-cons, All-drop, All-append}
@@ -13,8 +13,7 @@ use Rattle.zf_spec.proofs.Bytes.{length-first_bytes, All-first_bytes, first_byte
 -- ---- one value
 
 unsigned_below : (w : Width) (v : ℤ) → FitsSigned w v → cast_unsigned w v < 2 ^ bits w
-unsigned_below w (pos n) f = omega (arith, f.sfits, bits_is_half w)
-unsigned_below w (negsuc n) f = omega (arith, f.sfits, bits_is_half w)
+unsigned_below w v f = search (rules, bits_is_half)
 
 signed_fits : (w : Width) (n : ℕ) → FitsSigned w (cast_signed w n)
 signed_fits w n = omega (arith, fits_in, read_fits w n)
@@ -33,8 +32,7 @@ length-values_from w (suc n) s = ap suc (length-values_from w n (drop (byte_len 
 
 pub values_from_fit : (w : Width) (n : ℕ) (s : List ℕ) → All (λ v. FitsSigned w v) (values_from w n s)
 values_from_fit w zero s = All-nil (λ v. FitsSigned w v)
-values_from_fit w (suc n) s = All-cons (λ v. FitsSigned w v) (cast_signed w (from_le_bytes w (first_bytes (byte_len w) s))) (values_from w n (drop (byte_len w) s))
-    (signed_fits w (from_le_bytes w (first_bytes (byte_len w) s))) (values_from_fit w n (drop (byte_len w) s))
+values_from_fit w (suc n) s = let rest = values_from_fit w n in search (rules, All-cons, signed_fits)
 
 pub length-raw : (w : Width) (values : List ℤ) → length (raw w values) ≡ length values * byte_len w
 length-raw w [] = omega arith

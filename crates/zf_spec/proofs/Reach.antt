@@ -33,10 +33,9 @@ none_from_each (true ∷ ds) h = h 0
 none_from_each (false ∷ ds) h = none_from_each ds (λ k. h (suc k))
 
 pub one_at : (ds : List Bool) (k : ℕ) → get_or ds k false ≡ true → has_one ds ≡ true
-one_at [] k h = cc
 one_at (true ∷ ds) k h = refl
-one_at (false ∷ ds) zero h = cc
 one_at (false ∷ ds) (suc k) h = one_at ds k h
+one_at ds k h = cc
 
 -- ---- the reach
 
@@ -58,10 +57,8 @@ reach_some d ds h = ap (λ t. cond t (suc (reach ds)) 0) h
 -- no one stands from the reach on
 pub none_past_reach : (ds : List Bool) (k : ℕ) → reach ds ≤ k → get_or ds k false ≡ false
 none_past_reach [] k h = refl
-none_past_reach (true ∷ ds) zero h = absurd (omega arith)
-none_past_reach (true ∷ ds) (suc k) h = none_past_reach ds k (omega arith)
-none_past_reach (false ∷ ds) zero h = refl
-none_past_reach (false ∷ ds) (suc k) h = let next = none_past_reach ds k in search (rules, none_at)
+none_past_reach (d ∷ ds) zero h = search rules
+none_past_reach (d ∷ ds) (suc k) h = let next = none_past_reach ds k in search (rules, none_at)
 
 -- a one stands just before it
 pub one_at_reach : (ds : List Bool) (k : ℕ) → reach ds ≡ suc k → get_or ds k false ≡ true

@@ -43,17 +43,14 @@ first_is_before d p (s ∷ qs) q r h =
 
 -- in a rising list what stands earlier comes before what stands later
 pub earlier_is_before : (d : ℕ) (ps : List ℕ) (i j : ℕ) → Rises d ps → i < j → j < length ps → IsBefore d (get_or ps i 0) (get_or ps j 0)
-earlier_is_before d [] i j r f g = absurd (omega arith)
-earlier_is_before d (p ∷ ps) i zero r f g = absurd (omega arith)
 earlier_is_before d (p ∷ ps) zero (suc j) r f g = first_is_before d p ps (get_or ps j 0) r (Contains-get_or ps j 0 (omega arith))
 earlier_is_before d (p ∷ ps) (suc i) (suc j) r f g = earlier_is_before d ps i j (rises_rest d p ps r) (omega arith) (omega arith)
+earlier_is_before d ps i j r f g = absurd (omega arith)
 
 -- a rising list has each place once
 pub same_place : (d : ℕ) (ps : List ℕ) (i j : ℕ) → Rises d ps → i ≤ j → j < length ps → get_or ps i 0 ≡ get_or ps j 0 → i ≡ j
-same_place d ps i j r h l e = ⊎_elim
-    (λ less. absurd (not_before_itself d (get_or ps j 0) (subst (λ p. IsBefore d p (get_or ps j 0)) e (earlier_is_before d ps i j r less l))))
-    (λ other. omega arith)
-    (cases_lt i j)
+same_place d ps i j r h l e =
+    let never : i < j → ⊥ = λ less. not_before_itself d (get_or ps j 0) (rw e at (earlier_is_before d ps i j r less l)) in search (rules, cases_lt)
 
 -- what is among one rest is among the other, where the heads are equal: no head is among its rest
 among_rest : (d p q : ℕ) (ps qs : List ℕ) → Rises d (p ∷ ps) → p ≡ q → ((z : ℕ) → Contains (p ∷ ps) z → Contains (q ∷ qs) z) → (z : ℕ) → Contains ps z → Contains qs z

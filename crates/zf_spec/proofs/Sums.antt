@@ -1,5 +1,5 @@
 -- Sums of whole numbers over the numbers from one number on.
-use Rattle.std.proofs.Common.{rules, ◌≡◌, refl, sym, ap, ◌∙◌, ℕ, zero, suc, ◌+◌, ◌*◌, ◌/◌, ◌%◌, ◌<◌, ◌≤◌, cond, eqb, eq-eqb, ne_eqb, ℤ, pos, ◌+ℤ◌, ◌*ℤ◌, map, arith, ⊎_elim}
+use Rattle.std.proofs.Common.{rules, ◌≡◌, refl, sym, ap, ◌∙◌, ℕ, zero, suc, ◌+◌, ◌*◌, ◌/◌, ◌%◌, ◌<◌, ◌≤◌, cond, eqb, eq-eqb, ne_eqb, ℤ, pos, ◌+ℤ◌, ◌*ℤ◌, map, arith}
 use Rattle.std.{proofs.Math.IntN.{zero-*ℤ, *ℤ-zero, +ℤ_idl}, proofs.lemmas.Bool.{cases_eq}}
 use Rattle.std.proofs.lemmas.Int.{ints}
 use Rattle.zf_spec.{specs.Numbers.{IsSameModulo}, specs.Grid.{count_from}, specs.Lorenzo.{weighted_sum}}
@@ -13,8 +13,7 @@ total f k (suc n) = f k +ℤ total f (suc k) n
 pub total_same : (f g : ℕ → ℤ) (k n : ℕ) → ((i : ℕ) → k ≤ i → i < k + n → f i ≡ g i) → total f k n ≡ total g k n
 total_same f g k zero h = refl
 total_same f g k (suc n) h =
-    ap (λ x. x +ℤ total f (suc k) n) (h k (omega arith) (omega arith))
-    ∙ ap (λ x. g k +ℤ x) (total_same f g (suc k) n (λ i p q. h i (omega arith) (omega arith)))
+    cc (h k (omega arith) (omega arith), total_same f g (suc k) n (λ i p q. h i (omega arith) (omega arith)))
 
 pub total_same_modulo : (m : ℕ) (f g : ℕ → ℤ) (k n : ℕ) → ((i : ℕ) → IsSameModulo m (f i) (g i)) → IsSameModulo m (total f k n) (total g k n)
 total_same_modulo m f g k zero h = same_modulo_refl m (pos 0)
@@ -80,13 +79,8 @@ one_term_none m b k (suc n) h =
 
 pub one_term : (m : ℕ) (b : ℕ → ℤ) (k n : ℕ) → k ≤ m → m < k + n → total (λ i. same_number m i *ℤ b i) k n ≡ b m
 one_term m b k zero l h = absurd (omega arith)
-one_term m b k (suc n) l h = ⊎_elim
-    (λ (e : m ≡ k).
-    let none = one_term_none m b (suc k) n (omega arith) in
-    let at : b k ≡ b m = ap b (sym e) in rw (same_number-yes m k e) (omega (arith, ints)))
-    (λ other.
-    let next = one_term m b (suc k) n (omega arith) (omega arith) in rw (same_number-no m k other) (omega (arith, ints, zero-*ℤ (b k))))
-    (cases_eq m k)
+one_term m b k (suc n) l h =
+    let next = one_term m b (suc k) n in search (rules, cases_eq, one_term_none, same_number-yes, same_number-no, zero-*ℤ)
 
 -- ---- the sum of values with weights is such a sum
 

@@ -28,15 +28,11 @@ behind_change i j n s c within long behind =
     let prefix = take j s ++ c in
     let size : length prefix ≡ j + n = omega (arith, length-append (take j s) c, length-take-le j s within) in
     let sum : i ≡ length prefix + (i - (j + n)) = omega arith in
-    let back : j + n + (i - (j + n)) ≡ i = omega arith in
-    ap (λ k. drop k (prefix ++ drop (j + n) s)) sum ∙ drop-append-add prefix (drop (j + n) s) (i - (j + n))
-    ∙ drop-drop (i - (j + n)) (j + n) s ∙ ap (λ k. drop k s) back
+    let back : j + n + (i - (j + n)) ≡ i = omega arith in cc (drop-append-add prefix (drop (j + n) s) (i - (j + n)), drop-drop (i - (j + n)) (j + n) s)
 
 -- the changed bits
 pub at_change : (j n : ℕ) (s c t : List Bool) → j ≤ length s → length c ≡ n → take n (drop j (take j s ++ c ++ t)) ≡ c
-at_change j n s c t within long =
-    ap (λ (bs : List Bool). take n (drop j bs)) (append_assoc (take j s) c t)
-    ∙ ap (take n) (drop_at (take j s) (c ++ t) j (length-take-le j s within)) ∙ take_at c t n long
+at_change j n s c t within long = search (rules, append_assoc, drop_at, length-take-le, take_at)
 
 -- ---- codes
 
@@ -47,11 +43,7 @@ ends_within budget n b below = omega (arith, suc-mul b budget, mul-le-mul_right 
 -- a code of the first bits is one of all
 pub code_cut-take : (budget n b : ℕ) (s : List Bool) → b < n → code_cut budget (take (n * budget) s) b ≡ code_cut budget s b
 code_cut-take budget n b s below =
-    let i = b * budget in
-    let ends = ends_within budget n b below in
-    let sum : n * budget ≡ i + (n * budget - i) = omega arith in
-    ap (λ k. take budget (drop i (take k s))) sum ∙ ap (take budget) (drop-take i (n * budget - i) s)
-    ∙ take-take budget (n * budget - i) (drop i s) (omega arith)
+    let sum : n * budget ≡ b * budget + (n * budget - b * budget) = omega (arith, ends_within budget n b below) in search (rules, drop-take, take-take, ends_within)
 
 -- only the first bits count
 pub codes_in-prefix : (budget n : ℕ) (s t : List Bool) → take (n * budget) s ≡ take (n * budget) t → codes_in budget n s ≡ codes_in budget n t
@@ -83,19 +75,10 @@ codes_in-put budget n b s t code long below size is = fun_ext (λ k. by k (cases
     within = omega (arith, ends_within budget n b below)
 
     left : (k : ℕ) → code_cut budget t k ≡ code_cut budget s k → now k ≡ old k
-    left k same = by_place (cases_lt k n)
-      where
-        by_place : (k < n) ⊎ (n ≤ k) → now k ≡ old k
-        by_place (inl h) = get_or-codes_in budget n t k h ∙ same ∙ sym (get_or-codes_in budget n s k h)
-        by_place (inr h) =
-            get_or_past (codes_in budget n t) k (replicate budget false) (omega (arith, length-codes_in budget n t))
-            ∙ sym (get_or_past (codes_in budget n s) k (replicate budget false) (omega (arith, length-codes_in budget n s)))
+    left k same = search (rules, cases_lt, get_or-codes_in, get_or_past, length-codes_in)
 
     by : (k : ℕ) → (k ≡ b) ⊎ ((k < b) ⊎ (b < k)) → now k ≡ with_at old b code k
-    by k (inl e) =
-        ap now e ∙ get_or-codes_in budget n t b below
-        ∙ ap (λ (bs : List Bool). code_cut budget bs b) is ∙ at_change (b * budget) budget s code (drop (b * budget + budget) s) within size
-        ∙ sym (ap (with_at old b code) e ∙ with_at-same old b code)
+    by k (inl e) = search (rules, get_or-codes_in, at_change, with_at-same, within)
     by k (inr (inl h)) =
         left k (ap (λ (bs : List Bool). code_cut budget bs k) (is ∙ append_assoc (take (b * budget) s) code (drop (b * budget + budget) s))
         ∙ before_change (k * budget) budget (b * budget) s (code ++ drop (b * budget + budget) s) (ends_within budget b k h) within)
@@ -111,11 +94,9 @@ map-same x n = sym (map-upto_same (λ b. get_or (replicate n x) b x) (λ b. x) n
 
 pub codes_in-zeros : (budget n count : ℕ) → n * budget ≤ 64 * count → codes_in budget n (word_bits (replicate count 0)) ≡ replicate n (replicate budget false)
 codes_in-zeros budget n count enough =
-    let bits : word_bits (replicate count 0) ≡ replicate (64 * count) false = flat_map-field-replicate 64 count in
+    let bits = flat_map-field-replicate 64 count in
     map-upto_same (code_cut budget (word_bits (replicate count 0))) (λ b. replicate budget false) n
-    (λ b below. ap (λ (bs : List Bool). code_cut budget bs b) bits ∙ ap (take budget) (drop-replicate (b * budget) (64 * count) false)
-    ∙ take-replicate budget (64 * count - b * budget) false (omega (arith, ends_within budget n b below)))
-    ∙ map-same (replicate budget false) n
+    (λ b below. let ends = ends_within budget n b below in search (rules, drop-replicate, take-replicate)) ∙ map-same (replicate budget false) n
 
 -- ---- words that hold the codes, with zeros behind
 

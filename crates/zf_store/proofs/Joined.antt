@@ -3,7 +3,6 @@ use Rattle.std.proofs.Common.{◌≡◌, refl, sym, ap, ◌∙◌, ◌⊎◌, in
 use Rattle.std.{specs.Int.{w64, to_le_bytes, from_le_bytes, div_ceil}, proofs.lemmas.Bool.{cases_lt}}
 use Rattle.std.proofs.Math.Seq.{drop-append-add, take-append-add}
 use Rattle.std.proofs.lemmas.List.{length-take-le, length-take, length-replicate, take-take, take_at, take_all, take-append-le, drop-take, drop-drop, drop_all, drop-append-le, take-replicate, get_or-take, get_or-drop, get_or_past}
-use Rattle.std.proofs.lemmas.List.Elements.{All-from_get_or}
 use Rattle.zf_spec.{specs.Numbers.{field, number, word_bits}, proofs.Bytes.{first_bytes-all}}
 use Rattle.zf_spec.specs.Stream.{bytes_from, to_bytes, to_bits, with_fill, fill_len, first_bytes}
 use Rattle.zf_spec.proofs.Fields.{length-field}
@@ -15,21 +14,11 @@ use Rattle.zf_store.proofs.Runs.{field_of_number}
 
 -- the first w bits of a list that is continued with k zeros, where there are so many
 take_padded : (w k : ℕ) (bs : List Bool) → w ≤ length bs + k → take w (bs ++ replicate k false) ≡ take (min (length bs) w) bs ++ replicate (w - min (length bs) w) false
-take_padded w k bs enough = by (cases_lt (length bs) w)
-  where
-    by : (length bs < w) ⊎ (w ≤ length bs) → take w (bs ++ replicate k false) ≡ take (min (length bs) w) bs ++ replicate (w - min (length bs) w) false
-    by (inl short) =
-        let m : min (length bs) w ≡ length bs = omega arith in
-        let sum : w ≡ length bs + (w - length bs) = omega arith in
-        ap (λ n. take n (bs ++ replicate k false)) sum ∙ take-append-add bs (replicate k false) (w - length bs)
-        ∙ ap (λ (zs : List Bool). bs ++ zs) (take-replicate (w - length bs) k false (omega arith))
-        ∙ ap (λ (prefix : List Bool). prefix ++ replicate (w - length bs) false) (sym (take_all (length bs) bs (omega arith)))
-        ∙ ap (λ n. take n bs ++ replicate (w - n) false) (sym m)
-    by (inr long) =
-        let m : min (length bs) w ≡ w = omega arith in
-        let none : w - w ≡ 0 = omega arith in
-        take-append-le w bs (replicate k false) long
-        ∙ sym (ap (λ n. take n bs ++ replicate (w - n) false) m ∙ ap (λ n. take w bs ++ replicate n false) none ∙ append-nil (take w bs))
+take_padded w k bs enough =
+    let m : length bs < w → min (length bs) w ≡ length bs = λ h. omega arith in
+    let n : w ≤ length bs → min (length bs) w ≡ w = λ h. omega arith in
+    let sum : length bs < w → w ≡ length bs + (w - length bs) = λ h. omega arith in
+    search (rules, cases_lt, take-append-add, take-replicate, take_all, take-append-le, append-nil)
 
 -- any count of zeros that is enough will do
 pub padded_same : (w j k : ℕ) (bs : List Bool) → w ≤ length bs + j → w ≤ length bs + k → take w (bs ++ replicate j false) ≡ take w (bs ++ replicate k false)
@@ -46,9 +35,7 @@ word_of_run at len n x bits before within is_n is_x =
     let long : length run ≡ len - at = omega (arith, length-drop at (take len bits), length-take-le len bits within) in
     let piece : take n run ≡ take n (drop at bits) = ap (take n) same ∙ take-take n (len - at) (drop at bits) (omega arith) in
     let count : n ≡ min (length run) 64 = omega arith in
-    let size : length (take n run) ≡ n = length-take-le n run (omega arith) in
-    ap (field 64) (is_x ∙ ap number (sym piece)) ∙ field_of_number n (take n run) size (omega arith)
-    ∙ ap (λ k. take k run ++ replicate (64 - k) false) count ∙ sym (take_padded 64 64 run (omega arith))
+    cc (field_of_number n (take n run) (length-take-le n run (omega arith)) (omega arith), take_padded 64 64 run (omega arith))
 
 -- ---- a word of two runs
 
@@ -59,18 +46,12 @@ one_word x one = absurd (omega arith)
 
 module _ (prefix back : List Bool) (at : ℕ) where
   pub word_behind : (from : ℕ) → length prefix ≤ at → from ≡ at - length prefix → take 64 (drop from back ++ replicate 64 false) ≡ take 64 (drop at (prefix ++ back) ++ replicate 64 false)
-  word_behind from behind is_from =
-      let sum : at ≡ length prefix + from = omega arith in
-      sym (ap (λ k. take 64 (drop k (prefix ++ back) ++ replicate 64 false)) sum
-      ∙ ap (λ (bs : List Bool). take 64 (bs ++ replicate 64 false)) (drop-append-add prefix back from))
+  word_behind from behind is_from = let sum : at ≡ length prefix + from = omega arith in cc (drop-append-add prefix back from)
 
   pub word_before : at + 64 ≤ length prefix → take 64 (drop at prefix ++ replicate 64 false) ≡ take 64 (drop at (prefix ++ back) ++ replicate 64 false)
   word_before before =
       let long : 64 ≤ length (drop at prefix) = omega (arith, length-drop at prefix) in
-      take-append-le 64 (drop at prefix) (replicate 64 false) long
-      ∙ sym (ap (λ (bs : List Bool). take 64 (bs ++ replicate 64 false)) (drop-append-le at prefix back (omega arith))
-      ∙ ap (take 64) (append_assoc (drop at prefix) back (replicate 64 false))
-      ∙ take-append-le 64 (drop at prefix) (back ++ replicate 64 false) long)
+      rw (drop-append-le at prefix back (omega arith), append_assoc, take-append-le, take-append-le) refl
 
   pub word_between : (held n word v x : ℕ) (now : List Bool) → at ≤ length prefix → held ≡ length prefix - at → n ≡ 64 - held → held ≤ 64
       → field 64 word ≡ take 64 (drop at prefix ++ replicate 64 false) → field 64 v ≡ take 64 (back ++ replicate 64 false)
@@ -79,19 +60,14 @@ module _ (prefix back : List Bool) (at : ℕ) where
   word_between held n word v x now within is_held is_n narrow is_word is_v is_now is_x =
       let old = field 64 word ++ [] in
       let rest = drop at prefix in
+      let zeros = replicate 64 false in
       let long : length rest ≡ held = omega (arith, length-drop at prefix) in
       let parts : n + held ≡ 64 = omega arith in
       let sum : 64 ≡ length rest + n = omega arith in
       let none : drop (held + n) old ≡ [] = drop_all (held + n) old (omega arith) in
-      let low : take held old ≡ rest =
-      ap (take held) (append-nil (field 64 word) ∙ is_word) ∙ take-take held 64 (rest ++ replicate 64 false) narrow ∙ take_at rest (replicate 64 false) held long in
-      let high : field n v ≡ take n (back ++ replicate 64 false) =
-      sym (take-field n held v) ∙ ap (λ k. take n (field k v)) parts ∙ ap (take n) is_v ∙ take-take n 64 (back ++ replicate 64 false) (omega arith) in
-      is_x ∙ is_now ∙ ap (λ (bs : List Bool). take held old ++ field n v ++ bs) none ∙ append-nil (take held old ++ field n v)
-      ∙ ap (λ (bs : List Bool). bs ++ field n v) low ∙ ap (λ (bs : List Bool). rest ++ bs) high
-      ∙ sym (ap (λ (bs : List Bool). take 64 (bs ++ replicate 64 false)) (drop-append-le at prefix back within)
-      ∙ ap (take 64) (append_assoc rest back (replicate 64 false)) ∙ ap (λ k. take k (rest ++ (back ++ replicate 64 false))) sum
-      ∙ take-append-add rest (back ++ replicate 64 false) n)
+      let low : take held old ≡ rest = cc (append-nil (field 64 word), take-take held 64 (rest ++ zeros) narrow, take_at rest zeros held long) in
+      let high : field n v ≡ take n (back ++ zeros) = cc (take-field n held v, take-take n 64 (back ++ zeros) (omega arith)) in
+      cc (append-nil (take held old ++ field n v), drop-append-le at prefix back within, append_assoc rest back zeros, take-append-add rest (back ++ zeros) n)
 
 -- ---- bytes
 
@@ -99,51 +75,35 @@ pub bytes_from-add : (m n : ℕ) (bs : List Bool) → bytes_from (m + n) bs ≡ 
 bytes_from-add zero n bs = let e : zero + n ≡ n = omega arith in ap (λ k. bytes_from k bs) e
 bytes_from-add (suc m) n bs =
     let e : suc m + n ≡ suc (m + n) = omega arith in
-    let f : 8 + 8 * m ≡ 8 * suc m = omega arith in
-    ap (λ k. bytes_from k bs) e ∙ ap (λ (cs : List ℕ). number (take 8 bs) ∷ cs) (bytes_from-add m n (drop 8 bs)
-    ∙ ap (λ (cs : List Bool). bytes_from m (drop 8 bs) ++ bytes_from n cs) (drop-drop (8 * m) 8 bs ∙ ap (λ k. drop k bs) f))
+    let f : 8 + 8 * m ≡ 8 * suc m = omega arith in cc (bytes_from-add m n (drop 8 bs), drop-drop (8 * m) 8 bs)
 
 pub bytes_from-prefix : (n : ℕ) (bs : List Bool) → bytes_from n (take (8 * n) bs) ≡ bytes_from n bs
 bytes_from-prefix zero bs = refl
 bytes_from-prefix (suc n) bs =
     let e : 8 * suc n ≡ 8 + 8 * n = omega arith in
-    ap (λ k. bytes_from (suc n) (take k bs)) e
-    ∙ ap (λ (b : List Bool). number b ∷ bytes_from n (drop 8 (take (8 + 8 * n) bs))) (take-take 8 (8 + 8 * n) bs (omega arith))
-    ∙ ap (λ (cs : List ℕ). number (take 8 bs) ∷ cs) (ap (bytes_from n) (drop-take 8 (8 * n) bs) ∙ bytes_from-prefix n (drop 8 bs))
+    cc (take-take 8 (8 + 8 * n) bs (omega arith), drop-take 8 (8 * n) bs, bytes_from-prefix n (drop 8 bs))
 
 -- the bytes of a word
 pub bytes_of_word : (x : ℕ) → x < 2 ^ 64 → to_le_bytes w64 x ≡ bytes_from 8 (field 64 x)
 bytes_of_word x small =
     let long : length (field 64 x ++ []) / 8 ≡ 8 = omega (arith, length-append (field 64 x) [], length-field 64 x) in
-    sym (append-nil (to_le_bytes w64 x))
-    ∙ bytes-words (x ∷ []) (All-from_get_or (λ v. v < 2 ^ 64) (x ∷ []) 0 (λ i within. by i))
-    ∙ ap (λ k. bytes_from k (field 64 x ++ [])) long ∙ ap (bytes_from 8) (append-nil (field 64 x))
-  where
-    by : (i : ℕ) → get_or (x ∷ []) i 0 < 2 ^ 64
-    by zero = small
-    by (suc i) = omega arith
+    let bytes = bytes-words (x ∷ []) (search rules) in cc (append-nil (to_le_bytes w64 x), append-nil (field 64 x))
 
 -- word i of the bytes of filled bits
 pub filled_word : (bs : List Bool) (i x : ℕ) → 64 * i < length bs → field 64 x ≡ take 64 (drop (64 * i) bs ++ replicate 64 false) → field 64 x ≡ take 64 (drop (64 * i) (with_fill bs))
 filled_word bs i x within is =
-    let k = fill_len (length bs) in
     let left : length (drop (64 * i) bs) ≡ length bs - 64 * i = length-drop (64 * i) bs in
-    is ∙ padded_same 64 64 k (drop (64 * i) bs) (omega arith) (omega arith)
-    ∙ ap (take 64) (sym (drop-append-le (64 * i) bs (replicate k false) (omega arith)))
+    let k = fill_len (length bs) in rw (drop-append-le (64 * i) bs (replicate k false) (omega arith)) (is ∙ padded_same 64 64 k (drop (64 * i) bs) (omega arith) (omega arith))
 
 pub bytes_more : (bs : List Bool) (i j x : ℕ) (now new : List ℕ) → 64 * i < length bs → x < 2 ^ 64 → j ≡ i + 1 → 8 * i ≤ length now
     → field 64 x ≡ take 64 (drop (64 * i) bs ++ replicate 64 false) → take (8 * i) now ≡ bytes_from (8 * i) (with_fill bs)
     → new ≡ take (8 * i) now ++ to_le_bytes w64 x ++ drop (8 * i + 8) now → take (8 * j) new ≡ bytes_from (8 * j) (with_fill bs)
 bytes_more bs i j x now new within small is_j held is_x is_now is_new =
-    let filled = with_fill bs in
-    let prefix = take (8 * i) now ++ to_le_bytes w64 x in
     let bytes = bytes_of_word x small in
-    let long : length (bytes_from 8 (field 64 x)) ≡ 8 = refl in
-    let size : length prefix ≡ 8 * j = omega (arith, length-append (take (8 * i) now) (to_le_bytes w64 x), length-take-le (8 * i) now held, ap length bytes, long) in
+    let size : length (take (8 * i) now ++ to_le_bytes w64 x) ≡ 8 * j = omega (arith, length-append (take (8 * i) now) (to_le_bytes w64 x), length-take-le (8 * i) now held, ap length bytes) in
     let sum : 8 * j ≡ 8 * i + 8 = omega arith in
     let eight : 8 * (8 * i) ≡ 64 * i = omega arith in
-    let word : bytes_from 8 (field 64 x) ≡ bytes_from 8 (drop (64 * i) filled) = ap (bytes_from 8) (filled_word bs i x within is_x) ∙ bytes_from-prefix 8 (drop (64 * i) filled) in
-    search (rules, take_at, bytes_from-add)
+    let word = ap (bytes_from 8) (filled_word bs i x within is_x) ∙ bytes_from-prefix 8 (drop (64 * i) (with_fill bs)) in search (rules, take_at, bytes_from-add)
 
 pub bytes_all : (bs : List Bool) (i : ℕ) (out : List ℕ) → length out ≡ 8 * div_ceil (length bs) 64 → length out ≤ 8 * i → i ≤ length out / 8 → take (8 * i) out ≡ bytes_from (8 * i) (with_fill bs) → out ≡ to_bytes (with_fill bs)
 bytes_all bs i out size all last is = search (rules, length-append, length-replicate, take_all)
@@ -171,8 +131,5 @@ fill_of_word bytes used whole fill word x is_whole some within is_fill is_word i
     let parts : 64 ≡ 64 - fill + fill = omega arith in
     let place : at + (64 - fill) ≡ used = omega arith in
     let same : fill ≡ fill_len used = omega arith in
-    let last : drop (64 - fill) (field 64 word ++ []) ≡ take fill (drop used bits) =
-    ap (drop (64 - fill)) (append-nil (field 64 word) ∙ is_word ∙ ap (λ k. take k (drop at bits)) parts) ∙ drop-take (64 - fill) fill (drop at bits)
-    ∙ ap (take fill) (drop-drop (64 - fill) at bits ∙ ap (λ k. drop k bits) place) in
-    is_x ∙ ap (λ (bs : List Bool). number (take fill bs)) last ∙ ap number (take-take fill fill (drop used bits) (omega arith))
-    ∙ ap (λ k. number (take k (drop used bits))) same
+    let none = append-nil (field 64 word) in
+    cc (drop-take (64 - fill) fill (drop at bits), drop-drop (64 - fill) at bits, take-take fill fill (drop used bits) (omega arith))

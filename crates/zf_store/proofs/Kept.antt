@@ -30,8 +30,7 @@ pub below_blocks : (s : Stored) (h : Header) (codes : List (List Bool)) (b : ℕ
 below_blocks s h codes b same below = search (rules, blocks_is)
 
 pub line_size : (s : Stored) (h : Header) (codes : List (List Bool)) (d n : ℕ) → record { header = h; codes = codes } ≡ s → length h.shape ≡ d → n ≡ (format_of s).block_len → n ≡ 4 ^ d
-line_size s h codes d n same dims is =
-    is ∙ block_len_is s ∙ sym (ap (λ (t : Stored). 4 ^ length t.header.shape) same) ∙ ap (λ k. 4 ^ k) dims
+line_size s h codes d n same dims is = search (rules, block_len_is)
 
 -- behind words of zeros there are zeros
 pub blank_words : (count all : ℕ) → drop all (word_bits (replicate count 0)) ≡ replicate (64 * count - all) false
@@ -62,8 +61,7 @@ module _ (w : Width) (d : ℕ) (h : Header) (words : List ℕ) (room : ℕ) (cod
   module _ (b : ℕ) (below : b < blocks h.shape) where
     -- the code of a block is read where it is
     pub code_there : block_bits h.mode ≤ length (drop (b * block_bits h.mode) (take (blocks h.shape * block_bits h.mode) (word_bits words)))
-    code_there =
-        omega (arith, length-drop (b * block_bits h.mode) (take (blocks h.shape * block_bits h.mode) (word_bits words)), length-take-le (blocks h.shape * block_bits h.mode) (word_bits words) bits_within, ends_within (block_bits h.mode) (blocks h.shape) b below)
+    code_there = omega (arith, length-drop {A = Bool}, length-take-le {A = Bool}, bits_within, ends_within (block_bits h.mode) (blocks h.shape) b below)
 
     pub code_read : take (block_bits h.mode) (drop (b * block_bits h.mode) (take (blocks h.shape * block_bits h.mode) (word_bits words))) ≡ code_at (with_codes h (word_bits words)) b
     code_read = code_cut-take (block_bits h.mode) (blocks h.shape) b (word_bits words) below ∙ sym (get_or-codes_in (block_bits h.mode) (blocks h.shape) (word_bits words) b below)

@@ -1,10 +1,10 @@
 -- What a file of a rate says, and why it says nothing.
-use Rattle.std.proofs.Common.{◌≡◌, ◌≢◌, ◌⊎◌, inl, inr, refl, sym, ap, subst, ◌∙◌, ℕ, ◌+◌, ◌-◌, ◌*◌, ◌/◌, ◌^◌, ◌<◌, ◌≤◌, min, Bool, false, List, ◌++◌, map, length, take, drop, replicate, All, Err, append_assoc, length-append, length-drop, arith, rules}
+use Rattle.std.proofs.Common.{◌≡◌, ◌≢◌, inl, inr, refl, sym, ap, subst, ◌∙◌, ℕ, ◌+◌, ◌-◌, ◌*◌, ◌/◌, ◌^◌, ◌<◌, ◌≤◌, min, Bool, false, List, ◌++◌, length, take, drop, replicate, All, Err, append_assoc, length-append, length-drop, arith, rules}
 use Rattle.std.{specs.Int.{div_ceil}, proofs.Math.Nat.{div-lt_iff_lt-mul, le-div_iff_mul-le, mul-le-mul}}
 use Rattle.std.proofs.lemmas.Bool.{cases_lt}
 use Rattle.std.proofs.lemmas.List.{length-take-le, take-append-drop, take-append-le, take_at, drop-append-le, drop-drop, take_all}
-use Rattle.zf_spec.{specs.Grid.{upto, blocks, extent_of, IsShape}, specs.Codes.{read_rate}}
-use Rattle.zf_spec.{specs.Numbers.{field, number, word_bits}, proofs.Bytes.{length-to_bits, to_bytes-to_bits}}
+use Rattle.zf_spec.{specs.Grid.{blocks, extent_of, IsShape}, specs.Codes.{read_rate}}
+use Rattle.zf_spec.{specs.Numbers.{number, word_bits}, proofs.Bytes.{length-to_bits, to_bytes-to_bits}}
 use Rattle.zf_spec.specs.Stream.{to_bits, to_bytes, with_fill, fill_len, file}
 use Rattle.zf_spec.{proofs.Fields.{field-number, field-zero}, proofs.Counting.{map-upto_same}}
 use Rattle.zf_bits.proofs.Words.{take-words}
@@ -15,11 +15,11 @@ use Rattle.zf_header.proofs.Modes.{mode_is_rate, rate_is_some}
 use Rattle.zf_header.proofs.Parts.{length-header_bits, length-header_bits_le}
 use Rattle.zf_header.proofs.Found.{read_is_spelled, read_is_header, begins_within}
 use Rattle.zf_parse.specs.declared.fault.StreamFault.TheVariants.{Truncated, Pad, Trailing}
-use Rattle.zf_parse.{specs.Parsing.{values_of_blocks, parse}, specs.ReadStreams.{BeginsWithHeader}}
-use Rattle.zf_parse.proofs.ParseOfStream.{end_to_end, ReadsBack, parse-file}
+use Rattle.zf_parse.{specs.Parsing.{parse}, specs.ReadStreams.{BeginsWithHeader}}
+use Rattle.zf_parse.proofs.ParseOfStream.{ReadsBack, parse-file}
 use Rattle.zf_parse.proofs.RateStreams.{code_cut, end_to_end-cut, length-cut, read_code-rate, parse_cut, parse_fill_short, parse_pad, parse_trailing}
 use Rattle.zf_cached.proofs.Arrays.{meant-rate}
-use Rattle.zf_store.{specs.Stored.{code_at, format_of}, specs.Files.{HasHeader, IsOpened, values_of}}
+use Rattle.zf_store.{specs.Stored.{code_at, format_of}, specs.Files.{HasHeader, IsOpened}}
 use Rattle.zf_store.specs.Words.{with_codes, all_bits, IsWholeFile}
 use Rattle.zf_store.proofs.Cut.{codes_in-prefix, get_or-codes_in, joined-codes_in, length-codes_in}
 
@@ -62,28 +62,19 @@ module _ (bytes : List ℕ) (h : Header) (has : HasHeader bytes h) where
   whole_bits = omega arith
 
   pub parse_short : (b : ℕ) → length bytes < rate_bytes_of h → b ≡ min ((8 * length bytes - length (header_bits h)) / block_bits h.mode) (blocks h.shape) → parse bytes ≡ Err (Truncated b)
-  parse_short b short is = by (cases_lt (length (drop (length (header_bits h)) (to_bits bytes))) (blocks h.shape * block_bits h.mode))
-    where
-      s : List Bool
-      s = drop (length (header_bits h)) (to_bits bytes)
-
-      some : 1 ≤ block_bits h.mode
-      some = (rate_is_some h.mode has.rate).0
-
-      quotient : (8 * length bytes - length (header_bits h)) / block_bits h.mode ≡ length s / block_bits h.mode
-      quotient = ap (λ k. k / block_bits h.mode) (sym length-behind)
-
-      by : (length s < blocks h.shape * block_bits h.mode) ⊎ (blocks h.shape * block_bits h.mode ≤ length s) → parse bytes ≡ Err (Truncated b)
-      by (inl cut) =
-          let below : length s / block_bits h.mode < blocks h.shape = (div-lt_iff_lt-mul some).1 cut in
-          let same : length s / block_bits h.mode ≡ b = omega (arith, quotient, is, below) in
-          parse_cut bytes h (length (header_bits h)) (block_bits h.mode) begun (mode_is_rate h.mode has.rate) some cut ∙ ap (λ (k : ℕ). Err (Truncated k)) same
-      by (inr long) =
-          let above : blocks h.shape ≤ length s / block_bits h.mode = (le-div_iff_mul-le some).1 long in
-          let all : blocks h.shape ≡ b = omega (arith, quotient, is, above) in
-          parse_fill_short bytes h (length (header_bits h)) (block_bits h.mode) begun (mode_is_rate h.mode has.rate) in_bits long
-          (omega (arith, length-drop (blocks h.shape * block_bits h.mode) s, length-behind, header_within, whole_bits, short))
-          ∙ ap (λ (k : ℕ). Err (Truncated k)) all
+  parse_short b short is =
+      let s = drop (length (header_bits h)) (to_bits bytes) in
+      let some = (rate_is_some h.mode has.rate).0 in
+      let quotient : (8 * length bytes - length (header_bits h)) / block_bits h.mode ≡ length s / block_bits h.mode = ap (λ k. k / block_bits h.mode) (sym length-behind) in
+      elim (cases_lt (length s) (blocks h.shape * block_bits h.mode)) [
+        | inl cut ↦
+            let same : length s / block_bits h.mode ≡ b = let below = (div-lt_iff_lt-mul some).1 cut in omega (arith, quotient, is, below) in
+            parse_cut bytes h (length (header_bits h)) (block_bits h.mode) begun (mode_is_rate h.mode has.rate) some cut ∙ ap (λ (k : ℕ). Err (Truncated k)) same
+        | inr long ↦
+            let all : blocks h.shape ≡ b = let above = (le-div_iff_mul-le some).1 long in omega (arith, quotient, is, above) in
+            parse_fill_short bytes h (length (header_bits h)) (block_bits h.mode) begun (mode_is_rate h.mode has.rate) in_bits long
+            (omega (arith, length-drop (blocks h.shape * block_bits h.mode) s, length-behind, header_within, whole_bits, short)) ∙ ap (λ (k : ℕ). Err (Truncated k)) all
+      ]
 
   -- what stands behind the codes
   fill_at : drop (blocks h.shape * block_bits h.mode) (drop (length (header_bits h)) (to_bits bytes)) ≡ drop (length (header_bits h) + blocks h.shape * block_bits h.mode) (to_bits bytes)
@@ -94,11 +85,7 @@ module _ (bytes : List ℕ) (h : Header) (has : HasHeader bytes h) where
     same_number = ap (λ (bs : List Bool). number (take (fill_len (length (header_bits h) + blocks h.shape * block_bits h.mode)) bs)) fill_at ∙ sym is
 
     pub parse_one : rate_bytes_of h ≤ length bytes → fill_number ≢ 0 → parse bytes ≡ Err Pad
-    parse_one enough one =
-        parse_pad bytes h (length (header_bits h)) (block_bits h.mode) begun (mode_is_rate h.mode has.rate) in_bits
-        (omega (arith, length-behind, whole_bits, enough))
-        (omega (arith, length-drop (blocks h.shape * block_bits h.mode) (drop (length (header_bits h)) (to_bits bytes)), length-behind, whole_bits, enough))
-        (λ none. one (sym same_number ∙ none))
+    parse_one enough one = search (rules, parse_pad, begun, mode_is_rate, in_bits, length-behind, whole_bits, length-drop, same_number)
 
     pub parse_more : rate_bytes_of h < length bytes → fill_number ≡ 0 → parse bytes ≡ Err Trailing
     parse_more more none = search (rules, parse_trailing, begun, mode_is_rate, in_bits, length-behind, whole_bits, length-drop, same_number)
@@ -113,16 +100,12 @@ module _ (bytes : List ℕ) (h : Header) (has : HasHeader bytes h) where
         let fill = drop m s in
         let long_cs : length cs ≡ m = length-take-le m s (omega (arith, length-behind, whole_bits, all)) in
         let long : length fill ≡ fill_len (length hb + m) = omega (arith, length-drop m s, length-behind, whole_bits, all) in
-        let prefix_size : length (hb ++ cs) ≡ length hb + m = length-append hb cs ∙ ap (λ k. length hb + k) long_cs in
+        let prefix_size : length (hb ++ cs) ≡ length hb + m = omega (arith, length-append hb cs) in
         let zero : number fill ≡ 0 = ap number (sym (take_all (fill_len (length hb + m)) fill (omega (arith, long)))) ∙ same_number ∙ none in
-        let zeros : fill ≡ replicate (fill_len (length (hb ++ cs))) false =
-        sym (field-number (length fill) fill refl) ∙ ap (λ k. field (length fill) k) zero ∙ field-zero (length fill)
-        ∙ ap (λ k. replicate k false) (long ∙ ap fill_len (sym prefix_size)) in
+        let zeros : fill ≡ replicate (fill_len (length (hb ++ cs))) false = cc (field-number (length fill) fill refl, field-zero (length fill)) in
         record {
           size = sym all;
-          bits = sym (take-append-drop (length hb) bits) ∙ ap (λ (bs : List Bool). bs ++ s) begins.bits
-              ∙ ap (λ (bs : List Bool). hb ++ bs) (sym (take-append-drop m s)) ∙ sym (append_assoc hb cs fill)
-              ∙ ap (λ (bs : List Bool). hb ++ cs ++ bs) zeros;
+          bits = cc (take-append-drop (length hb) bits, begins.bits, take-append-drop m s, append_assoc hb cs fill);
         }
 
   -- ---- a whole file is opened
@@ -150,20 +133,18 @@ module _ (bytes : List ℕ) (h : Header) (has : HasHeader bytes h) where
     opened_bits : IsOpened bytes h (with_codes h (drop (length (header_bits h)) (to_bits bytes)))
     unfolding file header_bits
     opened_bits =
-        let hb = header_bits h in
-        let s = drop (length hb) (to_bits bytes) in
+        let s = drop (length (header_bits h)) (to_bits bytes) in
         let w = width_of h.ty in
-        let back = λ (b : ℕ). read_rate w (extent_of h.shape b) (code_cut (block_bits h.mode) s b) in
-        let reads : (b : ℕ) → b < blocks h.shape → ReadsBack h (code_cut (block_bits h.mode) s) back b =
-        λ b below more. read_code-rate h (block_bits h.mode) (extent_of h.shape b) (code_cut (block_bits h.mode) s b) more (mode_is_rate h.mode has.rate) (length-cut (block_bits h.mode) (blocks h.shape) b s enough below) in
-        let parsed = parse-file h (code_cut (block_bits h.mode) s) is_header back reads in
-        let joined : to_bytes (with_fill (hb ++ end_to_end (code_cut (block_bits h.mode) s) (upto (blocks h.shape)))) ≡ bytes =
-        ap (λ (cs : List Bool). to_bytes (with_fill (hb ++ cs))) (end_to_end-cut (block_bits h.mode) s (blocks h.shape)) ∙ file_is in
+        let cut = code_cut (block_bits h.mode) s in
+        let back = λ (b : ℕ). read_rate w (extent_of h.shape b) (cut b) in
+        let reads : (b : ℕ) → b < blocks h.shape → ReadsBack h cut back b =
+        λ b below more. read_code-rate h (block_bits h.mode) (extent_of h.shape b) (cut b) more (mode_is_rate h.mode has.rate) (length-cut (block_bits h.mode) (blocks h.shape) b s enough below) in
+        let parsed = parse-file h cut is_header back reads in
+        let joined = end_to_end-cut (block_bits h.mode) s (blocks h.shape) in
         let store = with_codes h s in
         let meant_is : (b : ℕ) → b < blocks h.shape → back b ≡ meant (format_of store) b (code_at store b) =
         λ b below. sym (meant-rate w (block_bits h.mode) h.shape b (code_at store b) ∙ ap (read_rate w (extent_of h.shape b)) (get_or-codes_in (block_bits h.mode) (blocks h.shape) s b below)) in
-        let values : values_of_blocks h.shape (map back (upto (blocks h.shape))) ≡ values_of store =
-        ap (values_of_blocks h.shape) (map-upto_same back (λ b. meant (format_of store) b (code_at store b)) (blocks h.shape) meant_is) in search (rules, length-codes_in, joined-codes_in, file_is)
+        let values = map-upto_same back (λ b. meant (format_of store) b (code_at store b)) (blocks h.shape) meant_is in search (rules, length-codes_in, joined-codes_in, file_is)
 
     pub opened : (bits zeros : List Bool) → bits ≡ take (blocks h.shape * block_bits h.mode) (drop (length (header_bits h)) (to_bits bytes)) ++ zeros → IsOpened bytes h (with_codes h bits)
     opened bits zeros is = search (rules, codes_in-prefix, take_at, length-take-le, enough, opened_bits)

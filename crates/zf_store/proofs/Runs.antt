@@ -1,5 +1,5 @@
 -- Runs of bits that move between words, a word at a time.
-use Rattle.std.proofs.Common.{◌≡◌, refl, sym, ap, ◌∙◌, ℕ, suc, ◌+◌, ◌-◌, ◌*◌, ◌/◌, ◌^◌, ◌<◌, ◌≤◌, Bool, false, List, ◌++◌, length, get_or, set, take, drop, replicate, append_assoc, append-nil, length-append, length-drop, arith, rules}
+use Rattle.std.proofs.Common.{◌≡◌, refl, ap, ◌∙◌, ℕ, suc, ◌+◌, ◌-◌, ◌*◌, ◌^◌, ◌<◌, ◌≤◌, Bool, false, List, ◌++◌, length, get_or, set, take, drop, replicate, append_assoc, append-nil, length-append, length-drop, arith, rules}
 use Rattle.std.{proofs.Math.Nat.{div-eq_of_lt}, proofs.Math.Seq.{take-add, drop-append-add}}
 use Rattle.std.proofs.lemmas.List.{length-take-le, take-append-drop, take_at, take-append-le, drop_at, drop-drop}
 use Rattle.zf_spec.{specs.Numbers.{field, number, word_bits}, proofs.WordBits.{length-word_bits}}
@@ -13,18 +13,14 @@ pub bits_of_word : (words : List ℕ) (i n : ℕ) → i < length words → n ≤
 bits_of_word words i n within narrow =
     let v = get_or words i 0 in
     let parts : n + (64 - n) ≡ 64 = omega arith in
-    sym (ap (take n) (words_here 64 i words within) ∙ take-append-le n (field 64 v) _ (omega (arith, length-field 64 v))
-    ∙ ap (λ k. take n (field k v)) (sym parts) ∙ take-field n (64 - n) v)
+    cc (words_here 64 i words within, take-append-le n (field 64 v) (drop (64 * suc i) (word_bits words)) (omega (arith, length-field 64 v)), take-field n (64 - n) v)
 
 -- a word whose lowest bits are these
 pub field_of_number : (n : ℕ) (bs : List Bool) → length bs ≡ n → n ≤ 64 → field 64 (number bs) ≡ bs ++ replicate (64 - n) false
 field_of_number n bs long narrow =
     let parts : 64 ≡ n + (64 - n) = omega arith in
     let small : number bs < 2 ^ n = omega (arith, number-lt bs, ap (λ k. 2 ^ k) long) in
-    ap (λ k. field k (number bs)) parts ∙ field-add n (64 - n) (number bs)
-    ∙ ap (λ (prefix : List Bool). prefix ++ field (64 - n) (number bs / 2 ^ n)) (field-number n bs long)
-    ∙ ap (λ k. bs ++ field (64 - n) k) (div-eq_of_lt small)
-    ∙ ap (λ (back : List Bool). bs ++ back) (field-zero (64 - n))
+    cc (field-add n (64 - n) (number bs), field-number n bs long, div-eq_of_lt small, field-zero (64 - n))
 
 -- ---- a run that is put a word at a time
 
@@ -43,16 +39,8 @@ with_run-more old at code m n next now new bits within held is_next is_now is_bi
     let size : length prefix ≡ at + m = omega (arith, length-append (take at old) (take m code), length-take-le at old (omega arith), length-take-le m code (omega arith)) in
     let long : at + m + n ≡ length prefix + n = omega arith in
     let first : take (at + m) now ≡ prefix = ap (take (at + m)) is_now ∙ take_at prefix rest (at + m) size in
-    let last : drop (at + m + n) now ≡ drop (at + m + n) old =
-    ap (drop (at + m + n)) is_now ∙ ap (λ k. drop k (prefix ++ rest)) long ∙ drop-append-add prefix rest n ∙ drop-drop n (at + m) old in
-    let sum : at + m + n ≡ at + next = omega arith in
-    is_new ∙ ap (λ (bs : List Bool). bs ++ bits ++ drop (at + m + n) now) first
-    ∙ ap (λ (bs : List Bool). prefix ++ bits ++ bs) last
-    ∙ ap (λ (bs : List Bool). prefix ++ bs ++ drop (at + m + n) old) is_bits
-    ∙ ap (λ (bs : List Bool). bs ++ drop (at + m + n) old) (append_assoc (take at old) (take m code) (take n (drop m code))
-    ∙ ap (λ (bs : List Bool). take at old ++ bs) (sym (take-add m n code)))
-    ∙ ap (λ k. take at old ++ take (m + n) code ++ drop k old) sum
-    ∙ ap (λ k. take at old ++ take k code ++ drop (at + next) old) (sym is_next)
+    let last : drop (at + m + n) now ≡ drop (at + m + n) old = cc (drop-append-add prefix rest n, drop-drop n (at + m) old) in
+    let sum : at + m + n ≡ at + next = omega arith in cc (append_assoc (take at old) (take m code) (take n (drop m code)), take-add m n code)
 
 -- ---- a run that is moved to the front, a word at a time
 
@@ -70,27 +58,22 @@ IsMoved-more old at i n next m j x words is within behind narrow enough is_j is_
     let bits = word_bits words in
     let prefix = take (64 * i) bits in
     let rest = drop (64 * suc i) bits in
-    let now : word_bits (set words i x) ≡ prefix ++ (field 64 x ++ rest) = words-set 64 i words x within in
+    let now = words-set 64 i words x within in
     let size : length prefix ≡ 64 * i = length-take-le (64 * i) bits (omega (arith, length-word_bits words)) in
     let whole : length (prefix ++ field 64 x) ≡ 64 * j = omega (arith, length-append prefix (field 64 x), length-field 64 x) in
-    let parts : prefix ++ (field 64 x ++ rest) ≡ prefix ++ field 64 x ++ rest = sym (append_assoc prefix (field 64 x) rest) in
+    let parts = append_assoc prefix (field 64 x) rest in
     let zero_more : 64 * i - 64 * i ≡ 0 = omega arith in
-    let first : prefix ≡ take (64 * i) (drop at old) = is.moved ∙ ap (λ k. take (64 * i) (drop at old) ++ replicate k false) zero_more ∙ append-nil (take (64 * i) (drop at old)) in
-    let source : drop (at + 64 * i) bits ≡ drop (64 * i) (drop at old) =
-    ap (λ k. drop k bits) (let e : at + 64 * i ≡ 64 * i + at = omega arith in e) ∙ sym (drop-drop at (64 * i) bits) ∙ ap (drop at) is.behind ∙ drop-drop at (64 * i) old
-    ∙ ap (λ k. drop k old) (let e : 64 * i + at ≡ at + 64 * i = omega arith in e) ∙ sym (drop-drop (64 * i) at old) in
+    let first : prefix ≡ take (64 * i) (drop at old) = cc (is.moved, append-nil (take (64 * i) (drop at old))) in
+    let other : at + 64 * i ≡ 64 * i + at = omega arith in
+    let source : drop (at + 64 * i) bits ≡ drop (64 * i) (drop at old) = cc (drop-drop at (64 * i) bits, is.behind, drop-drop at (64 * i) old, drop-drop (64 * i) at old) in
     let piece = take n (drop (64 * i) (drop at old)) in
     let long : length piece ≡ n = length-take-le n (drop (64 * i) (drop at old)) (omega (arith, length-drop (64 * i) (drop at old), length-drop at old)) in
-    let put : field 64 x ≡ piece ++ replicate (64 - n) false = ap (field 64) (is_x ∙ ap (λ (bs : List Bool). number (take n bs)) source) ∙ field_of_number n piece long narrow in
+    let put : field 64 x ≡ piece ++ replicate (64 - n) false = cc (field_of_number n piece long narrow) in
     let pad : 64 - n ≡ 64 * j - m = omega arith in
     let count : 64 * i + n ≡ m = omega arith in
+    let one : 64 * suc i ≡ 64 * i + 64 = omega arith in
+    let two : 64 * i + 64 ≡ 64 * j = omega arith in
     record {
-      moved = ap (take (64 * j)) (now ∙ parts) ∙ take_at (prefix ++ field 64 x) rest (64 * j) whole
-          ∙ ap (λ (bs : List Bool). bs ++ field 64 x) first ∙ ap (λ (bs : List Bool). take (64 * i) (drop at old) ++ bs) put
-          ∙ sym (append_assoc (take (64 * i) (drop at old)) piece (replicate (64 - n) false))
-          ∙ ap (λ (bs : List Bool). bs ++ replicate (64 - n) false) (sym (take-add (64 * i) n (drop at old)) ∙ ap (λ k. take k (drop at old)) count)
-          ∙ ap (λ k. take m (drop at old) ++ replicate k false) pad;
-      behind = ap (drop (64 * j)) (now ∙ parts) ∙ drop_at (prefix ++ field 64 x) rest (64 * j) whole
-          ∙ ap (λ k. drop k bits) (let e : 64 * suc i ≡ 64 * i + 64 = omega arith in e) ∙ sym (drop-drop 64 (64 * i) bits) ∙ ap (drop 64) is.behind ∙ drop-drop 64 (64 * i) old
-          ∙ ap (λ k. drop k old) (let e : 64 * i + 64 ≡ 64 * j = omega arith in e);
+      moved = cc (take_at (prefix ++ field 64 x) rest (64 * j) whole, append_assoc (take (64 * i) (drop at old)) piece (replicate (64 - n) false), take-add (64 * i) n (drop at old));
+      behind = cc (drop_at (prefix ++ field 64 x) rest (64 * j) whole, drop-drop 64 (64 * i) bits, is.behind, drop-drop 64 (64 * i) old);
     }

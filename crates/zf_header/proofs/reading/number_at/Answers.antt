@@ -9,10 +9,6 @@ overflow_add-number c = search (rules, number_more_at)
 pub loop-i-preserved : goal.loop-i-preserved
 loop-i-preserved c = search (rules, number_more_at)
 
-pub returns-clause-value : goal.returns-clause-value
+pub returns : goal.returns
 unfolding number_at
-returns-clause-value c = search rules
-
-pub returns-clause-bound : goal.returns-clause-bound
-unfolding number_at
-returns-clause-bound c = search (rules, number_at_below)
+returns c = search (rules, number_at_below)

@@ -14,9 +14,7 @@ returns-then-has_one_in_fill-clause-err c =
     parse_one c.args.file.now c.args.h.now c.requires _ refl (omega (arith, c.if-len-whole.false, c.rate_bytes-whole.ensures)) (one_found _ c.if-has_one_in_fill.ensures)
 
 pub returns-then-len-whole-2-clause-err : goal.returns-then-len-whole-2-clause-err
-returns-then-len-whole-2-clause-err c =
-    parse_more c.args.file.now c.args.h.now c.requires _ refl (omega (arith, c.if-len-whole-2.true, c.rate_bytes-whole.ensures)) (none_found _ c.if-has_one_in_fill.ensures)
+returns-then-len-whole-2-clause-err c = search (rules, parse_more, none_found)
 
 pub returns-clause-ok : goal.returns-clause-ok
-returns-clause-ok c =
-    whole_file c.args.file.now c.args.h.now c.requires _ refl (omega (arith, c.if-len-whole.false, c.if-len-whole-2.false, c.rate_bytes-whole.ensures)) (none_found _ c.if-has_one_in_fill.ensures)
+returns-clause-ok c = search (rules, whole_file, none_found)

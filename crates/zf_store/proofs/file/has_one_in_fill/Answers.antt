@@ -1,5 +1,4 @@
-use Rattle.std.proofs.Common.{◌≡◌, sym, ◌+◌, ◌-◌, ◌*◌, length, take, drop, arith, rules}
-use Rattle.zf_spec.{specs.Numbers.{number}, specs.Stream.{fill_len, to_bits}}
+use Rattle.std.proofs.Common.{sym, ◌+◌, ◌-◌, ◌*◌, length, arith, rules}
 use Rattle.zf_header.specs.HeaderBits.{header_bits}
 use Rattle.zf_store.{specs.Words.{all_bits}, proofs.Joined.{fill_of_word}}
 use Rattle.zf_store.proofs.Opened.{rate_bytes_most, header_least}
@@ -11,12 +10,9 @@ overflow_mul-fill c = omega (arith, rate_bytes_most c.args.file.now c.args.h.now
 pub returns : goal.returns
 returns c =
     let h = c.args.h.now in
-    let bytes = c.args.file.now in
     let used = length (header_bits h) + all_bits h in
     let whole = c.rate_bytes-whole.result in
-    let fill = 8 * whole - c.header_len.result - c.code_bits.result in
-    let least = header_least bytes h c.requires.header in
-    let same : c.get_bits.result ≡ number (take (fill_len used) (drop used (to_bits bytes))) =
-    fill_of_word bytes used whole fill c.word_before.result c.get_bits.result c.rate_bytes-whole.ensures (omega (arith, least, c.rate_bytes-whole.ensures))
+    let least = header_least c.args.file.now h c.requires.header in
+    let same = fill_of_word c.args.file.now used whole (8 * whole - c.header_len.result - c.code_bits.result) c.word_before.result c.get_bits.result c.rate_bytes-whole.ensures (omega (arith, least, c.rate_bytes-whole.ensures))
     (omega (arith, c.requires.enough, c.rate_bytes-whole.ensures)) (omega (arith, c.header_len.ensures.value, c.code_bits.ensures.value)) c.word_before.ensures c.get_bits.ensures in
     rw (sym same) (search rules)

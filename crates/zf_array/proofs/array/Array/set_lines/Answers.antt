@@ -1,17 +1,14 @@
-use Rattle.std.{proofs.Common.{ap, ◌∙◌, Bool, List, lit<}, proofs.lemmas.Result.{on_ok_weaker}}
+use Rattle.std.{proofs.Common.{ap, ◌∙◌, Bool, List, rules}, proofs.lemmas.Result.{on_ok_weaker}}
 use Rattle.zf_base.specs.Formats.{Format}
 use Rattle.zf_cached.{specs.State.{State}, specs.Changes.{relined}}
-use Rattle.zf_array.{specs.Standing.{format, state}, proofs.Standing.{has_blocks, joined_after}}
-use Rattle.zf_array.proofs.Steps.{step, header_step}
+use Rattle.zf_array.{specs.Standing.{format, state}, proofs.Standing.{has_blocks, joined_after, step, header_step}}
 use Rattle.zf_array.proofs.array.Array.set_lines.Goals as goal
 
 pub relined-requires : goal.relined-requires
-relined-requires g c =
-    (lit< tt, (record { fits = c.self.invariant.fits; blocks = has_blocks _ _ _ _ _ _ c.self.invariant }, c.raised.ensures.count))
+relined-requires g c = search (rules, has_blocks)
 
 pub invariant_of-self : goal.invariant_of-self
-invariant_of-self g c =
-    joined_after _ _ _ _ _ _ c.self.invariant c.relined.new.back c.relined.new.self c.relined.ensures.keeps.kept c.relined.ensures.fits
+invariant_of-self g c = search (rules, joined_after)
 
 pub returns-clause-ok : goal.returns-clause-ok
 returns-clause-ok g c =
@@ -20,5 +17,4 @@ returns-clause-ok g c =
     ∙ ap (relined (format c.args.self.now) (state c.args.self.now)) c.raised.ensures.value) c.relined.ensures.ok
 
 pub returns-clause-header : goal.returns-clause-header
-returns-clause-header g c =
-    header_step _ _ _ _ _ _ c.self.invariant c.args.self.now c.self.view_is c.relined.new.back c.relined.new.self c.relined.ensures.keeps.kept c.relined.ensures.fits
+returns-clause-header g c = search (rules, header_step)

@@ -1,5 +1,5 @@
-use Rattle.std.proofs.Common.{ap, ◌∙◌, ◌++◌, List, ℕ, take, arith}
-use Rattle.zf_spec.{specs.Numbers.{word_bits}, specs.Stream.{to_bytes, with_fill}}
+use Rattle.std.proofs.Common.{ap, arith}
+use Rattle.zf_spec.{specs.Numbers.{word_bits}}
 use Rattle.zf_store.{specs.Stored.{file_of}, proofs.Kept.{file_is, bits_most}}
 use Rattle.zf_store.proofs.store.Store.write_file.Goals as goal
 
@@ -9,10 +9,5 @@ write_bytes-requires-clause-small g c =
 
 pub returns : goal.returns
 returns g c =
-    let n = c.len.result in
-    let m = c.code_bits.result in
-    let prefix = word_bits c.words.result.now in
-    let made = λ (ws : List ℕ). to_bytes (with_fill (take n prefix ++ take m (word_bits ws))) in
-    c.write_bytes.ensures ∙ ap made c.deref.ensures.value
-    ∙ file_is _ _ _ _ _ _ _ c.self.invariant prefix n m c.words.ensures.bits c.len.ensures.count c.code_bits.ensures.value
-    ∙ ap file_of c.self.view_is
+    let file = file_is _ _ _ _ _ _ _ c.self.invariant (word_bits c.words.result.now) c.len.result c.code_bits.result c.words.ensures.bits c.len.ensures.count c.code_bits.ensures.value in
+    cc (c.write_bytes.ensures, c.deref.ensures.value, ap file_of c.self.view_is)

@@ -1,10 +1,10 @@
-use Rattle.std.proofs.Common.{◌≡◌, sym, ap, subst, ◌∙◌, ℕ, ◌++◌, Bool, List, [], length, map, arith}
+use Rattle.std.proofs.Common.{◌≡◌, sym, ap, ◌∙◌, ℕ, ◌++◌, Bool, List, [], length, map, rules}
 use Rattle.std.proofs.lemmas.List.{take_at}
 use Rattle.zf_spec.{specs.Codes.{rate}, specs.Grid.{extent_of}, specs.Numbers.{word_bits}}
 use Rattle.zf_spec.proofs.BlockReading.{length-rate}
 use Rattle.zf_base.{specs.Formats.{encoded, with_at}, specs.Positions.{used_axes}}
 use Rattle.zf_header.specs.HeaderBits.{block_bits}
-use Rattle.zf_store.{specs.Stored.{Stored, code_at, format_of}, specs.Words.{IsKept, with_codes}}
+use Rattle.zf_store.{specs.Stored.{Stored, code_at, format_of}, specs.Words.{with_codes}}
 use Rattle.zf_store.proofs.Kept.{below_blocks, line_size, put_is, kept_put, codes_put, code_is_encoded}
 use Rattle.zf_store.proofs.store.StoreBacking.store.Goals as goal
 
@@ -22,29 +22,21 @@ long_code : (bits empty code : List Bool) (budget : ℕ) → bits ≡ empty ++ c
 long_code bits empty code budget is none long = ap length (is ∙ ap (λ (bs : List Bool). bs ++ code) none) ∙ long
 
 pub put_run-requires-clause-code : goal.put_run-requires-clause-code
-put_run-requires-clause-code g c =
-    let code = rate g.T.Lane.width c.rate-bits.result (used_axes g.row.D c.extent-e.result.size) (map g.T.Lane.value c.args.line.now) in
-    let long = long_code c.encode_rate.new.out.bits c.clear.new.self.bits code c.rate-bits.result c.encode_rate.ensures.code.bits c.clear.ensures.bits (length-rate _ c.rate-bits.result _ _) in
-    omega (arith, c.words.ensures.len, long, c.from.ensures)
+put_run-requires-clause-code g c = search (rules, long_code, length-rate)
 
 pub invariant_of-self : goal.invariant_of-self
 invariant_of-self g c =
     let s = c.self.inside in
-    let h = s.header in
     let b = c.args.b in
-    let w = g.T.Lane.width in
-    let code = rate w c.rate-bits.result (used_axes g.row.D c.extent-e.result.size) (map g.T.Lane.value c.args.line.now) in
-    let below = below_blocks c.args.self.now h _ b c.self.view_is c.requires.block in
-    let long : length code ≡ block_bits h.mode = length-rate _ c.rate-bits.result _ _ ∙ c.rate-bits.ensures.value in
+    let below = below_blocks c.args.self.now s.header _ b c.self.view_is c.requires.block in
+    let long = length-rate _ c.rate-bits.result _ _ ∙ c.rate-bits.ensures.value in
     let fresh = c.put_run.new.words in
     let count : length fresh ≡ length s.words.items = c.put_run.ensures.count ∙ ap length c.deref_mut.ensures.value in
-    let held : length fresh ≡ s.words.len = c.put_run.ensures.count ∙ c.deref_mut.ensures.len in
-    let put = put_is w g.row.D h s.words.items s.room s.code s.head c.self.invariant b below c.deref_mut.result.now fresh c.words.result.now c.code_place.result c.from.result c.encode_rate.new.out.bits c.clear.new.self.bits code
+    let put = put_is _ _ _ _ _ _ _ c.self.invariant b below c.deref_mut.result.now fresh c.words.result.now c.code_place.result c.from.result c.encode_rate.new.out.bits c.clear.new.self.bits _
     c.deref_mut.ensures.value c.code_place.ensures.value (c.from.ensures ∙ c.rate-bits.ensures.value) c.words.ensures.bits c.encode_rate.ensures.code.bits c.clear.ensures.bits long c.put_run.ensures.bits in
-    let size = long_code c.encode_rate.new.out.bits c.clear.new.self.bits code (block_bits h.mode) c.encode_rate.ensures.code.bits c.clear.ensures.bits long in
-    let P : List ℕ → Type 0 = λ ws. IsKept w g.row.D h ws c.encode_rate.new.s c.encode_rate.new.out s.head in
-    subst P (sym (take_at fresh _ s.words.len held))
-    (kept_put w g.row.D h s.words.items s.room s.code s.head c.self.invariant b below code fresh long count put c.encode_rate.new.s c.encode_rate.new.out c.encode_rate.ensures.scratch size)
+    let size = long_code c.encode_rate.new.out.bits c.clear.new.self.bits _ (block_bits s.header.mode) c.encode_rate.ensures.code.bits c.clear.ensures.bits long in
+    rw (take_at fresh _ s.words.len (c.put_run.ensures.count ∙ c.deref_mut.ensures.len))
+    (kept_put _ _ _ _ _ _ _ c.self.invariant b below _ fresh long count put c.encode_rate.new.s c.encode_rate.new.out c.encode_rate.ensures.scratch size)
 
 pub returns-clause-codes : goal.returns-clause-codes
 returns-clause-codes g c =
@@ -59,15 +51,12 @@ returns-clause-codes g c =
     let long : length code ≡ block_bits h.mode = length-rate _ c.rate-bits.result _ _ ∙ c.rate-bits.ensures.value in
     let fresh = c.put_run.new.words in
     let count : length fresh ≡ length s.words.items = c.put_run.ensures.count ∙ ap length c.deref_mut.ensures.value in
-    let held : length fresh ≡ s.words.len = c.put_run.ensures.count ∙ c.deref_mut.ensures.len in
     let put = put_is w g.row.D h s.words.items s.room s.code s.head c.self.invariant b below c.deref_mut.result.now fresh c.words.result.now c.code_place.result c.from.result c.encode_rate.new.out.bits c.clear.new.self.bits code
     c.deref_mut.ensures.value c.code_place.ensures.value (c.from.ensures ∙ c.rate-bits.ensures.value) c.words.ensures.bits c.encode_rate.ensures.code.bits c.clear.ensures.bits long c.put_run.ensures.bits in
     let at : es ≡ extent_of h.shape b = ap (λ d. used_axes d c.extent-e.result.size) (sym c.self.invariant.dims) ∙ c.extent-e.ensures.used_size in
     let store = with_codes h (word_bits s.words.items) in
-    let is : code ≡ encoded (format_of store) b values =
-    ap (λ k. rate w k es values) c.rate-bits.ensures.value ∙ code_is_encoded w g.row.D h s.words.items s.room s.code s.head c.self.invariant b below es values at in
+    let is = ap (λ k. rate w k es values) c.rate-bits.ensures.value ∙ code_is_encoded w g.row.D h s.words.items s.room s.code s.head c.self.invariant b below es values at in
     let Now : List ℕ → ℕ → List Bool = λ ws k. code_at (with_codes h (word_bits ws)) k in
-    ap Now (take_at fresh _ s.words.len held)
+    ap Now (take_at fresh _ s.words.len (c.put_run.ensures.count ∙ c.deref_mut.ensures.len))
     ∙ codes_put w g.row.D h s.words.items s.room s.code s.head c.self.invariant b below code fresh long count put
-    ∙ ap (λ (cs : List Bool). with_at (λ k. code_at store k) b cs) is
-    ∙ ap (λ (t : Stored). with_at (λ k. code_at t k) b (encoded (format_of t) b values)) c.self.view_is
+    ∙ ap (λ (cs : List Bool). with_at (λ k. code_at store k) b cs) is ∙ ap (λ (t : Stored). with_at (λ k. code_at t k) b (encoded (format_of t) b values)) c.self.view_is
