@@ -1,5 +1,5 @@
 -- Passes over a block of one value, and back over a block of which all values but the first are zero.
-use Rattle.std.proofs.Common.{◌≡◌, refl, sym, ap, subst, ◌∙◌, ℕ, zero, suc, ◌+◌, ◌-◌, ◌*◌, ◌/◌, ◌%◌, ◌^◌, ◌<◌, ◌≤◌, ⊎_elim, ℤ, pos, List, [], ◌∷◌, length, get_or, replicate, ext_get_or, arith}
+use Rattle.std.proofs.Common.{◌≡◌, refl, sym, ap, subst, ◌∙◌, ℕ, zero, suc, ◌+◌, ◌-◌, ◌*◌, ◌/◌, ◌%◌, ◌^◌, ◌<◌, ◌≤◌, ⊎_elim, ℤ, pos, List, [], ◌∷◌, length, get_or, replicate, ext_get_or, arith, rules}
 use Rattle.std.{proofs.lemmas.Bool.{cases_lt, cases_eq}, proofs.lemmas.Nat.{div-mul-add, div-add-mod'}}
 use Rattle.std.proofs.lemmas.List.{get_or_past, length-replicate, get_or-replicate}
 use Rattle.std.proofs.Math.Nat.{pow-suc, mul-le-mul_left, mod-lt, mul-mod_left}
@@ -32,11 +32,7 @@ line_of : (f : ℤ → ℤ → ℤ → ℤ → List ℤ) (step : ℕ) (block : L
     → get_or block (start + step * 0) (pos 0) ≡ a → get_or block (start + step * 1) (pos 0) ≡ b
     → get_or block (start + step * 2) (pos 0) ≡ c → get_or block (start + step * 3) (pos 0) ≡ e
     → line_value f step block p ≡ get_or made i (pos 0)
-line_of f step block p start i a b c e made index begins is first second third fourth =
-    let value : ℕ → ℕ → ℤ = λ s k. get_or block (s + step * k) (pos 0) in
-    let line : ℕ → ℕ → ℤ = λ j s. get_or (f (value s 0) (value s 1) (value s 2) (value s 3)) j (pos 0) in
-    let values : f (value start 0) (value start 1) (value start 2) (value start 3) ≡ made = rw (first, second, third, fourth) is in
-    ap (λ j. line j (p - step * j)) index ∙ ap (line i) begins ∙ ap (λ (l : List ℤ). get_or l i (pos 0)) values
+line_of f step block p start i a b c e made index begins is first second third fourth = search rules
 
 spread_next : (f : ℤ → ℤ → ℤ → ℤ → List ℤ) (step : ℕ) (v : ℤ) (block : List ℤ) → 0 < step → Spreads f v → Spreads f (pos 0)
     → IsSpread (4 * step) v block → IsSpread step v (along f step block)
@@ -81,9 +77,7 @@ spread_next f step v block some spreads zeros before = record {
 
 spread_all : (f : ℤ → ℤ → ℤ → ℤ → List ℤ) (v : ℤ) → Spreads f v → Spreads f (pos 0) → (step d : ℕ) (block : List ℤ) → 0 < step
     → IsSpread (step * 4 ^ d) v block → IsSpread step v (along_axes_back f step d block)
-spread_all f v spreads zeros step zero block some spread =
-    let same : step * 4 ^ 0 ≡ step = omega arith in
-    subst (λ s. IsSpread s v block) same spread
+spread_all f v spreads zeros step zero block some spread = search rules
 spread_all f v spreads zeros step (suc d) block some spread =
     let next : step * 4 ^ suc d ≡ 4 * step * 4 ^ d = ap (λ n. step * n) (pow-suc 4 d) ∙ omega arith in
     spread_next f step v (along_axes_back f (4 * step) d block) some spreads zeros
@@ -137,14 +131,7 @@ zero_behind v (suc (suc (suc (suc i)))) later = refl
 
 -- a group that a place lies in is whole
 group_of_place : (s n m : ℕ) → 0 < s → n % s ≡ 0 → s * m < n → s * (m + 1) ≤ n
-group_of_place s n m some whole inside =
-    let split = div-add-mod' n s in
-    ⊎_elim
-    (λ (below : m < n / s).
-    let next : m + 1 ≤ n / s = omega arith in
-    omega (arith, mul-le-mul_left s next))
-    (λ (past : n / s ≤ m). absurd (omega (arith, mul-le-mul_left s past)))
-    (cases_lt m (n / s))
+group_of_place s n m some whole inside = search (rules, mul-le-mul_left)
 
 collects_next : (f : ℤ → ℤ → ℤ → ℤ → List ℤ) (step : ℕ) (v : ℤ) (block : List ℤ) → 0 < step → Collects f v → Collects f (pos 0)
     → length block % (4 * step) ≡ 0 → IsSpread step v block → IsSpread (4 * step) v (along f step block)
@@ -219,9 +206,7 @@ collects_next f step v block some collects zeros whole before = record { there =
 
 collects_all : (f : ℤ → ℤ → ℤ → ℤ → List ℤ) (v : ℤ) → Collects f v → Collects f (pos 0) → (step d : ℕ) (block : List ℤ) → 0 < step → length block ≡ step * 4 ^ d
     → IsSpread step v block → IsSpread (step * 4 ^ d) v (along_axes f step d block)
-collects_all f v collects zeros step zero block some long spread =
-    let same : step ≡ step * 4 ^ 0 = omega arith in
-    subst (λ s. IsSpread s v block) same spread
+collects_all f v collects zeros step zero block some long spread = search rules
 collects_all f v collects zeros step (suc d) block some long spread =
     let next : step * 4 ^ suc d ≡ 4 * step * 4 ^ d = ap (λ n. step * n) (pow-suc 4 d) ∙ omega arith in
     let turned : length block ≡ 4 ^ d * (4 * step) = long ∙ next ∙ omega arith in

@@ -1,5 +1,5 @@
 -- A pass along one axis, line by line.
-use Rattle.std.proofs.Common.{◌≡◌, ◌≢◌, ℕ, ◌+◌, ◌*◌, ◌/◌, ◌%◌, ◌<◌, ◌≤◌, ℤ, pos, List, length, get_or, sym, ap, ◌∙◌, arith, ◌⊎◌, inl, inr}
+use Rattle.std.proofs.Common.{◌≡◌, ◌≢◌, ℕ, ◌+◌, ◌*◌, ◌/◌, ◌%◌, ◌<◌, ◌≤◌, ℤ, pos, List, length, get_or, sym, ap, ◌∙◌, arith, ◌⊎◌, inl, inr, rules}
 use Rattle.std.{proofs.lemmas.Bool.{cases_lt}, proofs.lemmas.List.{ext_get_or}}
 use Rattle.zf_spec.{specs.Lift.{line_value, along}, proofs.Counting.{length-map-upto, get_or-map-upto}}
 use Rattle.zf_axes.{specs.Lines.{member, mapped_line, MapsLine}, proofs.Strides.{line_start, place-of_line}}
@@ -64,6 +64,4 @@ IsMappedBelow-line f step start old now new some begins mapped line =
 pub IsMappedBelow-end : (f : ℤ → ℤ → ℤ → ℤ → List ℤ) (step start : ℕ) (old new : List ℤ) → length old ≤ start → IsMappedBelow f step start old new → new ≡ along f step old
 IsMappedBelow-end f step start old new all mapped =
     ext_get_or (pos 0) new (along f step old) (mapped.size ∙ sym (length-along f step old))
-    (λ p inside.
-    let inside' : p < length old = omega (arith, mapped.size) in
-    mapped.done p (omega arith) inside' ∙ sym (get_or-along f step old p inside'))
+    (search (rules, get_or-along))

@@ -1,6 +1,6 @@
 -- Places along the axis whose neighbours are s places apart: where a line begins, and which places it has.
 --     The block is cut into groups of 4 * s places; the lines of a group begin at its first s places.
-use Rattle.std.proofs.Common.{◌≡◌, ℕ, ◌+◌, ◌-◌, ◌*◌, ◌/◌, ◌%◌, ◌^◌, ◌<◌, ◌≤◌, ap, ◌∙◌, arith, ◌⊎◌, inl, inr, add-one, pow-add}
+use Rattle.std.proofs.Common.{◌≡◌, ℕ, ◌+◌, ◌-◌, ◌*◌, ◌/◌, ◌%◌, ◌^◌, ◌<◌, ◌≤◌, ap, ◌∙◌, arith, ◌⊎◌, inl, inr, add-one, pow-add, rules}
 use Rattle.std.{proofs.lemmas.Bool.{cases_lt}, proofs.lemmas.Nat.{div-mul-add, div-add-mod'}}
 use Rattle.std.proofs.Math.Nat.{mul-le-mul_left, mod-lt, one-le-pow, pow-suc, pow-le-pow_right, mul-mod_left}
 
@@ -10,11 +10,7 @@ line_start s p = p - s * (p / s % 4)
 
 -- a place is so many steps behind the start of its line
 pub place-of_line : (s p : ℕ) → 0 < s → p ≡ line_start s p + s * (p / s % 4)
-place-of_line s p some =
-    let q = p / s in
-    let split : q ≡ 4 * (q / 4) + q % 4 = omega arith in
-    let parts = ap (λ x. x * s) split in
-    omega (arith, div-add-mod' p s)
+place-of_line s p some = search rules
 
 -- a line begins in the first s places of its group
 pub line_start-is : (s p : ℕ) → 0 < s → line_start s p ≡ 4 * s * (p / s / 4) + p % s
@@ -75,6 +71,4 @@ step_below a d below = let most : 4 ^ (a + 1) ≤ 4 ^ d = pow-le-pow_right (omeg
 
 pub step_whole : (a d : ℕ) → a < d → 4 ^ d % (4 * 4 ^ a) ≡ 0
 step_whole a d below =
-    let split : d ≡ (d - (a + 1)) + (a + 1) = omega arith in
-    let parts : 4 ^ d ≡ 4 ^ (d - (a + 1)) * (4 * 4 ^ a) = ap (λ e. 4 ^ e) split ∙ pow-add 4 (d - (a + 1)) (a + 1) ∙ ap (λ s. 4 ^ (d - (a + 1)) * s) (step_next a) in
-    ap (λ n. n % (4 * 4 ^ a)) parts ∙ mul-mod_left (4 ^ (d - (a + 1))) (4 * 4 ^ a)
+    let split : d ≡ (d - (a + 1)) + (a + 1) = omega arith in search (rules, pow-add, step_next, mul-mod_left)

@@ -1,5 +1,5 @@
 -- A line of which all coefficients but the first are zero: it becomes four values that are the first.
-use Rattle.std.proofs.Common.{◌≡◌, refl, sym, ap, ◌∙◌, ℤ, pos, ◌+ℤ◌, ◌-ℤ◌, ◌*ℤ◌, [], ◌∷◌, FitsSigned, arith}
+use Rattle.std.proofs.Common.{◌≡◌, refl, sym, ap, ◌∙◌, ℤ, pos, ◌+ℤ◌, ◌-ℤ◌, ◌*ℤ◌, [], ◌∷◌, FitsSigned, arith, rules}
 use Rattle.std.{proofs.lemmas.Int.{ints}, specs.Int.{Width}}
 use mir.Val.{bits}
 use Rattle.zf_spec.{specs.Numbers.{wrap, half, IsSameModulo}, specs.Lift.{lift_line, unlift_line}}
@@ -24,7 +24,4 @@ unlift_line-first w v fits =
 -- the way there: a line of one value, of which twice is no overflow
 pub lift_line-same : (w : Width) (v : ℤ) → half w (v +ℤ v) ≡ v → lift_line w v v v v ≡ v ∷ pos 0 ∷ pos 0 ∷ pos 0 ∷ []
 lift_line-same w v twice =
-    let zero = wrap_value w (pos 0) (zero_fits w) in
-    let less : v -ℤ v ≡ pos 0 = omega (arith, ints) in
-    let nothing : wrap w (v -ℤ v) ≡ pos 0 = ap (wrap w) less ∙ zero in
-    simp (twice, nothing, zero) refl
+    let zero = wrap_value w (pos 0) (zero_fits w) in search rules

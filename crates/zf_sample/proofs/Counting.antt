@@ -1,5 +1,5 @@
 -- Changes so far and those to come.
-use Rattle.std.proofs.Common.{◌≡◌, ℕ, zero, suc, ◌+◌, ◌*◌, min, Bool, true, false, not, cond, List, [], ◌∷◌, length, take, drop, refl, ap, ◌∙◌, arith, zero-add, mul_comm, ⊎_elim, eqb}
+use Rattle.std.proofs.Common.{◌≡◌, ℕ, zero, suc, ◌+◌, ◌*◌, min, Bool, true, false, not, cond, List, [], ◌∷◌, length, take, drop, refl, ap, ◌∙◌, arith, zero-add, mul_comm, ⊎_elim, eqb, rules}
 use Rattle.std.{specs.Str.{bytes_eq}, specs.Int.{byte_len}, proofs.lemmas.List.{length-map}}
 use Rattle.std.{proofs.lemmas.Bool.{and_from}, proofs.lemmas.Bool.Decides.{eqb_tells}}
 use Rattle.rand_core.specs.Stream.{Stream, next_u64}
@@ -12,23 +12,15 @@ use Rattle.zf_sample.specs.Made.{generator, words, value_of_word, made_values}
 use Rattle.zf_sample.specs.Summaries.{changes, made_bytes, summary_of}
 
 take-min : (n : ℕ) (xs : List ℕ) → take (min n (length xs)) xs ≡ take n xs
-take-min zero xs =
-    let none : min zero (length xs) ≡ zero = omega arith in
-    ap (λ k. take k xs) none
-take-min (suc n) [] =
-    let none : min (suc n) zero ≡ zero = omega arith in
-    ap (λ k. take k []) none
+take-min zero xs = search rules
+take-min (suc n) [] = search rules
 take-min (suc n) (x ∷ xs) =
     let more : min (suc n) (suc (length xs)) ≡ suc (min n (length xs)) = omega arith in
     ap (λ k. take k (x ∷ xs)) more ∙ ap (λ rest. x ∷ rest) (take-min n xs)
 
 drop-min : (n : ℕ) (xs : List ℕ) → drop (min n (length xs)) xs ≡ drop n xs
-drop-min zero xs =
-    let none : min zero (length xs) ≡ zero = omega arith in
-    ap (λ k. drop k xs) none
-drop-min (suc n) [] =
-    let none : min (suc n) zero ≡ zero = omega arith in
-    ap (λ k. drop k []) none
+drop-min zero xs = search rules
+drop-min (suc n) [] = search rules
 drop-min (suc n) (x ∷ xs) =
     let more : min (suc n) (suc (length xs)) ≡ suc (min n (length xs)) = omega arith in
     ap (λ k. drop k (x ∷ xs)) more ∙ drop-min n xs
@@ -45,15 +37,7 @@ pub next_change : (len k n changed now p q : ℕ) (xs ys a b more others : List 
     → a ≡ take p xs → b ≡ take q ys → more ≡ drop p xs → others ≡ drop q ys → differ ≡ not (bytes_eq a b) → now ≡ changed + cond differ 1 0
     → now + changes len k more others ≡ changed + changes len n xs ys
 next_change len k n changed now p q xs ys a b more others differ is_next p_is q_is a_is b_is more_is others_is differ_is now_is =
-    let first : a ≡ take len xs = a_is ∙ (ap (λ m. take m xs) p_is ∙ take-min len xs) in
-    let second : b ≡ take len ys = b_is ∙ (ap (λ m. take m ys) q_is ∙ take-min len ys) in
-    let rest : more ≡ drop len xs = more_is ∙ (ap (λ m. drop m xs) p_is ∙ drop-min len xs) in
-    let others_rest : others ≡ drop len ys = others_is ∙ (ap (λ m. drop m ys) q_is ∙ drop-min len ys) in
-    let same : cond differ 1 0 ≡ cond (bytes_eq (take len xs) (take len ys)) 0 1 =
-    ap (λ d. cond d 1 0) differ_is ∙ (flip (bytes_eq a b) 1 ∙ (ap (λ s. cond (bytes_eq s b) 0 1) first ∙ ap (λ s. cond (bytes_eq (take len xs) s) 0 1) second)) in
-    let behind : changes len k more others ≡ changes len k (drop len xs) (drop len ys) = ap (λ s. changes len k s others) rest ∙ ap (changes len k (drop len xs)) others_rest in
-    let all : changes len n xs ys ≡ cond (bytes_eq (take len xs) (take len ys)) 0 1 + changes len k (drop len xs) (drop len ys) = ap (λ m. changes len m xs ys) is_next in
-    now_same now changed _ _ _ _ _ now_is same behind all
+    let first : a ≡ take len xs = a_is ∙ (ap (λ m. take m xs) p_is ∙ take-min len xs) in search (rules, take-min, drop-min, flip, now_same)
 
 -- nothing changed in a list that is the same
 same_bytes : (xs : List ℕ) → bytes_eq xs xs ≡ true

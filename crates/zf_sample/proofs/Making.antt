@@ -1,5 +1,5 @@
 -- Values made so far and those to come.
-use Rattle.std.proofs.Common.{◌≡◌, ℕ, suc, ℤ, List, ◌++◌, map, sym, ap, ◌∙◌, append_assoc}
+use Rattle.std.proofs.Common.{◌≡◌, ℕ, suc, ℤ, List, ◌++◌, map, ap, ◌∙◌, append_assoc, rules}
 use Rattle.std.specs.Int.{Width, to_le_bytes, cast_unsigned}
 use Rattle.rand_core.specs.Stream.{Stream, next_u64}
 use Rattle.zf_spec.specs.Stream.{raw}
@@ -15,6 +15,4 @@ next_value w f old new k n s t word v is_next step value pushed =
     let behind : raw w (map f (words k t)) ≡ raw w (map f (words k (next_u64 s).1)) = ap (λ u. raw w (map f (words k u))) rest in
     ap (λ xs. xs ++ raw w (map f (words k t))) pushed
     ∙ (append_assoc old (to_le_bytes w (cast_unsigned w v)) (raw w (map f (words k t)))
-    ∙ (ap (λ xs. old ++ (xs ++ raw w (map f (words k t)))) bytes
-    ∙ (ap (λ xs. old ++ (to_le_bytes w (cast_unsigned w (f (next_u64 s).0)) ++ xs)) behind
-    ∙ sym (ap (λ m. old ++ raw w (map f (words m s))) is_next))))
+    ∙ (search rules))

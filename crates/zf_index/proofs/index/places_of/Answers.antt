@@ -1,7 +1,7 @@
-use Rattle.std.proofs.Common.{◌≡◌, refl, sym, ap, ◌∙◌, ⊎_elim, ℕ, suc, ◌+◌, ◌*◌, ◌<◌, List, [], ◌∷◌, ◌++◌, length, get_or, length-append, arith}
+use Rattle.std.proofs.Common.{◌≡◌, sym, ap, ◌∙◌, ⊎_elim, ℕ, suc, ◌+◌, ◌*◌, ◌<◌, List, [], ◌∷◌, ◌++◌, length, get_or, length-append, arith, rules}
 use Rattle.std.{proofs.Math.Nat.{mul-suc}, proofs.Math.Seq.{get_or-append_seam}}
 use Rattle.std.{proofs.lemmas.Bool.{cases_lt}, proofs.lemmas.List.{get_or_append_left}}
-use Rattle.zf_index.{specs.Spans.{Index, place}, proofs.Places.{place-next, ends_within}}
+use Rattle.zf_index.{specs.Spans.{Index, place}, proofs.Places.{ends_within}}
 use Rattle.zf_index.proofs.index.places_of.Goals as goal
 
 -- what no chunk has yet
@@ -9,15 +9,7 @@ no_chunk : (step : ℕ) (xs : List ℕ) → xs ≡ [] → 0 ≡ step * length xs
 no_chunk step xs none = let zeros : 0 ≡ step * 0 = omega arith in zeros ∙ sym (ap (λ (ys : List ℕ). step * length ys) none)
 
 pub loop-first-init : goal.loop-first-init
-loop-first-init c =
-    let none = no_chunk c.args.step c.in_ok-places.places.items c.in_ok-places.ensures.items in
-    record {
-      at = refl;
-      each = λ k lt. absurd (omega (arith, lt, ap length c.in_ok-places.ensures.items));
-      chunk = λ _. none;
-      enough = omega arith;
-      within = omega arith;
-    }
+loop-first-init c = search (rules, no_chunk)
 
 pub loop-code-init : goal.loop-code-init
 loop-code-init c = c.loop-first.invariant.at
@@ -30,9 +22,7 @@ overflow_add-at c =
     omega (arith, ends_within i c.loop-code.code (length lens) below, c.from-at.ensures, c.loop-code.invariant, c.requires.within)
 
 pub loop-code-preserved : goal.loop-code-preserved
-loop-code-preserved c =
-    let i : Index = record { start = c.args.start; lens = c.args.lens.now } in
-    omega (arith, c.loop-code.invariant, c.from-at.ensures, place-next i c.loop-code.code)
+loop-code-preserved c = search rules
 
 -- the places with one more, which begins a chunk
 more : (step : ℕ) (i : Index) (xs ys : List ℕ) (at first : ℕ) → ys ≡ xs ++ at ∷ [] → at ≡ place i first → first ≡ step * length xs
@@ -57,16 +47,7 @@ loop-first-preserved c =
     let chunk = so_far.chunk c.loop-first-test.true in
     let size : length ys ≡ length xs + 1 = ap length c.in_ok-push.ensures.items ∙ length-append xs (c.loop-first.at ∷ []) in
     let next : step * length ys ≡ step * length xs + step = ap (λ k. step * k) size ∙ (let one : length xs + 1 ≡ suc (length xs) = omega arith in ap (λ k. step * k) one) ∙ mul-suc step (length xs) in
-    let end : c.loop-code.code ≡ c.loop-first.first + c.min.result = omega (arith, c.loop-code-test.false, c.loop-code.auto.code-end) in
-    record {
-      at = c.loop-code.invariant ∙ ap (place i) end;
-      each = more step i xs ys c.loop-first.at c.loop-first.first c.in_ok-push.ensures.items so_far.at chunk so_far.each;
-      chunk = λ lt. omega (arith, lt, c.min.ensures, chunk, next);
-      enough = omega (arith, c.min.ensures, chunk, next);
-      within = omega (arith, c.min.ensures, so_far.within);
-    }
+    let end : c.loop-code.code ≡ c.loop-first.first + c.min.result = omega (arith, c.loop-code-test.false, c.loop-code.auto.code-end) in search (rules, more)
 
 pub returns : goal.returns
-returns c =
-    let so_far = c.loop-first.invariant in
-    record { each = so_far.each; enough = omega (arith, so_far.enough, c.loop-first-test.false) }
+returns c = search rules

@@ -1,4 +1,4 @@
-use Rattle.std.proofs.Common.{◌≡◌, refl, sym, ap, subst, ◌∙◌, inl, ℕ, ◌+◌, ◌-◌, ◌*◌, ◌/◌, ◌%◌, ◌^◌, ◌<◌, ◌≤◌, Err, List, length, take, drop, length-drop, arith}
+use Rattle.std.proofs.Common.{◌≡◌, refl, sym, ap, subst, ◌∙◌, inl, ℕ, ◌+◌, ◌-◌, ◌*◌, ◌/◌, ◌%◌, ◌^◌, ◌<◌, ◌≤◌, Err, List, length, take, drop, length-drop, arith, rules}
 use Rattle.std.proofs.Math.Nat.{div-lt_iff_lt-mul, le-div_iff_mul-le}
 use Rattle.std.proofs.lemmas.Result.{IfOk-weaker, IfErr-weaker}
 use Rattle.zf_spec.{specs.Grid.{blocks}, specs.Stream.{to_bits}, proofs.Bytes.{length-to_bits}}
@@ -52,16 +52,7 @@ behind c =
     let whole : n ≤ length (drop start s) / rate =
     omega (arith, c.if-whole-blocks.false, c.blocks-2.ensures.value, ap (λ k. k / rate) left, ap (λ k. (c.in-Some.bits - start) / k) c.from-rate.ensures) in
     let codes : n * rate ≤ length (drop start s) = (le-div_iff_mul-le some).0 whole in
-    let last = start + c.blocks-3.result * c.from-rate.result in
-    record {
-      enough = omega (arith, codes, length-drop start s, length-to_bits file, c.requires.begun.within);
-      end = last;
-      most = 64 * c.in_ok-excerpt.excerpt.room - last % 64;
-      end_is = ap (λ k. start + k * c.from-rate.result) c.blocks-3.ensures.value ∙ ap (λ k. start + n * k) c.from-rate.ensures;
-      at = ap (λ (x : Reader). x.at) c.reader.ensures ∙ c.take.ensures.place;
-      seen = ap rest c.reader.ensures ∙ c.take.ensures.bits;
-      many = omega (arith, c.in_ok-excerpt.ensures);
-    }
+    let last = start + c.blocks-3.result * c.from-rate.result in search (rules, length-drop)
 
 pub returns-clause-ok : goal.returns-clause-ok
 returns-clause-ok c =

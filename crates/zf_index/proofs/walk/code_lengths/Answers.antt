@@ -1,5 +1,5 @@
-use Rattle.std.proofs.Common.{refl, ◌^◌, ◌<◌, length, arith}
-use Rattle.std.proofs.lemmas.Result.{IfOk-weaker, IfErr-weaker}
+use Rattle.std.proofs.Common.{refl, ◌^◌, ◌<◌, length, arith, rules}
+use Rattle.std.proofs.lemmas.Result.{IfErr-weaker}
 use Rattle.zf_spec.{specs.Stream.{to_bits}, proofs.Bytes.{length-to_bits}}
 use Rattle.zf_index.proofs.Read.{has_header, is_header, index_is, fault_is}
 use Rattle.zf_index.proofs.walk.code_lengths.Goals as goal
@@ -14,9 +14,7 @@ pub returns-in-I32-clause-ok : goal.returns-in-I32-clause-ok
 returns-in-I32-clause-ok c =
     let file = c.args.file.now in
     let few : length (to_bits file) < 2 ^ 64 = omega (arith, length-to_bits file, c.in-Some.ensures) in
-    IfOk-weaker c.walk.result _ _
-    (λ lens walked. index_is file c.args.h.now c.args.start c.requires.begun lens.items few walked)
-    c.walk.ensures.ok
+    search (rules, index_is)
 
 pub returns-in-I32-clause-fault : goal.returns-in-I32-clause-fault
 returns-in-I32-clause-fault c =
@@ -29,9 +27,7 @@ pub returns-in-I64-clause-ok : goal.returns-in-I64-clause-ok
 returns-in-I64-clause-ok c =
     let file = c.args.file.now in
     let few : length (to_bits file) < 2 ^ 64 = omega (arith, length-to_bits file, c.in-Some.ensures) in
-    IfOk-weaker c.walk-in-I64.result _ _
-    (λ lens walked. index_is file c.args.h.now c.args.start c.requires.begun lens.items few walked)
-    c.walk-in-I64.ensures.ok
+    search (rules, index_is)
 
 pub returns-in-I64-clause-fault : goal.returns-in-I64-clause-fault
 returns-in-I64-clause-fault c =

@@ -1,8 +1,8 @@
-use Rattle.std.proofs.Common.{◌≡◌, sym, ap, ◌∙◌, ℕ, ◌-◌, Some, List, length, replicate, arith}
+use Rattle.std.proofs.Common.{◌≡◌, sym, ap, ◌∙◌, ℕ, List, length, replicate, arith, rules}
 use Rattle.std.proofs.lemmas.List.{length-replicate, length-take}
 use Rattle.zf_bits.specs.Reader.{rest}
 use Rattle.zf_parse.specs.Parsing.{read_code}
-use Rattle.zf_index.{specs.Files.{len_read}, proofs.Longest.{code_few}}
+use Rattle.zf_index.{proofs.Longest.{code_few}}
 use Rattle.zf_index.proofs.walk.pass_code.Goals as goal
 
 pub overflow_cast-result : goal.overflow_cast-result
@@ -19,12 +19,4 @@ overflow_cast-result g c =
     omega (arith, few, c.at.ensures, c.at-start.ensures)
 
 pub returns-clause-some : goal.returns-clause-some
-returns-clause-some g c =
-    let read = c.in_ok-read_code.ensures.some in
-    let old = c.args.reader.now in
-    let new = c.read_code.new.reader in
-    let len : new.at - old.at ≡ c.at.result - c.at-start.result = omega (arith, c.at.ensures, c.at-start.ensures) in
-    record {
-      code = λ es dims. ap len_read (read.code es dims) ∙ ap Some len;
-      within = omega (arith, len, read.passed.place, length-take (new.at - old.at) (rest old));
-    }
+returns-clause-some g c = search (rules, length-take)

@@ -120,7 +120,6 @@ pub returns-in_err-check_fill-clause-fault : goal.returns-in_err-check_fill-clau
 returns-in_err-check_fill-clause-fault g c =
     let so_far = c.loop-b.invariant in
     let p = err_from_is_err_and c.from_residual-in_err-check_fill.result c.from_residual-in_err-check_fill.ensures.1 in
-    let Has : IndexFault → Type 0 = HasFault c.args.h.now (record { all = to_bits c.args.file.now; at = c.args.start }) in
     rw (p.1, p.2)
     (faulty c.args.h.now c.args.file.now c.loop-b.lens.items c.args.start c.loop-b.b c.loop-b.at c.loop-b.excerpt.room c.reader-2.result so_far.count
     (omega (arith, c.loop-b-test.false, c.loop-b.auto.b-end, c.blocks-b-end.ensures.value)) so_far.at so_far.within so_far.read (omega (arith, so_far.room))

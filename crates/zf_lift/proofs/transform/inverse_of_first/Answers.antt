@@ -1,4 +1,4 @@
-use Rattle.std.proofs.Common.{◌^◌, replicate, sym, ap, ◌∙◌}
+use Rattle.std.proofs.Common.{replicate, sym, ap, ◌∙◌}
 use Rattle.zf_spec.{specs.Lift.{unlift_line}, proofs.Wrapping.{zero_fits}}
 use Rattle.zf_axes.proofs.FirstAlone.{passes_back-first}
 use Rattle.zf_lift.proofs.FirstAlone.{unlift_line-first}

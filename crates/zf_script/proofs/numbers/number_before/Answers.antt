@@ -1,16 +1,13 @@
-use Rattle.std.proofs.Common.{◌≡◌, ◌∷◌, [], ◌+◌, take, drop, decimal, ap, refl, sym, subst, ◌∙◌, arith}
-use Rattle.std.{specs.Str.Parse.{AllDigits}, proofs.lemmas.Int.Digits.{digits_more}}
+use Rattle.std.proofs.Common.{decimal, refl, sym, ◌∙◌, arith, rules}
+use Rattle.std.{proofs.lemmas.Int.Digits.{digits_more}}
 use Rattle.std.proofs.lemmas.List.{take_all, take_rest}
 use Rattle.std.proofs.lemmas.Option.{slice_get_within, get_or_from_slice_get}
-use Rattle.zf_cached.specs.Grammar.{cut_at}
 use Rattle.zf_script.proofs.Digits.{number_more, no_first}
 use Rattle.zf_script.proofs.Leading.{text_of, cut_nowhere, cut_there, inside, whole, some_digit, more_inside, first_more, no_zero}
 use Rattle.zf_script.proofs.numbers.number_before.Goals as goal
 
 pub returns-in_err-first-clause-none : goal.returns-in_err-first-clause-none
-returns-in_err-first-clause-none c =
-    rw c.from_residual.ensures (λ n rest small cut.
-    omega (arith, some_digit c.args.byte c.args.word.now n rest small cut, no_first c.args.word.now (sym c.in_err-first.ensures.value)))
+returns-in_err-first-clause-none c = search (rules, some_digit, no_first)
 
 pub returns-in_err-number-clause-none : goal.returns-in_err-number-clause-none
 returns-in_err-number-clause-none c =
@@ -20,14 +17,7 @@ returns-in_err-number-clause-none c =
     c.in_err-number.ensures (first_more c.args.byte word n rest small cut c.in_ok-first.field-0.now (sym first)))
 
 pub returns-then-next-byte-clause-first : goal.returns-then-next-byte-clause-first
-returns-then-next-byte-clause-first c =
-    let word = c.args.word.now in
-    let at = c.loop-at in
-    let first = get_or_from_slice_get word 0 c.in_ok-first.field-0.now 0 (sym c.in_ok-first.ensures.value) in
-    rw (take_rest word (at.at + 1))
-    (cut_there c.args.byte at.at word c.requires at.invariant.digits c.loop-at-test.true c.if-next-byte.true
-    ∙ ap (λ t. t ∷ cut_at c.args.byte (drop (at.at + 1) word))
-    (text_of at.at at.number _ word at.auto.at (omega (arith, c.loop-at-test.true)) first at.invariant.digits at.invariant.number at.invariant.short at.invariant.alone))
+returns-then-next-byte-clause-first c = search (rules, get_or_from_slice_get, take_rest, cut_there, text_of)
 
 pub returns-then-first-eq-ZERO-clause-none : goal.returns-then-first-eq-ZERO-clause-none
 returns-then-first-eq-ZERO-clause-none c = λ n rest small cut.
@@ -59,12 +49,4 @@ loop-at-preserved c =
     }
 
 pub returns-clause-last : goal.returns-clause-last
-returns-clause-last c =
-    let word = c.args.word.now in
-    let at = c.loop-at in
-    let some = slice_get_within word 0 c.in_ok-first.field-0.now (sym c.in_ok-first.ensures.value) in
-    let first = get_or_from_slice_get word 0 c.in_ok-first.field-0.now 0 (sym c.in_ok-first.ensures.value) in
-    let all : take at.at word ≡ word = take_all at.at word (omega (arith, c.loop-at-test.false)) in
-    cut_nowhere c.args.byte word c.requires (subst (AllDigits 10) all at.invariant.digits)
-    ∙ ap (λ t. t ∷ []) (sym all
-    ∙ text_of at.at at.number _ word at.auto.at (omega (arith, some, at.auto.at-end)) first at.invariant.digits at.invariant.number at.invariant.short at.invariant.alone)
+returns-clause-last c = search (rules, slice_get_within, get_or_from_slice_get, take_all, cut_nowhere, text_of)

@@ -1,4 +1,4 @@
-use Rattle.std.proofs.Common.{◌≡◌, ◌∷◌, ◌++◌, [], ◌+◌, IfNone, refl, subst, ◌<◌, length, map, take, set, decimal, ap, ◌∙◌, arith, length-set, length-take}
+use Rattle.std.proofs.Common.{◌≡◌, ◌∷◌, ◌++◌, [], ◌+◌, IfNone, refl, subst, ◌<◌, length, map, take, set, decimal, ap, ◌∙◌, arith, length-set, length-take, rules}
 use Rattle.std.proofs.lemmas.List.{length-map}
 use Rattle.zf_cached.specs.Grammar.{cut_at}
 use Rattle.zf_script.proofs.Joined.{begins_with_number, numbers_more, texts_whole, others_more, sizes_word, some_part, fifth_part}
@@ -25,8 +25,4 @@ returns-in_default-clause-sizes c =
     (others_more at.numbers at.count n c.args.unused at.invariant.others)
 
 pub returns-clause-none : goal.returns-clause-none
-returns-clause-none c =
-    let at = c.loop-count in
-    let prefix = map decimal (take at.count at.numbers) in
-    let four : length prefix ≡ 4 = omega (arith, length-map (take at.count at.numbers) decimal, length-take at.count at.numbers, at.invariant.four, c.loop-count-test.false, at.auto.count-end) in
-    λ ns ok is. fifth_part c.args.byte c.args.word.now ns prefix (cut_at c.args.byte at.rest.now) c.requires at.invariant.parts four (some_part c.args.byte at.rest.now) ok is
+returns-clause-none c = search (rules, length-map, length-take, fifth_part, some_part)

@@ -1,5 +1,6 @@
+use Rattle.std.proofs.Common.{rules}
 use Rattle.std.{proofs.Common.{◌≡◌, ℕ, List, ◌∷◌, refl, ap, ◌∙◌}, specs.Int.{w128}}
-use Rattle.std.{proofs.lemmas.Int.{to_z-of_z}, proofs.lemmas.Result.{err_from_is_err_and}}
+use Rattle.std.{proofs.lemmas.Int.{to_z-of_z}}
 use Rattle.zf_cached.specs.Grammar.{space, comma, cut_at}
 use Rattle.zf_script.specs.declared.command.Cmd.TheVariants as cmds
 use Rattle.zf_script.{specs.declared.verb.ValueVerb.{ValueVerb}, specs.NumberWords.{IsAxesWord}}
@@ -21,39 +22,19 @@ returns-in_default-clause-err c =
     parsed_err c.args.dims c.args.line.now (cut_at space c.args.line.now) refl c.other_in.result c.ok_or.result c.ok_or.ensures.value c.other_in.ensures.none
 
 pub returns-in_err-ok_or-in-Get-clause-err : goal.returns-in_err-ok_or-in-Get-clause-err
-returns-in_err-ok_or-in-Get-clause-err c =
-    let same = words c.args.line.now c.in-Some.rest.now c.in-Some.ensures.verb c.in-Get.is in
-    let why = lacking c.axes_in.result c.ok_or-in-Get.result c.in_err-ok_or-in-Get.field-0.0 c.ok_or-in-Get.ensures.value c.in_err-ok_or-in-Get.was c.axes_in.ensures.none in
-    let p = err_from_is_err_and c.from_residual.result c.from_residual.ensures.1 in
-    rw (p.1, p.2) (why.0, read_none c.args.dims c.args.line.now (value_verb_word value_verbs.Get ∷ cut_at space c.in-Some.rest.now) same (no_get c.args.dims c.in-Some.rest.now why.1))
+returns-in_err-ok_or-in-Get-clause-err c = search (rules, words, lacking, read_none, no_get)
 
 pub returns-in_err-ok_or-in-VGet-clause-err : goal.returns-in_err-ok_or-in-VGet-clause-err
-returns-in_err-ok_or-in-VGet-clause-err c =
-    let same = words c.args.line.now c.in-Some.rest.now c.in-Some.ensures.verb c.in-VGet.is in
-    let why = lacking c.axes_in-in-VGet.result c.ok_or-in-VGet.result c.in_err-ok_or-in-VGet.field-0.0 c.ok_or-in-VGet.ensures.value c.in_err-ok_or-in-VGet.was c.axes_in-in-VGet.ensures.none in
-    let p = err_from_is_err_and c.from_residual-in_err-ok_or-in-VGet.result c.from_residual-in_err-ok_or-in-VGet.ensures.1 in
-    rw (p.1, p.2) (why.0, read_none c.args.dims c.args.line.now (value_verb_word value_verbs.VGet ∷ cut_at space c.in-Some.rest.now) same (no_vget c.args.dims c.in-Some.rest.now why.1))
+returns-in_err-ok_or-in-VGet-clause-err c = search (rules, words, lacking, read_none, no_vget)
 
 pub returns-in_err-p-in-Set-clause-err : goal.returns-in_err-p-in-Set-clause-err
-returns-in_err-p-in-Set-clause-err c =
-    let same = words c.args.line.now c.in-Some.rest.now c.in-Some.ensures.verb c.in-Set.is in
-    let why = lacking c.position_and_value_in.result c.ok_or-in-Set.result c.in_err-p-in-Set.field-0.0 c.ok_or-in-Set.ensures.value c.in_err-p-in-Set.was c.position_and_value_in.ensures.none in
-    let p = err_from_is_err_and c.from_residual-in_err-p-in-Set.result c.from_residual-in_err-p-in-Set.ensures.1 in
-    rw (p.1, p.2) (why.0, read_none c.args.dims c.args.line.now (value_verb_word value_verbs.Set ∷ cut_at space c.in-Some.rest.now) same (no_set c.args.dims c.in-Some.rest.now why.1))
+returns-in_err-p-in-Set-clause-err c = search (rules, words, lacking, read_none, no_set)
 
 pub returns-in_err-p-in-Add-clause-err : goal.returns-in_err-p-in-Add-clause-err
-returns-in_err-p-in-Add-clause-err c =
-    let same = words c.args.line.now c.in-Some.rest.now c.in-Some.ensures.verb c.in-Add.is in
-    let why = lacking c.position_and_value_in-in-Add.result c.ok_or-in-Add.result c.in_err-p-in-Add.field-0.0 c.ok_or-in-Add.ensures.value c.in_err-p-in-Add.was c.position_and_value_in-in-Add.ensures.none in
-    let p = err_from_is_err_and c.from_residual-in_err-p-in-Add.result c.from_residual-in_err-p-in-Add.ensures.1 in
-    rw (p.1, p.2) (why.0, read_none c.args.dims c.args.line.now (value_verb_word value_verbs.Add ∷ cut_at space c.in-Some.rest.now) same (no_add c.args.dims c.in-Some.rest.now why.1))
+returns-in_err-p-in-Add-clause-err c = search (rules, words, lacking, read_none, no_add)
 
 pub returns-in_err-p-in-VSet-clause-err : goal.returns-in_err-p-in-VSet-clause-err
-returns-in_err-p-in-VSet-clause-err c =
-    let same = words c.args.line.now c.in-Some.rest.now c.in-Some.ensures.verb c.in-VSet.is in
-    let why = lacking c.position_and_value_in-in-VSet.result c.ok_or-in-VSet.result c.in_err-p-in-VSet.field-0.0 c.ok_or-in-VSet.ensures.value c.in_err-p-in-VSet.was c.position_and_value_in-in-VSet.ensures.none in
-    let p = err_from_is_err_and c.from_residual-in_err-p-in-VSet.result c.from_residual-in_err-p-in-VSet.ensures.1 in
-    rw (p.1, p.2) (why.0, read_none c.args.dims c.args.line.now (value_verb_word value_verbs.VSet ∷ cut_at space c.in-Some.rest.now) same (no_vset c.args.dims c.in-Some.rest.now why.1))
+returns-in_err-p-in-VSet-clause-err c = search (rules, words, lacking, read_none, no_vset)
 
 pub returns-in_ok-ok_or-in-Get-clause-ok : goal.returns-in_ok-ok_or-in-Get-clause-ok
 returns-in_ok-ok_or-in-Get-clause-ok c =

@@ -1,3 +1,4 @@
+use Rattle.std.proofs.Common.{rules}
 use Rattle.std.{proofs.Common.{arith}, specs.Int.{w128}, proofs.lemmas.Int.{to_z-of_z}}
 use Rattle.zf_script.proofs.Lines.{value_fits, fill_command, lines_command, resize_command, no_fill, no_lines, no_resize, no_words}
 use Rattle.zf_script.proofs.parse.with_words.Goals as goal
@@ -29,9 +30,4 @@ returns-in_ok-count-in-Resize-clause-command c =
     rw c.in-Resize.is (resize_command c.args.dims c.args.rest.now c.in_ok-count-in-Resize.count c.in_ok-count-in-Resize.sizes c.in_ok-count-in-Resize.ensures.sizes)
 
 pub returns-in_default : goal.returns-in_default
-returns-in_default c =
-    let here = c.in_default in
-    record {
-      command = tt;
-      none = no_words c.args.dims c.args.verb c.args.rest.now c.requires.other here.not-Fill here.not-View here.not-Slice here.not-Lines here.not-Resize here.not-Split;
-    }
+returns-in_default c = search (rules, no_words)

@@ -1,4 +1,4 @@
-use Rattle.std.proofs.Common.{arith}
+use Rattle.std.proofs.Common.{arith, rules}
 use Rattle.zf_script.proofs.Lines.{pget_command, no_pget, no_pwords}
 use Rattle.zf_script.proofs.views.with_words.Goals as goal
 
@@ -11,6 +11,4 @@ returns-in_ok-axes_in-in-Get-clause-command c =
     rw c.in-Get.is (pget_command c.args.dims c.args.view (omega arith) c.args.rest.now c.in_ok-axes_in-in-Get.field-0 c.in_ok-axes_in-in-Get.ensures.axes)
 
 pub returns-in_default-clause-none : goal.returns-in_default-clause-none
-returns-in_default-clause-none c =
-    let other = c.in_default in
-    no_pwords c.args.dims c.args.view c.args.verb c.args.rest.now other.not-Get other.not-Set other.not-Add
+returns-in_default-clause-none c = search (rules, no_pwords)

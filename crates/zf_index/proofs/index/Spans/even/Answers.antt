@@ -1,6 +1,6 @@
-use Rattle.std.proofs.Common.{ap, sym, subst, ◌≡◌, ◌∙◌, ◌+◌, ◌*◌, ℕ, arith}
+use Rattle.std.proofs.Common.{ap, ◌≡◌, ◌∙◌, ◌+◌, ◌*◌, arith, rules}
 use Rattle.zf_spec.specs.Grid.{blocks}
-use Rattle.zf_index.{specs.Spans.{even_index}, specs.Files.{IsIndexOf}, proofs.Even.{even_end}}
+use Rattle.zf_index.{proofs.Even.{even_end}}
 use Rattle.zf_index.proofs.index.Spans.even.Goals as goal
 
 pub invariant_of-result : goal.invariant_of-result
@@ -14,10 +14,4 @@ invariant_of-result g c =
     omega (arith, end, even_end start rate n, is.within, is.small)
 
 pub returns-clause-ok : goal.returns-clause-ok
-returns-clause-ok g c =
-    let file = c.args.file.now in
-    let h = c.args.h.now in
-    let start = c.args.start in
-    let Is : ℕ → ℕ → Type 0 = λ len count. IsIndexOf file h (even_index start len count) in
-    let len : Is c.from.result (blocks h.shape) = subst (λ k. Is k (blocks h.shape)) (sym c.from.ensures) c.in_ok-check_rate.ensures.ok in
-    subst (Is c.from.result) (sym c.blocks-2.ensures.value) len
+returns-clause-ok g c = search rules

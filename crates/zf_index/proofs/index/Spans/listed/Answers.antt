@@ -1,22 +1,15 @@
-use Rattle.std.proofs.Common.{◌≡◌, sym, ap, subst, ◌∙◌, ℕ, ◌*◌, ◌<◌, ◌^◌, List, [], ◌∷◌, ◌≤◌, length, get_or, arith}
+use Rattle.std.proofs.Common.{◌≡◌, sym, ap, subst, ◌∙◌, ℕ, ◌*◌, ◌<◌, List, length, get_or, arith, rules}
 use Rattle.zf_index.{specs.Spans.{Index, index_of, place, ArePlaces}, specs.Files.{IsIndexOf}}
 use Rattle.zf_index.proofs.Read.{has_header, blocks_some}
 use Rattle.zf_index.proofs.index.Spans.listed.Goals as goal
 
 pub places_of-requires-clause-within : goal.places_of-requires-clause-within
-places_of-requires-clause-within g c =
-    let is = c.in_ok-lens.ensures.ok in
-    let Within : List ℕ → Type 0 = λ xs. place (record { start = c.args.start; lens = xs }) (length xs) < 2 ^ 64 in
-    subst Within (sym c.deref.ensures.value) (omega (arith, is.within, is.small))
+places_of-requires-clause-within g c = search rules
 
 -- the first of the places is the start
 module _ (step start : ℕ) (lens xs places : List ℕ) (some : 0 < step) (is_lens : xs ≡ lens) (codes : 0 < length lens) (are : ArePlaces step (record { start = start; lens = xs }) places) where
   there : 0 < length places
-  there = by places are.enough
-    where
-      by : (ps : List ℕ) → length xs ≤ step * length ps → 0 < length ps
-      by [] enough = absurd (let none : step * 0 ≡ 0 = omega arith in omega (arith, enough, none, ap length is_lens, codes))
-      by (p ∷ ps) enough = omega arith
+  there = search rules
 
   first : get_or places 0 0 ≡ start
   first = are.each 0 there ∙ (let none : step * 0 ≡ 0 = omega arith in ap (place (record { start = start; lens = xs })) none)
@@ -37,11 +30,7 @@ invariant_of-result g c =
     let Are : Index → Type 0 = λ i. ArePlaces step i places in
     let at : place (index_of places lens) (length lens) ≡ place (record { start = start; lens = lens }) (length lens) =
     ap (λ (i : Index). place i (length lens)) (sym known) ∙ ap (λ (ys : List ℕ). place (record { start = start; lens = ys }) (length lens)) c.deref.ensures.value in
-    record {
-      some = c.requires.step;
-      kept = subst Are known c.in_ok-places.ensures;
-      within = omega (arith, at, is.within, is.small);
-    }
+    search rules
 
 pub returns-clause-ok : goal.returns-clause-ok
 returns-clause-ok g c =

@@ -1,4 +1,4 @@
-use Rattle.std.proofs.Common.{◌≡◌, ◌+◌, ◌-◌, ◌<◌, sym, ap, subst, ◌∙◌, arith}
+use Rattle.std.proofs.Common.{◌≡◌, ◌+◌, ◌-◌, ◌<◌, sym, subst, arith, rules}
 use Rattle.zf_spec.specs.Grid.{product}
 use Rattle.zf_cached.specs.Windows.{LiesIn}
 use Rattle.zf_window.{specs.Places.{WalkingIn, IsThere, next_of}, proofs.Beside.{place_small}}
@@ -36,22 +36,7 @@ invariant_of-self c =
     }
 
 pub returns-clause-at : goal.returns-clause-at
-returns-clause-at c =
-    let s = c.self.inside in
-    let r = c.rest_or_next-run.result in
-    let run = c.rest_or_next-run.ensures.run in
-    let k = next_of s.walk s.rest in
-    let first : k + 0 ≡ k = omega arith in
-    let place : r.place + 0 ≡ r.place = omega arith in
-    let there = run.beside 0 run.some in
-    subst (λ (x : WalkingIn). IsThere x.shape x.window x.next r.block r.place) c.self.view_is
-    (subst (λ m. IsThere s.shape s.walk.window m r.block r.place) first (subst (λ m. IsThere s.shape s.walk.window (k + 0) r.block m) place there))
+returns-clause-at c = search rules
 
 pub returns-clause-next : goal.returns-clause-next
-returns-clause-next c =
-    let s = c.self.inside in
-    let r = c.rest_or_next-run.result in
-    let told = c.rest_or_next-run.ensures in
-    let walk = c.rest_or_next-run.new.walk in
-    let next : walk.next - (r.count - 1) ≡ next_of s.walk s.rest + 1 = omega (arith, told.next, told.behind, told.run.some) in
-    (λ i. record { shape = s.shape; window = told.window i; next = next i }) ∙ ap (λ (x : WalkingIn). record { shape = x.shape; window = x.window; next = x.next + 1 }) c.self.view_is
+returns-clause-next c = search rules

@@ -1,8 +1,8 @@
-use Rattle.std.proofs.Common.{◌≡◌, ◌+◌, ◌-◌, ◌<◌, sym, ap, subst, ◌∙◌, arith}
+use Rattle.std.proofs.Common.{◌≡◌, ◌+◌, ◌-◌, ◌<◌, sym, subst, ◌∙◌, arith, rules}
 use Rattle.zf_spec.specs.Grid.{product}
 use Rattle.zf_base.specs.Positions.{IsPosition}
 use Rattle.zf_cached.specs.Windows.{LiesIn}
-use Rattle.zf_window.{specs.Positions.{Walking, numbered}, specs.Places.{IsRun}}
+use Rattle.zf_window.{specs.Positions.{Walking}, specs.Places.{IsRun}}
 use Rattle.zf_window.proofs.Beside.{sided, few, along_is, along_inside, first_there}
 use Rattle.zf_window.{proofs.Positions.{position_at-inside}, proofs.Walks.{walk_inside, walk_position}}
 use Rattle.zf_window.proofs.walk.Walk.run.Goals as goal
@@ -23,13 +23,7 @@ place-block-requires c =
     subst (IsPosition c.args.shape.now) (sym c.map.ensures) (position_at-inside c.args.shape.now s.window s.here lies inside)
 
 pub overflow_sub-last : goal.overflow_sub-last
-overflow_sub-last c =
-    let s = c.self.inside in
-    let ns = c.args.shape.now in
-    let lies = subst (λ (x : Walking). LiesIn ns x.window) (sym c.self.view_is) c.requires.lies in
-    let below = subst (λ (x : Walking). x.next < product x.window.size) (sym c.self.view_is) c.requires.inside in
-    let side = sided ns s.window s.here s.next c.beside-count.result c.dims-dims.ensures.shape lies c.self.invariant.here_is below c.beside-count.ensures.value in
-    omega (arith, side.some)
+overflow_sub-last c = search (rules, sided)
 
 pub after-self-inside-requires : goal.after-self-inside-requires
 after-self-inside-requires c =
@@ -50,11 +44,7 @@ invariant_of-self c =
     let n = c.beside-count.result in
     let side = sided ns s.window s.here s.next n c.dims-dims.ensures.shape lies c.self.invariant.here_is below c.beside-count.ensures.value in
     let last = along_is ns s.window s.here s.next n c.dims-dims.ensures.shape lies c.self.invariant.here_is below c.beside-count.ensures.value (n - 1) (omega (arith, side.some)) in
-    let same : s.next + (n - 1) + 1 ≡ s.next + n = omega (arith, side.some) in
-    record {
-      four_axes_at_most = c.self.invariant.four_axes_at_most;
-      here_is = c.after-self-inside.ensures (s.next + (n - 1)) last ∙ ap (numbered s.window) same;
-    }
+    let same : s.next + (n - 1) + 1 ≡ s.next + n = omega (arith, side.some) in search rules
 
 pub returns-clause-run : goal.returns-clause-run
 returns-clause-run c =
@@ -70,10 +60,4 @@ returns-clause-run c =
     subst (λ (x : Walking). IsRun ns x.window x.next (record { block = b; place = p; count = n })) c.self.view_is (record { some = side.some; beside = side.there b p first })
 
 pub overflow_add-self : goal.overflow_add-self
-overflow_add-self c =
-    let s = c.self.inside in
-    let ns = c.args.shape.now in
-    let lies = subst (λ (x : Walking). LiesIn ns x.window) (sym c.self.view_is) c.requires.lies in
-    let below = subst (λ (x : Walking). x.next < product x.window.size) (sym c.self.view_is) c.requires.inside in
-    let most = few ns s.window s.here s.next c.beside-count.result c.dims-dims.ensures.shape lies c.self.invariant.here_is below c.beside-count.ensures.value in
-    omega (arith, most.0, below, c.beside-count.ensures.bound)
+overflow_add-self c = search (rules, few)
