@@ -1,5 +1,5 @@
 -- How what calls leave of the devices adds up.
-use Rattle.std.proofs.Common.{◌≡◌, refl, ◌∙◌, arith}
+use Rattle.std.proofs.Common.{◌≡◌, refl, arith, rules}
 use Rattle.zf_dev.{specs.declared.source.Source.{Ghosts as Source}, specs.declared.sink.Sink.{Ghosts as Sink}}
 use Rattle.zf_dev.specs.Devices.{Reads, Writes}
 
@@ -10,19 +10,11 @@ module _ {A : Type 0} {S : Source A} where
 
   -- a fault that comes only with another
   pub Reads-by : {other fault : Type 0} {a b : A} → Reads S other a b → (fault → other) → Reads S fault a b
-  Reads-by {other} {fault} {a} {b} reads is = record {
-    same = reads.same;
-    cause = (reads.cause.0, λ f. reads.cause.1 (is f));
-    sure = λ sure. let now = reads.sure sure in (λ f. now.0 (is f), now.1);
-  }
+  Reads-by {other} {fault} {a} {b} reads is = search rules
 
   -- calls that did not fail, and then another
   pub Reads-then : {fault : Type 0} {a b c : A} → Reads S ⊥ a b → Reads S fault b c → Reads S fault a c
-  Reads-then {fault} {a} {b} {c} before reads = record {
-    same = reads.same ∙ before.same;
-    cause = (omega (arith, before.cause.0, reads.cause.0), λ f. let rose = reads.cause.1 f in omega (arith, before.cause.0));
-    sure = λ sure. reads.sure (before.sure sure).1;
-  }
+  Reads-then {fault} {a} {b} {c} before reads = search rules
 
   -- one more that did not fail
   pub Reads-more : {fault : Type 0} {a b c : A} → Reads S ⊥ a b → Reads S fault b c → Reads S ⊥ a c
@@ -42,10 +34,7 @@ module _ {A : Type 0} {O : Sink A} where
   Writes-by {other} {fault} {a} {b} writes is = record { same = writes.same; cause = (writes.cause.0, λ f. writes.cause.1 (is f)) }
 
   pub Writes-then : {fault : Type 0} {a b c : A} → Writes O ⊥ a b → Writes O fault b c → Writes O fault a c
-  Writes-then {fault} {a} {b} {c} before writes = record {
-    same = writes.same ∙ before.same;
-    cause = (omega (arith, before.cause.0, writes.cause.0), λ f. let rose = writes.cause.1 f in omega (arith, before.cause.0));
-  }
+  Writes-then {fault} {a} {b} {c} before writes = search rules
 
   pub Writes-more : {fault : Type 0} {a b c : A} → Writes O ⊥ a b → Writes O fault b c → Writes O ⊥ a c
   Writes-more {fault} {a} {b} {c} before writes = Writes-then before (Writes-by writes (λ none. absurd none))

@@ -1,5 +1,5 @@
 -- What a buffer holds: the bytes of a list from one place up to another.
-use Rattle.std.proofs.Common.{◌≡◌, ℕ, ◌+◌, ◌-◌, ◌≤◌, List, [], ◌++◌, length, take, drop, ◌↔◌, ap, sym, ◌∙◌, arith}
+use Rattle.std.proofs.Common.{◌≡◌, ℕ, ◌+◌, ◌-◌, ◌≤◌, List, [], ◌++◌, length, take, drop, ◌↔◌, ap, sym, ◌∙◌, arith, rules}
 use Rattle.std.proofs.lemmas.List.{length-take, length-take-le, length-drop, drop-take, drop_all, drop-append-le}
 use borrow.Rule.Slice.PartMut.{put_mid}
 use Rattle.zf_dev.proofs.Pieces.{take-put_mid_part}
@@ -21,6 +21,4 @@ held_none bytes start end ordered within = (
 
 -- a part that is put behind what is held
 pub held_more : (buf part : List ℕ) (start end room count : ℕ) → start ≤ end → end ≤ length buf → count ≤ length part → drop start (take (end + count) (put_mid end room buf part)) ≡ drop start (take end buf) ++ take count part
-held_more buf part start end room count ordered within in_part =
-    ap (drop start) (take-put_mid_part buf part end room count within in_part)
-    ∙ drop-append-le start (take end buf) (take count part) (omega (arith, length-take-le end buf within))
+held_more buf part start end room count ordered within in_part = search (rules, take-put_mid_part, drop-append-le, length-take-le)

@@ -1,7 +1,6 @@
 -- The files of a shelf in memory after one of them was put there.
-use Rattle.std.proofs.Common.{◌≡◌, ℕ, false, cond, List, Option, Some, ap, sym, ◌∙◌, Vec, Global}
+use Rattle.std.proofs.Common.{◌≡◌, ℕ, List, Option, Some, Vec, Global, rules}
 use Rattle.std.{specs.Option.{option_map}, specs.Str.{bytes_eq}, specs.Map.{update}}
-use Rattle.std.{proofs.lemmas.Bool.{false_from_ne_true}, proofs.lemmas.Slice.Eq.{bytes_eq-Decides}}
 use Rattle.zf_dev.specs.Shelf.{SavesFile}
 
 -- the bytes under each name, of what is kept there
@@ -11,11 +10,4 @@ files_of kept name = option_map (λ file. file.items) (kept name)
 -- where the text of the key is the name, and what was put there has these bytes, the file is saved
 pub SavesFile-put : (before now : List ℕ → Option (Vec ℕ Global)) (key name bytes : List ℕ) (file : Vec ℕ Global) → key ≡ name → file.items ≡ bytes → ((other : List ℕ) → now other ≡ update bytes_eq before key (Some file) other)
     → SavesFile (Some (files_of before)) (Some (files_of now)) name bytes
-SavesFile-put before now key name bytes file is held updates = record {
-  saved =
-      let here : now name ≡ Some file = updates name ∙ ap (λ b. cond b (Some file) (before name)) ((bytes_eq-Decides key name).1 is) in
-      ap (option_map (λ kept. kept.items)) here ∙ ap Some held;
-  others = λ other apart.
-      let there : bytes_eq key other ≡ false = false_from_ne_true (bytes_eq key other) (λ same. apart (sym ((bytes_eq-Decides key other).0 same) ∙ is)) in
-      ap (option_map (λ kept. kept.items)) (updates other ∙ ap (λ b. cond b (Some file) (before other)) there);
-}
+SavesFile-put before now key name bytes file is held updates = search rules

@@ -1,25 +1,13 @@
-use Rattle.std.proofs.Common.{◌≡◌, ◌∙◌, refl, sym, ap, subst, ◌-◌, ◌<◌, arith}
-use Rattle.zf_spec.specs.Grid.{blocks, count_from}
-use Rattle.zf_cached.specs.Steps.{Session, filled_below}
+use Rattle.std.proofs.Common.{◌∙◌, ap, subst, ◌<◌, arith, rules}
+use Rattle.zf_spec.specs.Grid.{blocks}
 use Rattle.zf_commands.{specs.Steps.{Fills}, proofs.Passing.{fill_next, stays_filled, filled_all}}
 use Rattle.zf_commands.proofs.blocks.fill_blocks.Goals as goal
 
 pub loop-b-init : goal.loop-b-init
-loop-b-init g c =
-    let a = c.args.a.now in
-    let s = g.A.Subject.session a in
-    let all : blocks s.shape ≡ blocks s.shape - 0 = omega arith in record {
-      kept = refl;
-      stays = refl;
-      filled = ap (λ m. filled_below (g.A.Subject.setting (g.A.Subject.kept a)) s (g.T.Lane.value c.args.v) (count_from 0 m)) all;
-      sound = c.requires;
-    }
+loop-b-init g c = search rules
 
 pub fill_block-requires-clause-block : goal.fill_block-requires-clause-block
-fill_block-requires-clause-block g c =
-    let n : c.blocks-b-end.result ≡ blocks (g.A.Subject.session c.loop-b.a).shape =
-    c.blocks-b-end.ensures.value ∙ ap blocks (c.sizes.ensures ∙ sym (ap (λ (t : Session _). t.shape) c.loop-b.invariant.stays)) in
-    omega (arith, n, c.loop-b-test.true)
+fill_block-requires-clause-block g c = search rules
 
 pub loop-b-preserved : goal.loop-b-preserved
 loop-b-preserved g c =

@@ -1,29 +1,16 @@
-use Rattle.std.proofs.Common.{◌≡◌, ◌∙◌, refl, sym, ap, subst, ◌+◌, ◌-◌, ◌*◌, ◌^◌, ◌<◌, ◌≤◌, pos, to_z, arith}
-use Rattle.std.{specs.Int.{w128}, proofs.lemmas.Int.{ints}}
+use Rattle.std.proofs.Common.{◌∙◌, sym, ap, subst, ◌+◌, ◌-◌, ◌*◌, ◌^◌, ◌<◌, ◌≤◌, to_z, arith, rules}
+use Rattle.std.{specs.Int.{w128}}
 use Rattle.zf_spec.{specs.Grid.{blocks, count_from}, proofs.Counting.{count_from-below}}
-use Rattle.zf_cached.specs.Steps.{Session, total}
+use Rattle.zf_cached.specs.Steps.{total}
 use Rattle.zf_window.specs.Bounds.{IsUpTo}
 use Rattle.zf_commands.proofs.Passing.{stays_touched, touched_on, sum_from, sum_on, sum_starts, sum_ends, summed_fits, summed_is, up_to_more, up_to_less}
 use Rattle.zf_commands.proofs.blocks.sum_blocks.Goals as goal
 
 pub loop-b-init : goal.loop-b-init
-loop-b-init g c =
-    let S = g.A.Subject.setting (g.A.Subject.kept _) in
-    let s = g.A.Subject.session _ in
-    let n = blocks s.shape in
-    let all : n ≡ n - 0 = omega arith in record {
-      kept = refl;
-      stays = refl;
-      small = (omega (arith, ints), omega (arith, ints));
-      sum = sum_starts S (λ b. b) (λ b values. total values) (count_from 0 n) s ∙ ap (λ m. sum_from S (λ b. b) (λ b values. total values) (count_from 0 m) s (pos 0)) all;
-      sound = c.requires;
-    }
+loop-b-init g c = search (rules, sum_starts, sum_from)
 
 pub sum_of_block-sum-requires-clause-block : goal.sum_of_block-sum-requires-clause-block
-sum_of_block-sum-requires-clause-block g c =
-    let n : c.blocks-b-end.result ≡ blocks (g.A.Subject.session c.loop-b.a).shape =
-    c.blocks-b-end.ensures.value ∙ ap blocks (c.sizes.ensures ∙ sym (ap (λ (t : Session _). t.shape) c.loop-b.invariant.stays)) in
-    omega (arith, n, c.loop-b-test.true)
+sum_of_block-sum-requires-clause-block g c = search rules
 
 pub overflow_add-sum : goal.overflow_add-sum
 overflow_add-sum g c =
@@ -54,19 +41,4 @@ loop-b-preserved g c =
     }
 
 pub returns : goal.returns
-returns g c =
-    let inv = c.loop-b.invariant in
-    let S = g.A.Subject.setting (g.A.Subject.kept _) in
-    let n = blocks (g.A.Subject.session _).shape in
-    let none : n - c.loop-b.b ≡ 0 = omega (arith, c.blocks-b-end.ensures.value, ap blocks c.sizes.ensures, c.loop-b-test.false) in
-    let sum = to_z w128 c.loop-b.sum-bits in
-    let t = g.A.Subject.session c.loop-b.a in
-    record {
-      does = record {
-        sum_is = inv.sum ∙ ap (λ m. sum_from S (λ b. b) (λ b values. total values) (count_from c.loop-b.b m) t sum) none ∙ sum_ends S (λ b. b) (λ b values. total values) t sum;
-        bound = up_to_less (2 ^ 71 * c.loop-b.b) (2 ^ 100) sum (omega (arith, c.blocks-b-end.ensures.bound, c.loop-b.auto.b-end)) inv.small;
-        stays = inv.stays;
-      };
-      sound = inv.sound;
-      kept = inv.kept;
-    }
+returns g c = search (rules, sum_from, sum_ends, up_to_less)

@@ -1,6 +1,5 @@
-use Rattle.std.proofs.Common.{refl, sym, ap, not, subst, Some}
-use Rattle.zf_cached.{specs.Commands.{Command}, specs.Replies.{Refusal, Reply}}
-use Rattle.zf_commands.specs.Calls.{Obeys}
+use Rattle.std.proofs.Common.{refl, rules}
+use Rattle.zf_cached.{specs.Commands.{Command}}
 use Rattle.zf_commands.proofs.Commanding.{line_count, no_line_count, no_size, no_memory, lined}
 use Rattle.zf_commands.proofs.changes.lines.Goals as goal
 
@@ -14,6 +13,4 @@ returns-in-Ok g c =
     (line_count c.args.count c.if-count-eq0.false c.if-count-gt-MAX_LINES.false) c.in-Ok.ensures.ok
 
 pub returns-in-Err : goal.returns-in-Err
-returns-in-Err g c =
-    subst (Obeys g.A.Subject _ (Some (Reply.refused Refusal.memory)) c.args.a.now) (sym c.in-Err.ensures.err)
-    (no_memory g.A.Subject c.args.a.now c.requires (g.met.A.Target.whole c.args.a.now) _ refl (ap not (line_count c.args.count c.if-count-eq0.false c.if-count-gt-MAX_LINES.false)) refl refl refl)
+returns-in-Err g c = search (rules, no_memory, line_count)

@@ -1,4 +1,4 @@
-use Rattle.std.proofs.Common.{refl, ap, ◌∙◌, ◌+◌, arith}
+use Rattle.std.proofs.Common.{refl, ap, ◌∙◌, ◌+◌, arith, rules}
 use Rattle.zf_commands.proofs.Lining.{unmoved, ready_then}
 use Rattle.zf_commands.proofs.Folding.{none_run, run_on, stop_here, all_run, breaks_as, replies_as, one_or_none, at_most_one, of_error}
 use Rattle.zf_commands.proofs.lines.run_lines.Goals as goal
@@ -27,17 +27,7 @@ pub loop-line-smaller : goal.loop-line-smaller
 loop-line-smaller g c = c.in-Some.ensures.shorter
 
 pub loop-line-preserved : goal.loop-line-preserved
-loop-line-preserved g c =
-    let inv = c.loop-line.invariant in
-    let told = c.in_ok-run_line.ensures in
-    let t = c.in_ok-run_line.field-0 in
-    let replies = replies_as g.A.Subject.setting inv.1.kept told.ok in (
-      run_on _ _ _ _ _ _ _ _ _ _ _ inv.0
-          c.in-Some.ensures.parts _ t replies (c.loop-line.refused + c.from.result) (ap (λ n. c.loop-line.refused + n) (c.from.ensures ∙ one_or_none t)),
-      ready_then inv.1 told.stays,
-      omega (arith, c.from.ensures, at_most_one t, c.in-Some.ensures.shorter, inv.2),
-      told.unchanged ∙ inv.3,
-    )
+loop-line-preserved g c = search (rules, replies_as, run_on, one_or_none, ready_then, at_most_one)
 
 pub run_line-requires-2 : goal.run_line-requires-2
 run_line-requires-2 g c = c.loop-line.invariant.1.ready

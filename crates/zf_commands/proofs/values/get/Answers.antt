@@ -1,15 +1,12 @@
-use Rattle.std.{proofs.Common.{◌∙◌, refl, sym, subst, ◌^◌, arith}, proofs.lemmas.Bool.{false≢true}}
+use Rattle.std.proofs.Common.{rules}
+use Rattle.std.{proofs.Common.{◌∙◌, subst, ◌^◌, arith}}
 use Rattle.zf_base.specs.Positions.{IsPosition}
-use Rattle.zf_cached.specs.Commands.{Command}
-use Rattle.zf_commands.{specs.Sittings.{place_in}, proofs.Passing.{up_to_less, small_is}}
+use Rattle.zf_commands.{proofs.Passing.{up_to_less, small_is}}
 use Rattle.zf_commands.proofs.Commanding.{outside, no_range, got}
 use Rattle.zf_commands.proofs.values.get.Goals as goal
 
 pub returns-then-not-contains : goal.returns-then-not-contains
-returns-then-not-contains g c =
-    let s = g.A.Subject.session c.args.a.now in
-    no_range g.A.Subject c.args.a.now c.requires.ready (g.met.A.Target.whole c.args.a.now) (Command.get (place_in s c.args.p)) refl refl
-    (outside s.shape c.args.p c.requires.unused (λ at. false≢true (sym c.if-not-contains.true ∙ c.contains.ensures.1 (subst (λ ms. IsPosition ms c.args.p) (sym c.sizes.ensures) at))))
+returns-then-not-contains g c = search (rules, no_range, outside)
 
 pub number-requires : goal.number-requires
 number-requires g c = record { sound = c.requires.ready.sound; position = subst (λ ms. IsPosition ms c.args.p) c.sizes.ensures (c.contains.ensures.0 c.if-not-contains.false) }

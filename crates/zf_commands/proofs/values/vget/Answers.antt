@@ -1,18 +1,15 @@
-use Rattle.std.{proofs.Common.{◌∙◌, refl, sym, ap, subst, ◌^◌, arith}, proofs.lemmas.Bool.{false≢true}}
+use Rattle.std.proofs.Common.{rules}
+use Rattle.std.{proofs.Common.{◌∙◌, sym, ap, subst, ◌^◌, arith}}
 use Rattle.zf_spec.specs.Grid.{IsShape}
 use Rattle.zf_base.specs.Positions.{IsPosition}
-use Rattle.zf_cached.{specs.Windows.{Window as Part}, specs.Commands.{Command}}
+use Rattle.zf_cached.{specs.Windows.{Window as Part}}
 use Rattle.zf_window.{specs.Positions.{position_at}, proofs.Positions.{position_at-inside}}
-use Rattle.zf_commands.{specs.Sittings.{place_in}, proofs.Passing.{up_to_less, small_is}}
+use Rattle.zf_commands.{proofs.Passing.{up_to_less, small_is}}
 use Rattle.zf_commands.proofs.Commanding.{outside_window, no_range, got_there}
 use Rattle.zf_commands.proofs.values.vget.Goals as goal
 
 pub returns-then-not-contains : goal.returns-then-not-contains
-returns-then-not-contains g c =
-    let s = g.A.Subject.session c.args.a.now in
-    no_range g.A.Subject c.args.a.now c.requires.ready (g.met.A.Target.whole c.args.a.now) (Command.vget (place_in s c.args.p)) refl refl
-    (outside_window s.shape s.window c.args.p c.requires.ready.window c.requires.unused
-    (λ at. false≢true (sym c.if-not-contains.true ∙ c.contains.ensures.1 (subst (λ (u : Part). IsPosition u.size c.args.p) (sym c.window-window.ensures) at))))
+returns-then-not-contains g c = search (rules, no_range, outside_window)
 
 pub number-requires : goal.number-requires
 number-requires g c =

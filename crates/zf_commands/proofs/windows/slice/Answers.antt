@@ -1,5 +1,6 @@
-use Rattle.std.{proofs.Common.{◌≡◌, ◌∙◌, refl, sym, ap, subst, true}, proofs.lemmas.Bool.{false≢true}}
-use Rattle.zf_cached.{specs.Windows.{Window as Part, LiesIn, has_place, sliced}, specs.Commands.{Command}}
+use Rattle.std.proofs.Common.{rules}
+use Rattle.std.{proofs.Common.{◌≡◌, ◌∙◌, refl, sym, ap, subst, true}}
+use Rattle.zf_cached.{specs.Windows.{Window as Part, LiesIn, has_place, sliced}}
 use Rattle.zf_cached.proofs.Windows.{LiesIn-sliced}
 use Rattle.zf_commands.proofs.Commanding.{is_not, no_range, cut}
 use Rattle.zf_commands.proofs.windows.slice.Goals as goal
@@ -12,10 +13,7 @@ use_window-requires-clause-inside g c =
     subst (LiesIn s.shape) (sym (c.in-Some.ensures.some ∙ ap Cut c.window.ensures)) (LiesIn-sliced s.shape s.window c.args.axis c.args.at c.requires.window there)
 
 pub returns-in_default : goal.returns-in_default
-returns-in_default g c =
-    let w = (g.A.Subject.session c.args.a.now).window in
-    no_range g.A.Subject c.args.a.now c.requires (g.met.A.Target.whole c.args.a.now) (Command.slice c.args.axis c.args.at) refl refl
-    (is_not (has_place w c.args.axis c.args.at) (λ e. false≢true (c.in_default.ensures.found.1 (ap (λ (u : Part). has_place u c.args.axis c.args.at) c.window.ensures ∙ e))))
+returns-in_default g c = search (rules, no_range, is_not)
 
 pub returns : goal.returns
 returns g c =

@@ -1,9 +1,9 @@
-use Rattle.std.proofs.Common.{◌≡◌, ◌∙◌, refl, sym, ap, subst, ℕ, ◌+◌, ◌-◌, ◌*◌, ◌^◌, ◌<◌, ◌≤◌, pos, map, to_z, get_or, arith}
-use Rattle.std.{specs.Int.{w128}, proofs.lemmas.Int.{ints}}
+use Rattle.std.proofs.Common.{◌≡◌, ◌∙◌, sym, ap, subst, ℕ, ◌+◌, ◌-◌, ◌*◌, ◌^◌, ◌<◌, ◌≤◌, pos, map, to_z, get_or, arith, rules}
+use Rattle.std.{specs.Int.{w128}}
 use Rattle.zf_spec.{specs.Grid.{count_from, product, coordinates}, proofs.Counting.{count_from-below}}
 use Rattle.zf_base.{specs.Places.{block_number}, proofs.Places.{IsAt-block, IsAt-place}}
-use Rattle.zf_cached.specs.Windows.{Window as Part, LiesIn, mapped}
-use Rattle.zf_cached.specs.Steps.{Session, touched, value_there}
+use Rattle.zf_cached.specs.Windows.{Window as Part, mapped}
+use Rattle.zf_cached.specs.Steps.{touched, value_there}
 use Rattle.zf_window.{specs.Places.{WalkingIn, IsThere}, proofs.Raster.{product_window}}
 use Rattle.zf_window.specs.Bounds.{IsUpTo}
 use Rattle.zf_commands.proofs.Passing.{stays_touched, touched_on, sum_from, sum_on, sum_starts, sum_ends, summed_fits, summed_is, up_to_more, up_to_less}
@@ -15,50 +15,19 @@ count-number-end-requires g c =
     omega (arith, product_window s.shape s.window c.requires.window, ap product c.sizes-shape.ensures, c.values-values.ensures.value, c.values-values.ensures.bound, ap (λ (u : Part). product u.size) c.window-window.ensures)
 
 pub loop-number-init : goal.loop-number-init
-loop-number-init g c =
-    let s = g.A.Subject.session _ in
-    let w = s.window in
-    let S = g.A.Subject.setting (g.A.Subject.kept _) in
-    let B = block_number s.shape in
-    let all : product w.size ≡ product w.size - 0 = omega arith in
-    let ps = λ (n : ℕ). map (λ k. mapped w (coordinates w.size k)) (count_from 0 n) in record {
-      kept = refl;
-      stays = refl;
-      small = (omega (arith, ints), omega (arith, ints));
-      sum = sum_starts S B value_there (ps (product w.size)) s ∙ ap (λ m. sum_from S B value_there (ps m) s (pos 0)) all;
-      sound = c.requires.sound;
-      walk = c.new-walk.ensures ∙ (λ i. record { shape = c.sizes-shape.ensures i; window = c.window-window.ensures i; next = 0 });
-    }
+loop-number-init g c = search (rules, sum_starts, sum_from)
 
 pub new-walk-requires : goal.new-walk-requires
-new-walk-requires g c =
-    let s = g.A.Subject.session c.args.a.now in
-    subst (λ ns. LiesIn ns c.window-window.result) (sym c.sizes-shape.ensures) (subst (LiesIn s.shape) (sym c.window-window.ensures) c.requires.window)
+new-walk-requires g c = search rules
 
 pub step-b-requires : goal.step-b-requires
-step-b-requires g c =
-    let s = g.A.Subject.session c.args.a.now in
-    let below : c.loop-number.number < product s.window.size = omega (arith, c.count-number-end.ensures.value, c.loop-number-test.true, ap (λ (u : Part). product u.size) c.window-window.ensures) in
-    subst (λ (x : WalkingIn). x.next < product x.window.size) (sym c.loop-number.invariant.walk) below
+step-b-requires g c = search rules
 
 pub value_at-sum-requires : goal.value_at-sum-requires
-value_at-sum-requires g c =
-    let s = g.A.Subject.session c.args.a.now in
-    let inv = c.loop-number.invariant in
-    let b = c.step-b.result.0 in
-    let p = c.step-b.result.1 in
-    let at = subst (λ (x : WalkingIn). IsThere x.shape x.window x.next b p) inv.walk c.step-b.ensures.at in record {
-      sound = inv.sound;
-      position = mapped s.window (coordinates s.window.size c.loop-number.number);
-      at = subst (λ (t : Session _). IsThere t.shape s.window c.loop-number.number b p) (sym inv.stays) at;
-    }
+value_at-sum-requires g c = search rules
 
 pub overflow_add-sum : goal.overflow_add-sum
-overflow_add-sum g c =
-    let s = g.A.Subject.session c.args.a.now in
-    let less : product s.window.size ≤ 2 ^ 27 = omega (arith, product_window s.shape s.window c.requires.window, ap product c.sizes-shape.ensures, c.values-values.ensures.value, c.values-values.ensures.bound) in
-    summed_fits c.loop-number.sum-bits c.value_at-sum.result c.loop-number.number (2 ^ 63)
-    (omega (arith, less, c.count-number-end.ensures.value, c.loop-number-test.true, ap (λ (u : Part). product u.size) c.window-window.ensures)) (omega arith) c.loop-number.invariant.small c.value_at-sum.ensures.bound
+overflow_add-sum g c = search (rules, summed_fits)
 
 pub loop-number-preserved : goal.loop-number-preserved
 loop-number-preserved g c =

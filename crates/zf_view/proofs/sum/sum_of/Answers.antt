@@ -1,4 +1,5 @@
-use Rattle.std.{proofs.Common.{◌<◌, ◌+◌, ◌*◌, ◌^◌, refl, sym, ap, subst, ◌∙◌, to_z, arith}, specs.Int.{w128}}
+use Rattle.std.proofs.Common.{rules}
+use Rattle.std.{proofs.Common.{◌<◌, ◌^◌, refl, sym, ap, subst, ◌∙◌, arith}}
 use Rattle.std.proofs.lemmas.Int.{ints}
 use Rattle.zf_spec.specs.Grid.{product}
 use Rattle.zf_base.specs.Positions.{IsPosition}
@@ -26,12 +27,7 @@ value-found-requires g c =
     subst (λ j. IsPosition (g.A.Reads.shape j) c.step.result) (sym c.loop-number.invariant.kept) (subst (IsPosition (g.A.Reads.shape k)) (sym (c.step.ensures.position ∙ ap (λ (x : Walking). raster_at x.window x.next) c.loop-number.invariant.walk)) inside)
 
 pub overflow_add-sum : goal.overflow_add-sum
-overflow_add-sum g c =
-    let v = g.T.Lane.value c.value-found.result in
-    let few : c.loop-number.number < 2 ^ 27 =
-    omega (arith, product_window (g.A.Reads.shape (g.A.Reads.kept c.args.array.now)) c.args.window c.requires, ap product c.sizes.ensures, c.values-values.ensures.value, c.values-values.ensures.bound, c.count-number-end.ensures.value, c.loop-number-test.true) in
-    let one = subst (IsUpTo (2 ^ 63)) (sym c.to_wide-sum.ensures.value) (value_up_to g.T.Lane.width g.met.T.Lane.two_widths v (g.met.T.Lane.in_range_fits v) c.to_wide-sum.ensures.operand) in
-    more_fits c.loop-number.sum-bits c.to_wide-sum.result c.loop-number.number few c.loop-number.invariant.small one
+overflow_add-sum g c = search (rules, more_fits)
 
 pub loop-number-preserved : goal.loop-number-preserved
 loop-number-preserved g c =
@@ -47,11 +43,4 @@ loop-number-preserved g c =
     omega (arith, product_window (g.A.Reads.shape k) w c.requires, ap product c.sizes.ensures, c.values-values.ensures.value, c.values-values.ensures.bound, c.count-number-end.ensures.value, c.loop-number-test.true) in
     let one = subst (IsUpTo (2 ^ 63)) (sym c.to_wide-sum.ensures.value) (value_up_to g.T.Lane.width g.met.T.Lane.two_widths v (g.met.T.Lane.in_range_fits v) c.to_wide-sum.ensures.operand) in
     let is = more_is c.loop-number.sum-bits x n few inv.small one in
-    let at = c.step.ensures.position ∙ ap (λ (x : Walking). raster_at x.window x.next) inv.walk in
-    record {
-      kept = told.kept ∙ inv.kept;
-      touched = touched_more g.A.Reads.format g.A.Reads.shape k (g.A.Reads.kept c.loop-number.array) inv.kept (g.A.Reads.state a) (g.A.Reads.state c.loop-number.array) (g.A.Reads.state c.value-found.new.self) w n c.step.result at inv.touched told.state;
-      found = is ∙ found_more g.A.Reads.format g.A.Reads.shape k (g.A.Reads.kept c.loop-number.array) inv.kept (g.A.Reads.state a) (g.A.Reads.state c.loop-number.array) (g.A.Reads.state c.value-found.new.self) w n c.step.result at inv.touched told.state (to_z w128 c.loop-number.sum-bits) x inv.found (c.to_wide-sum.ensures.value ∙ told.value);
-      small = subst (IsUpTo (2 ^ 63 * (n + 1))) (sym is) (more c.loop-number.sum-bits x n few inv.small one);
-      walk = c.step.ensures.next ∙ ap (λ (x : Walking). record x { next = x.next + 1 }) inv.walk;
-    }
+    let at = c.step.ensures.position ∙ ap (λ (x : Walking). raster_at x.window x.next) inv.walk in search (rules, touched_more, found_more, more)

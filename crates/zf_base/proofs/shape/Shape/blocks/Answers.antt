@@ -8,8 +8,7 @@ product-requires-clause-not_zero c =
 
 pub product-requires-clause-fits : goal.product-requires-clause-fits
 product-requires-clause-fits c =
-    let g = grid_of_shape c.args.self.now c.grid.result c.grid.ensures.shape c.grid.ensures.value in
-    omega (arith, g.count, g.bound)
+    omega (arith, grid_of_shape c.args.self.now c.grid.result c.grid.ensures.shape c.grid.ensures.value)
 
 pub returns-clause-value : goal.returns-clause-value
 returns-clause-value c =
@@ -17,10 +16,8 @@ returns-clause-value c =
 
 pub returns-clause-not_zero : goal.returns-clause-not_zero
 returns-clause-not_zero c =
-    let g = grid_of_shape c.args.self.now c.grid.result c.grid.ensures.shape c.grid.ensures.value in
-    omega (arith, c.product.ensures, g.count, g.some)
+    omega (arith, grid_of_shape c.args.self.now c.grid.result c.grid.ensures.shape c.grid.ensures.value)
 
 pub returns-clause-bound : goal.returns-clause-bound
 returns-clause-bound c =
-    let g = grid_of_shape c.args.self.now c.grid.result c.grid.ensures.shape c.grid.ensures.value in
-    omega (arith, c.product.ensures, g.count, g.bound)
+    omega (arith, grid_of_shape c.args.self.now c.grid.result c.grid.ensures.shape c.grid.ensures.value)

@@ -9,8 +9,7 @@ raster-block-requires-clause-inside c =
 
 pub raster-block-requires-clause-fits : goal.raster-block-requires-clause-fits
 raster-block-requires-clause-fits c =
-    let g = grid_of_shape c.args.self.now c.grid.result c.grid.ensures.shape c.grid.ensures.value in
-    omega (arith, g.count, g.bound)
+    omega (arith, grid_of_shape c.args.self.now c.grid.result c.grid.ensures.shape c.grid.ensures.value)
 
 pub returns-clause-block : goal.returns-clause-block
 returns-clause-block c =

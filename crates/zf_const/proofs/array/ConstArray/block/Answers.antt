@@ -1,10 +1,10 @@
-use Rattle.std.proofs.Common.{◌≡◌, refl, sym, ap, subst, ◌∙◌, ℕ, ◌<◌, Bool, List, map, lit<}
+use Rattle.std.proofs.Common.{◌≡◌, refl, sym, subst, ◌∙◌, ℕ, ◌<◌, Bool, List, rules}
 use Rattle.zf_spec.specs.Grid.{blocks}
-use Rattle.zf_base.specs.Formats.{Format, existing_of}
+use Rattle.zf_base.specs.Formats.{Format}
 use Rattle.zf_header.specs.declared.header.Header.{Header}
 use Rattle.zf_cached.{specs.State.{State}, specs.Touch.{touch}, specs.Arrays.{array_format}}
 use Rattle.zf_cache.{specs.Kept.{line_of}, proofs.Sound.{values_here}}
-use Rattle.zf_const.{specs.Standing.{state}, specs.Parts.{Coded, code_at, format_of}}
+use Rattle.zf_const.{specs.Parts.{Coded, code_at, format_of}}
 use Rattle.zf_const.proofs.Standing.{state_held, has_blocks, header_now, format_now, step, touched_is}
 use Rattle.zf_const.proofs.array.ConstArray.block.Goals as goal
 
@@ -13,10 +13,7 @@ unfolding array_format
 below s h b is lt = subst (λ (g : Header). b < blocks g.shape) is lt
 
 pub touch_read-requires : goal.touch_read-requires
-touch_read-requires g c =
-    let s = c.self.inside in
-    let is = header_now g.T.Lane.value g.T.Lane.width g.row.D s.codes s.cache c.self.invariant c.args.self.now c.self.view_is in
-    (lit< tt, (record { fits = c.self.invariant.fits; blocks = has_blocks g.T.Lane.value g.T.Lane.width g.row.D s.codes s.cache c.self.invariant; below = below s.codes c.args.self.now.header c.args.b is c.requires }, c.self.invariant.clean))
+touch_read-requires g c = search (rules, header_now, has_blocks, below)
 
 pub returns : goal.returns
 returns g c =
@@ -31,14 +28,4 @@ returns g c =
     let after = step value g.T.Lane.width g.row.D s.codes s.cache c.self.invariant now c.self.view_is t e c.touch_read.ensures.step.kept c.touch_read.ensures.step.fits c.touch_read.ensures.clean F c.touch_read.ensures.step.state in
     let same = format_now value g.T.Lane.width g.row.D s.codes s.cache c.self.invariant now c.self.view_is ∙ sym c.touch_read.ensures.step.format in
     let shown = values_here value (format_of t) e (code_at t) b (line_of e b) refl c.touch_read.ensures.here in
-    let there = state_held value t e c.touch_read.ensures.step.fits c.touch_read.ensures.clean in (
-      (refl, λ _. tt, is),
-      record {
-        touched = tt;
-        value = ap (λ (f : Format (List Bool)). existing_of f b (map value c.line.result.now)) same
-            ∙ ap (λ (xs : List g.row.T.Denot). existing_of (format_of t) b (map value xs)) c.line.ensures.value
-            ∙ sym shown ∙ ap (λ (u : State (List Bool)). u.values b) (sym there ∙ after);
-        size = c.line.ensures.size;
-        state = ap state (sym is) ∙ after;
-      },
-    )
+    let there = state_held value t e c.touch_read.ensures.step.fits c.touch_read.ensures.clean in search rules

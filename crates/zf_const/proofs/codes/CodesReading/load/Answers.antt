@@ -1,7 +1,7 @@
-use Rattle.std.proofs.Common.{◌≡◌, sym, ap, subst, ◌∙◌, ℕ, ◌-◌, ◌*◌, ◌%◌, ◌^◌, ◌<◌, ◌≤◌, ℤ, List, Option, Some, None, map, length, take, drop, arith}
+use Rattle.std.proofs.Common.{◌≡◌, sym, ap, subst, ◌∙◌, ℕ, ◌-◌, ◌*◌, ◌%◌, ◌^◌, ◌<◌, ◌≤◌, ℤ, List, Option, Some, None, map, length, take, drop, arith, rules}
 use Rattle.std.specs.Int.{Width}
 use Rattle.zf_spec.{specs.Grid.{blocks, extent_of}, specs.Stream.{to_bits}}
-use Rattle.zf_base.{specs.Widths.{width_of}, specs.Formats.{existing_of, meant}}
+use Rattle.zf_base.{specs.Formats.{existing_of, meant}}
 use Rattle.zf_base.proofs.Extents.{length-extent_of}
 use Rattle.zf_bits.specs.Reader.{Reader, rest}
 use Rattle.zf_header.specs.declared.header.Header.{Header}
@@ -9,7 +9,7 @@ use Rattle.zf_cached.{specs.Arrays.{array_format}, proofs.Arrays.{existing_of-ar
 use Rattle.zf_parse.{specs.Parsing.{read_code}, specs.ReadStreams.{ReadsCode, LacksCode}}
 use Rattle.zf_parse.proofs.Excerpts.{cut_told}
 use Rattle.zf_index.{specs.Spans.{len_at, span_at}, specs.declared.span.Span.{Span}, proofs.Places.{place-le}}
-use Rattle.zf_index.{specs.Files.{found, block_read}, proofs.Read.{read_parts}}
+use Rattle.zf_index.{specs.Files.{found, block_read}}
 use Rattle.zf_const.{specs.declared.index.Index.{Index}, specs.Standing.{coding_of}}
 use Rattle.zf_const.specs.Parts.{Coded, seen, format_of, code_at, coded_by, IsCoded}
 use Rattle.zf_const.proofs.Meaning.{found_meant}
@@ -37,27 +37,19 @@ module _ (w : Width) (d : ℕ) (h : Header) (file : List ℕ) (index : Index) (r
     -- a reader of as many bits of the file, from the code on, as there is room for
     module _ (r : Reader) (left : rest r ≡ take (64 * room - span.at % 64) (drop span.at (to_bits file))) where
       there : read_code w h.mode (extent_of h.shape b) (rest r) ≡ Some (block_read (found h (seen index) (to_bits file) b), len_at (seen index) b)
-      there =
-          let es = extent_of h.shape b in
-          ap (λ v. read_code v h.mode es (rest r)) coded.same_type ∙ ap (read_code (width_of h.ty) h.mode es) left
-          ∙ cut_told h es (drop span.at (to_bits file)) (64 * room - span.at % 64) (length-extent_of h.shape b) (omega (arith, coded.room_is))
-          ∙ ap (λ (x : Span). read_code (width_of h.ty) h.mode es (drop x.at (to_bits file))) is_span
-          ∙ read_parts (found h (seen index) (to_bits file) b) (len_at (seen index) b) (coded.read b lt)
+      there = search (rules, cut_told, length-extent_of)
 
       not_none : LacksCode w h.mode (length h.shape) r → ⊥
       not_none lacks = nothing (sym (lacks.code (extent_of h.shape b) (length-extent_of h.shape b)) ∙ there)
 
       value_is : (new : Reader) (block : List ℤ) → ReadsCode w h.mode (length h.shape) r new block → existing_of (format_of now) b block ≡ meant (format_of now) b (code_at now b)
       value_is new block reads =
-          let s : Coded = coded_by h file index in
           let P : Coded → Type 0 = λ t. existing_of (format_of t) b block ≡ meant (format_of t) b (code_at t b) in
           let same = same_block (sym (reads.code (extent_of h.shape b) (length-extent_of h.shape b)) ∙ there) in
           subst P is (existing_of-array (coding_of h) h.shape b block ∙ same ∙ sym (found_meant h (seen index) (to_bits file) b lt coded.read))
 
 pub span-requires : goal.span-requires
-span-requires g c =
-    let s = c.self.inside in
-    below g.T.Lane.width g.row.D s.header s.file.items s.index s.excerpt.room c.self.invariant c.args.self.now c.self.view_is c.args.b c.requires.block
+span-requires g c = search (rules, below)
 
 pub take-requires-clause-within : goal.take-requires-clause-within
 take-requires-clause-within g c =
@@ -70,9 +62,7 @@ take-requires-clause-within g c =
     )
 
 pub read_code-requires : goal.read_code-requires
-read_code-requires g c =
-    let s = c.self.inside in
-    record { whole = size_is g.T.Lane.width g.row.D s.header s.file.items s.index s.excerpt.room c.self.invariant c.args.self.now c.self.view_is c.args.b (length c.args.line.now) c.requires.whole }
+read_code-requires g c = search (rules, size_is)
 
 pub unreachable-requires : goal.unreachable-requires
 unreachable-requires g c =

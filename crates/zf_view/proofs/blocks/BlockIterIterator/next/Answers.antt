@@ -1,4 +1,4 @@
-use Rattle.std.proofs.Common.{◌+◌, ◌<◌, length, ap, sym, ◌∙◌, arith}
+use Rattle.std.proofs.Common.{◌<◌, sym, ◌∙◌, arith, rules}
 use Rattle.zf_spec.specs.Grid.{blocks}
 use Rattle.zf_view.proofs.BlockItems.{items_from-below, length-items_from}
 use Rattle.zf_view.proofs.blocks.BlockIterIterator.next.Goals as goal
@@ -10,10 +10,4 @@ returns-clause-steps c =
     sym c.self.view_is ∙ items_from-below it.shape it.next c.extent.result below c.extent.ensures.origin c.extent.ensures.size
 
 pub returns-clause-goes : goal.returns-clause-goes
-returns-clause-goes c =
-    let it = c.self.inside in
-    record {
-      on = λ _. (tt, tt, omega (arith, length-items_from it.shape it.next, length-items_from it.shape (it.next + 1), ap length c.self.view_is, c.self.invariant.next_at_most, c.self.invariant.end_is, c.if-self.false));
-      keeps = tt;
-      rests = λ _. tt;
-    }
+returns-clause-goes c = search (rules, length-items_from)

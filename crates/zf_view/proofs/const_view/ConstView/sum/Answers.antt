@@ -1,14 +1,8 @@
-use Rattle.std.{proofs.Common.{refl, ◌∙◌}, proofs.Math.Facts.{to_z-of_z}}
-use mir.Syntax.{w128}
-use Rattle.zf_spec.specs.Grid.{product}
-use Rattle.zf_const.specs.Standing.{state, format, shape}
+use Rattle.std.proofs.Common.{rules}
+use Rattle.zf_const.specs.Standing.{state}
 use Rattle.zf_view.proofs.Sums.{clean_unwritten, sum_found-unwritten}
 use Rattle.zf_view.proofs.const_view.ConstView.sum.Goals as goal
 
 pub returns-clause-value : goal.returns-clause-value
 unfolding state
-returns-clause-value g c =
-    let a = c.args.self.now.array.now in
-    let w = c.args.self.now.window in
-    to_z-of_z {w = w128} (record { sfits = c.sum_of.type_inv }) ∙ c.sum_of.ensures.value
-    ∙ sum_found-unwritten (format a) (shape a) (state a) w (product w.size) (clean_unwritten (state a) (λ b. refl))
+returns-clause-value g c = search (rules, sum_found-unwritten, clean_unwritten)

@@ -1,4 +1,4 @@
-use Rattle.std.proofs.Common.{refl, ap, sym, subst, ◌∙◌, ◌^◌, ℕ, length, arith}
+use Rattle.std.proofs.Common.{refl, ap, sym, subst, ◌∙◌, ◌^◌, ℕ, length, rules}
 use Rattle.zf_base.{specs.Positions.{used_axes, IsPosition}, specs.Places.{block_number, place_of}}
 use Rattle.zf_cached.specs.Touch.{touch}
 use Rattle.zf_array.specs.Standing.{Held, state, format, shape, array_of}
@@ -14,14 +14,7 @@ place-b-requires g c =
     (subst (IsPosition (shape now.array.now)) (sym c.map-first.ensures) (position_at-inside (shape now.array.now) now.window c.args.p c.requires.at.lies c.requires.at.position))
 
 pub part-requires : goal.part-requires
-part-requires g c =
-    let now = c.args.self.now in
-    let a = now.array.now in
-    let shape_is = c.shape.ensures.value in
-    let ek = c.place-b.ensures.place ∙ (λ i. place_of (used_axes (length (shape_is i)) (c.map-first.ensures i))) in
-    let dims = ap length (sym shape_is) ∙ c.shape.ensures.dims in
-    let whole = c.block.ensures.size ∙ ap (λ d. 4 ^ d) (sym dims) in
-    omega (arith, ek, c.run_length-len.ensures, whole, run_within (shape a) now.window c.args.p c.requires.at.lies c.requires.at.position c.requires.step)
+part-requires g c = search (rules, run_within)
 
 pub returns : goal.returns
 returns g c =

@@ -1,4 +1,4 @@
-use Rattle.std.proofs.Common.{refl, ap, sym, subst, ◌∙◌, ◌+◌, ◌≤◌, ◌^◌, map, length, lit<, arith}
+use Rattle.std.proofs.Common.{refl, ap, sym, subst, ◌∙◌, map, length, rules}
 use Rattle.std.proofs.lemmas.List.{length-map}
 use Rattle.zf_base.{specs.Positions.{used_axes, IsPosition}, specs.Places.{block_number, place_of}}
 use Rattle.zf_lines.{specs.Rows.{over}, proofs.Sizes.{length-over}}
@@ -15,20 +15,7 @@ place_in-b-requires-clause-position g c =
     (subst (IsPosition (shape now.array.now)) (sym c.map-first.ensures) (position_at-inside (shape now.array.now) now.window c.args.p c.requires.at.lies c.requires.at.position))
 
 pub part_mut-requires : goal.part_mut-requires
-part_mut-requires g c =
-    let now = c.args.self.now in
-    let a = now.array.now in
-    let w = now.window in
-    let p = c.args.p in
-    let lies = c.requires.at.lies in
-    let at = c.requires.at.position in
-    let shape_is = c.shape.ensures.value in
-    let first = c.map-first.ensures in
-    let eb = c.place_in-b.ensures.block ∙ (λ i. block_number (shape_is i) (used_axes (length (shape_is i)) (first i))) in
-    let ek = c.place_in-b.ensures.place ∙ (λ i. place_of (used_axes (length (shape_is i)) (first i))) in
-    let en = c.run_length-len.ensures in
-    let dims = ap length (sym shape_is) ∙ c.shape.ensures.dims in
-    (lit< tt, (c.touch_mut.ensures.dirty, subst (λ d. c.place_in-b.result.1 + c.run_length-len.result ≤ 4 ^ d) dims (omega (arith, ek, en, run_within (shape a) w p lies at c.requires.step))))
+part_mut-requires g c = search (rules, run_within)
 
 pub returns : goal.returns
 returns g c =
@@ -49,11 +36,7 @@ returns g c =
       (refl, λ x. ap (view_of now) (run_ends a w p lies at c.requires.step c.touch_mut.new.self c.place_in-b.result.0 c.place_in-b.result.1 c.run_length-len.result eb ek en c.touch_mut.ensures.header c.touch_mut.ensures.state (map value r) long c.part_mut.ensures.value (map value (over r x)) (length-map (over r x) value ∙ length-over r x ∙ c.part_mut.ensures.size))),
       record {
         writes_back = tt;
-        shows = record {
-          size = c.part_mut.ensures.size ∙ en;
-          beside = beside (shape a) w p lies at c.requires.step;
-          value_is = run_is a w p lies at c.requires.step c.touch_mut.new.self c.place_in-b.result.0 c.place_in-b.result.1 c.run_length-len.result eb ek en c.touch_mut.ensures.header c.touch_mut.ensures.state (map value r) long c.part_mut.ensures.value;
-        };
+        shows = search (rules, beside, run_is);
         state = λ vs size. run_state a w p lies at c.requires.step c.touch_mut.new.self c.place_in-b.result.0 c.place_in-b.result.1 c.run_length-len.result eb ek en c.touch_mut.ensures.header c.touch_mut.ensures.state (map value r) long c.part_mut.ensures.value vs (size ∙ sym en) (c.part_mut.ensures.state vs);
         header = header_run a (position_at w p);
       },
