@@ -1,21 +1,21 @@
 use Rattle.std.proofs.Common.{ℕ, ◌*◌, ◌%◌, ◌^◌, ◌+◌, ◌-◌, take, refl, sym, ap, subst, ◌∙◌, arith}
 use Rattle.zf_bits.specs.Reader.{Reader, rest, Reads}
 use Rattle.zf_block.{specs.FirstAlone.{IsFirstCode}, proofs.FirstAlone.{whole_read, first_fits}}
-use Rattle.zf_block.proofs.first_code.first_code.Goals as goal
+use Rattle.zf_block.proofs.first_code.code_behind.Goals as goal
 
 pub overflow_add-result : goal.overflow_add-result
-overflow_add-result c = omega (arith, first_fits (c.args.prec - c.min-zeros.result - 1) c.in_ok-digits.digits c.in_ok-digits.ensures.small (omega (arith, c.requires.in_word)))
+overflow_add-result c = omega (arith, first_fits (c.args.prec - c.args.zeros - 1) c.in_ok-digits.digits c.in_ok-digits.ensures.small (omega (arith, c.requires.in_word)))
 
 pub returns : goal.returns
 returns c =
     let old = c.another-place.result in
     let zeros = c.skip.new.self in
-    let z = c.min-zeros.result in
+    let z = c.args.zeros in
     let n = c.args.prec - z - 1 in
     let d = c.in_ok-digits.digits in
     let len = c.at.result - c.at-2.result in
     let Passed : ℕ → Type 0 = λ k. Reads old zeros (take k (rest old)) in
-    let read = whole_read c.args.prec z c.peek.result d n len c.at-2.result c.at.result (omega arith) c.if-zeros-prec.false c.requires.in_word refl c.peek.ensures (omega arith) (omega (arith, c.left.ensures.count))
+    let read = whole_read c.args.prec z c.peek.result d n len c.at-2.result c.at.result (omega arith) (λ e. grind (arith, e, c.requires.more)) c.requires.in_word refl c.peek.ensures (omega arith) (omega (arith, c.left.ensures.count))
     (c.if-not-are_zeros.ensures.zeros refl) (subst Passed c.from.ensures c.skip.ensures) c.skip-2.ensures c.in_ok-digits.ensures refl (c.at-2.ensures ∙ ap (λ (r : Reader). r.at) (sym c.another-place.ensures)) c.at.ensures in
     let Is : Reader → Type 0 = λ r. IsFirstCode c.args.prec (1 * 2 ^ n % 2 ^ 64 + d) len (rest r) in
     subst Is c.another-place.ensures read
