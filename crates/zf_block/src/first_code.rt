@@ -1,6 +1,6 @@
 //! The code of planes in which the first rank alone has ones, as those of a block of one value.
 
-ghost use Rattle.std.specs.Prelude.{◌≡◌, ◌≤◌, IfSome};
+ghost use Rattle.std.specs.Prelude.{◌≡◌, ◌<◌, ◌≤◌, IfSome};
 ghost use Rattle.zf_bits.specs.Reader.{rest};
 ghost use Rattle.zf_block.specs.FirstAlone.{IsFirstCode, ReadsDigits};
 
@@ -22,16 +22,29 @@ pub(crate) struct FirstCode {
 }
 
 /// The code of `prec` planes that comes next, where it is seen that the first rank alone has ones in them,
-/// and has some. All its bits are there.
+/// and has some. All its bits are there. Most blocks have another one, as a look at one word tells.
 #[inline(always)]
 pub(crate) fn first_code(prec: u32, reader: &BitReader<'_>) -> Option<FirstCode>
     requires in_word { prec ≤ 64 }
     ensures { IfSome result (λ code. IsFirstCode prec code.digits code.len (rest reader.now)) }
 {
-    let mut place = reader.another();
-    let word = place.peek();
+    let word = reader.peek();
     let zeros = word.trailing_zeros().min(prec);
-    if zeros == prec || !may_be(word, zeros, prec - zeros - 1) || !are_zeros(zeros, &place) {
+    if zeros == prec || !may_be(word, zeros, prec - zeros - 1) {
+        return None;
+    }
+    code_behind(zeros, prec, reader)
+}
+
+/// The same, where so many planes of zeros may come first. It stands apart, so that other blocks do not enter it.
+#[inline(never)]
+fn code_behind(zeros: u32, prec: u32, reader: &BitReader<'_>) -> Option<FirstCode>
+    requires in_word { prec ≤ 64 }
+    requires more { zeros < prec }
+    ensures { IfSome result (λ code. IsFirstCode prec code.digits code.len (rest reader.now)) }
+{
+    let mut place = reader.another();
+    if !are_zeros(zeros, &place) {
         return None;
     }
     place.skip(u64::from(zeros));

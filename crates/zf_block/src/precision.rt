@@ -145,6 +145,7 @@ impl<T: Lane> BlockCode<T> for Precision {
         false
     }
 
+    #[inline(always)]
     fn read_first(&self, size: usize, reader: &mut BitReader<'_>) -> Option<u64> {
         let width = T::WIDTH;
         let prec = self.prec.min(width);

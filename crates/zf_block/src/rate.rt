@@ -167,6 +167,7 @@ impl<T: Lane> BlockCode<T> for Rate {
         false
     }
 
+    #[inline(always)]
     fn read_first(&self, size: usize, reader: &mut BitReader<'_>) -> Option<u64> {
         let bits = u64::from(self.bits);
         let first = first_code(T::WIDTH, reader)?;

@@ -160,6 +160,7 @@ impl<T: Lane> BlockCode<T> for Reversible {
         false
     }
 
+    #[inline(always)]
     fn read_first(&self, size: usize, reader: &mut BitReader<'_>) -> Option<u64> {
         let mut place = reader.another();
         let prec = read_count::<T>(&mut place)?;

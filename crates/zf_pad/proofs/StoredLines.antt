@@ -1,5 +1,5 @@
 -- The lines of an array whose values are kept in the order of blocks.
-use Rattle.std.proofs.Common.{rules, ◌≡◌, refl, sym, ap, ◌∙◌, ℕ, zero, suc, ◌+◌, ◌-◌, ◌*◌, ◌/◌, ◌%◌, ◌<◌, ◌≤◌, ◌^◌, ◌⊎◌, ⊎_elim, min, ℤ, pos, List, [], ◌∷◌, ◌++◌, length, get_or, map, take, drop, replicate, mod-eq_of_lt, mul-le-mul_left, arith, ext_get_or, length-drop, lit≤}
+use Rattle.std.proofs.Common.{rules, ◌≡◌, ◌≢◌, refl, sym, ap, subst, ◌∙◌, ℕ, zero, suc, ◌+◌, ◌-◌, ◌*◌, ◌/◌, ◌%◌, ◌<◌, ◌≤◌, ◌^◌, ◌⊎◌, ⊎_elim, min, ℤ, pos, List, [], ◌∷◌, ◌++◌, length, get_or, map, take, drop, replicate, mod-eq_of_lt, mul-le-mul_left, arith, ext_get_or, length-drop, lit≤}
 use Rattle.std.proofs.Math.Nat.{add-mul-mod_self_left, add-mul-div_left, div-eq_of_lt, div-add-mod, mul-mod_right, mul-le-mul_right, le-mul_of_pos_right}
 use Rattle.std.{proofs.lemmas.Bool.{cases_lt}, proofs.lemmas.Nat.{div_below}, proofs.Math.Seq.{take-take}}
 use Rattle.std.proofs.lemmas.List.{length-map, get_or-take, get_or-drop, get_or-append_right, length-take-le, take-append-le, take-map, drop-map, map-append}
@@ -8,7 +8,8 @@ use Rattle.zf_spec.specs.Grid.{IsShape, product, coordinates, extents, max_value
 use Rattle.zf_spec.{proofs.Counting.{get_or-map-upto}, proofs.Raster.{length-coordinates, length-extents}}
 use Rattle.zf_base.proofs.Boxes.{product-append_ones, raster-append_zeros, coordinates-append_ones, extents-append_ones}
 use Rattle.zf_base.{proofs.Extents.{map-zeros}, proofs.Sizes.{axes-with_unused, all_axes, product-axes}}
-use Rattle.zf_pad.specs.Stored.{start_at, stored_index, raster_of, line_len, other_sizes, IsLine, LinePart}
+use Rattle.zf_pad.specs.Stored.{start_at, stored_index, raster_of, line_len, other_sizes, IsLine, IsKnown, LinePart}
+use Rattle.zf_pad.specs.declared.storing.{Line.{Line}, Known.{Known}}
 
 -- ---- along four axes
 
@@ -115,6 +116,57 @@ module _ (n first lines line x all : ℕ) (begins : x % 4 ≡ 0) (below : line <
   rest_within b rest within =
       let up : line + 1 ≤ lines = omega (arith, below) in
       omega (arith, mul-le-mul_right lines within, mul-le-mul_left rest up, fits)
+
+-- ---- lines of one layer of blocks
+
+-- along one axis more, in which the place is p: what `along` makes of a line
+module _ (n : ℕ) (ns : List ℕ) (k left : ℕ) (inner line : Line) (h : IsLine ns (coordinates ns (k / n)) inner.first inner.lines inner.line)
+    (first : line.first ≡ 4 * (k % n / 4) * inner.lines + n * inner.first) (lines : line.lines ≡ min 4 (n - 4 * (k % n / 4)) * inner.lines)
+    (number : line.line ≡ k % n % 4 + min 4 (n - 4 * (k % n / 4)) * inner.line) (below : inner.line < inner.lines)
+    (on : k % n + left < n) (few : k % n % 4 + left < 4) where
+  pub lines_behind : (j : ℕ) → j ≤ left → IsLine (n ∷ ns) (coordinates (n ∷ ns) (k + j)) line.first line.lines (line.line + j)
+  lines_behind j le =
+      let same = same_line n k j (omega (arith, on, le)) in
+      let quarter : (k % n + j) / 4 ≡ k % n / 4 = omega (arith, few, le) in
+      let place : (k % n + j) % 4 ≡ k % n % 4 + j = omega (arith, few, le) in
+      let sum : line.line + j ≡ k % n % 4 + j + min 4 (n - 4 * (k % n / 4)) * inner.line = omega (arith, number) in
+      rw (same.x_is, same.line_is) (record {
+        first_is = first ∙ (λ i. 4 * sym quarter i * h.lines_are i + n * h.first_is i);
+        lines_are = lines ∙ (λ i. min 4 (n - 4 * sym quarter i) * h.lines_are i);
+        line_is = sum ∙ (λ i. sym place i + min 4 (n - 4 * sym quarter i) * h.line_is i);
+      })
+
+  pub left_below : line.line + left < line.lines
+  left_below =
+      let e = min 4 (n - 4 * (k % n / 4)) in
+      let more : k % n % 4 + left + 1 ≤ e = omega (arith, on, few) in
+      let up : inner.line + 1 ≤ inner.lines = omega (arith, below) in
+      omega (arith, number, lines, more, mul-le-mul_left e up)
+
+  pub left_within : k < n * product ns → k + left < n * product ns
+  left_within lt =
+      let up : k / n + 1 ≤ product ns = omega (arith, div_below k n (product ns) (omega (arith, on)) (omega (arith, lt))) in
+      omega (arith, on, div-add-mod k n, mul-le-mul_left n up)
+
+-- a line that is known
+pub known_here : (ns : List ℕ) (k : Known) (m : ℕ) → IsKnown ns k → k.number ≡ m → IsLine ns (coordinates ns m) k.line.first k.line.lines k.line.line
+known_here ns k m h is =
+    let there : k.number + 0 ≡ m = omega (arith, is) in
+    let line : k.line.line + 0 ≡ k.line.line = omega arith in
+    rw (there, line) at (h.each 0 (omega arith))
+
+-- the next one
+pub known_next : (ns : List ℕ) (k : Known) (number : ℕ) → IsKnown ns k → k.left ≢ 0 → k.number + 1 ≡ number
+    → IsKnown ns (record { number = number; line = record k.line { line = k.line.line + 1 }; left = k.left - 1 })
+known_next ns k number h some next = record {
+  each = λ j le.
+      let there : k.number + (1 + j) ≡ number + j = omega (arith, next) in
+      let line : k.line.line + (1 + j) ≡ k.line.line + 1 + j = omega arith in
+      rw (there, line) at (h.each (1 + j) (omega (arith, le, some)));
+  below = omega (arith, h.below, some);
+  fits = h.fits;
+  within = omega (arith, h.within, some, next);
+}
 
 -- the number of a line is below the number of lines
 pub line_below : (ns : List ℕ) (n from : ℕ) → IsShape ns → n ≡ line_len ns → from < product ns → from / n < product (other_sizes ns)

@@ -3,6 +3,7 @@
 use Rattle.std.specs.Prelude.{ℕ, ◌≡◌, ◌+◌, ◌*◌, ◌/◌, ◌%◌, ◌^◌, ◌<◌, ◌≤◌, ◌⊎◌, true, ℤ, pos, List, [], ◌∷◌}
 use Rattle.std.specs.Prelude.{◌++◌, map, length, slice_index_or}
 use Rattle.std.specs.List.{AllByRecursion}
+use Rattle.zf_pad.specs.declared.storing.Known.{Known}
 use Rattle.zf_spec.specs.Grid.{IsShape, product, coordinates, raster, is_inside, indices, extents, upto}
 
 -- how many values the blocks before the one with these coordinates have
@@ -53,6 +54,13 @@ pub record IsLine (ns ps : List ℕ) (first lines line : ℕ) : Type 0 where
   pub first_is : first ≡ start_at ns (map (λ p. p / 4) ps)
   pub lines_are : lines ≡ product (extents ns (map (λ p. p / 4) ps))
   pub line_is : line ≡ raster (extents ns (map (λ p. p / 4) ps)) (map (λ p. p % 4) ps)
+
+-- a line with its number, and those behind it in the same layer of blocks: each is the next one there
+pub record IsKnown (ns : List ℕ) (k : Known) : Type 0 where
+  pub each : (j : ℕ) → j ≤ k.left → IsLine ns (coordinates ns (k.number + j)) k.line.first k.line.lines (k.line.line + j)
+  pub below : k.line.line + k.left < k.line.lines
+  pub fits : k.line.first + k.line.lines ≤ product ns
+  pub within : k.number + k.left < product ns
 
 -- so many values of one line, of n values, from one place on: the first of a block, and whole blocks or all
 -- that is left

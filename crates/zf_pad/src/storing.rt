@@ -4,10 +4,10 @@
 ghost use Rattle.std.specs.Prelude.{◌≡◌, ◌⊎◌, ◌+◌, ◌-◌, ◌*◌, ◌/◌, ◌%◌, ◌^◌, ◌<◌, ◌≤◌, ◌++◌, min, ℕ, true};
 ghost use Rattle.std.specs.Prelude.{pos, length, map, take, drop, replicate, slice_index_or, vec_len};
 ghost use Rattle.std.specs.Prelude.{vec_capacity};
-ghost use Rattle.zf_spec.specs.Grid.{product, blocks, coordinates, extent_of, max_values};
+ghost use Rattle.zf_spec.specs.Grid.{product, blocks, extent_of, max_values};
 ghost use Rattle.zf_base.specs.Positions.{used_axes, IsExtent};
 ghost use Rattle.zf_pad.specs.Stored.{HasWholeBlocks, AppendsBlock, raster_of, line_len, other_sizes};
-ghost use Rattle.zf_pad.specs.Stored.{IsFirst, IsLine, LinePart};
+ghost use Rattle.zf_pad.specs.Stored.{IsFirst, IsKnown, LinePart};
 
 use crate::array_block::part_of;
 use crate::copies::{copy_row, scatter};
@@ -63,11 +63,11 @@ fn append_whole<T: Lane>(d: u8, block: &[T], stored: &mut Vec<T>)
     ensures items { stored.new.items ≡ stored.old.items ++ block.now }
     ensures capacity { vec_capacity stored.old ≤ vec_capacity stored.new }
 {
-    if d == 1 {
-        // four, so that the copy needs no call
-        append(&block[..4], stored);
-    } else {
-        append(block, stored);
+    // Where there are few, their number is said, so that the copy needs no call.
+    match d {
+        1 => append(&block[..4], stored),
+        2 => append(&block[..16], stored),
+        _ => append(block, stored),
     }
 }
 
@@ -152,11 +152,12 @@ pub fn copy_lines<T: Lane>(shape: &Shape, stored: &[T], from: u64, part: &mut [T
     let _dims = shape.dims();
     let n = shape.size(0);
     let left = (shape.values() - from) as usize;
+    let mut known = known_line(shape, from / n);
     let mut held = 0;
     while held < left && held + 4 <= part.len() {
         let at = from + held as u64;
         let count = next_count(n - at % n, part.len() - held);
-        copy_line(shape, stored, at, held, count, part);
+        copy_line(shape, stored, at, held, count, &mut known, part);
         held += count;
     }
     held
@@ -180,16 +181,19 @@ fn next_count(left: u64, room: usize) -> usize
     }
 }
 
-// Copies values of one line to the places from `to` on: those from raster number `from` on.
+// Copies values of one line to the places from `to` on: those from raster number `from` on. `known` is a line
+// before, and then this one.
 fn copy_line<T: Lane>(
     shape: &Shape,
     stored: &[T],
     from: u64,
     to: usize,
     count: usize,
+    known: &mut Known,
     part: &mut [T],
 )
     requires all { product shape.now ≤ length stored.now }
+    requires known { IsKnown (other_sizes shape.now) known.old }
     requires within { from < product shape.now }
     requires line { from % line_len shape.now + count ≤ line_len shape.now }
     requires first { IsFirst shape.now from }
@@ -198,10 +202,11 @@ fn copy_line<T: Lane>(
     ensures before { take to part.new ≡ take to part.old }
     ensures values { (i : ℕ) → i < count → slice_index_or (map T.value part.new) (to + i) (pos 0)
         ≡ slice_index_or (raster_of shape.now (map T.value stored.now)) (from + i) (pos 0) }
+    ensures known { IsKnown (other_sizes shape.now) known.new }
 {
-    let (n, line) = line_at(shape, from, count);
+    let n = line_at(shape, from, count, known);
     let x = from % n;
-    let Line { first, lines, line } = line;
+    let Line { first, lines, line } = known.line;
     let start = n * first + x * lines;
     let blocks = count / 4;
     let rest = count % 4;
@@ -261,36 +266,71 @@ fn copy_rest<T: Lane>(stored: &[T], from: usize, to: usize, count: usize, part: 
 // Of a line, the values that differ in x alone: how many lines the layers of blocks before its own have, how
 // many its own layer has, and which of them it is.
 #[derive(Clone, Copy)]
-struct Line {
-    first: u64,
-    lines: u64,
-    line: u64,
+pub(crate) struct Line {
+    pub(crate) first: u64,
+    pub(crate) lines: u64,
+    pub(crate) line: u64,
 }
 
-// How many values a line has, and the line of the value with raster number `from`, of which `count` are
-// wanted.
+/// A line with its number, and how many lines behind it lie in the same layer of blocks.
+#[derive(Clone, Copy)]
+pub(crate) struct Known {
+    pub(crate) number: u64,
+    pub(crate) line: Line,
+    pub(crate) left: u64,
+}
+
+// How many values a line has. `known` becomes the line of the value with raster number `from`, of which
+// `count` are wanted.
 #[inline]
-fn line_at(shape: &Shape, from: u64, count: usize) -> (u64, Line)
+fn line_at(shape: &Shape, from: u64, count: usize, known: &mut Known) -> u64
+    requires known { IsKnown (other_sizes shape.now) known.old }
     requires within { from < product shape.now }
     requires line { from % line_len shape.now + count ≤ line_len shape.now }
     requires first { IsFirst shape.now from }
     requires whole { (count % 4 ≡ 0) ⊎ (from % line_len shape.now + count ≡ line_len shape.now) }
-    ensures { LinePart shape.now from count result.0 result.1.first result.1.lines result.1.line }
+    ensures part { LinePart shape.now from count result
+        known.new.line.first known.new.line.lines known.new.line.line }
+    ensures known { IsKnown (other_sizes shape.now) known.new }
 {
     // tells that the sizes are a shape's, so their products fit
     let _dims = shape.dims();
     let n = shape.size(0);
-    let line = line_of(shape, from / n);
-    (n, line)
+    *known = line_after(shape, known, from / n);
+    n
 }
 
-// The line with this number.
-fn line_of(shape: &Shape, number: u64) -> Line
+// The line with this number. Mostly it is the one behind the line that is known, in the same layer of blocks;
+// then nothing is divided out.
+#[inline]
+fn line_after(shape: &Shape, known: &Known, number: u64) -> Known
+    requires known { IsKnown (other_sizes shape.now) known.now }
+    requires below { number < product (other_sizes shape.now) }
+    ensures known { IsKnown (other_sizes shape.now) result }
+    ensures number { result.number ≡ number }
+{
+    // tells that the sizes are a shape's, so their products fit
+    let _dims = shape.dims();
+    if known.left == 0 || known.number + 1 != number {
+        return known_line(shape, number);
+    }
+    let Line { first, lines, line } = known.line;
+    Known {
+        number,
+        line: Line {
+            first,
+            lines,
+            line: line + 1,
+        },
+        left: known.left - 1,
+    }
+}
+
+// The line with this number, from nothing.
+fn known_line(shape: &Shape, number: u64) -> Known
     requires { number < product (other_sizes shape.now) }
-    ensures line { IsLine (other_sizes shape.now) (coordinates (other_sizes shape.now) number)
-        result.first result.lines result.line }
-    ensures below { result.line < result.lines }
-    ensures fits { result.first + result.lines ≤ product (other_sizes shape.now) }
+    ensures known { IsKnown (other_sizes shape.now) result }
+    ensures number { result.number ≡ number }
 {
     // tells that the sizes are a shape's, so their products fit
     let _dims = shape.dims();
@@ -303,7 +343,11 @@ fn line_of(shape: &Shape, number: u64) -> Line
     let y = number % ny;
     let z = number / ny % nz;
     let w = number / ny / nz % nw;
-    along(along(along(all, nw, w), nz, z), ny, y)
+    Known {
+        number,
+        line: along(along(along(all, nw, w), nz, z), ny, y),
+        left: (ny - 1 - y).min(3 - y % 4),
+    }
 }
 
 // The line along one axis more, of `n` positions, at `p`.

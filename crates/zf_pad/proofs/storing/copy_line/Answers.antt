@@ -6,43 +6,43 @@ use Rattle.zf_pad.proofs.storing.copy_line.Goals as goal
 
 pub overflow_mul-start : goal.overflow_mul-start
 overflow_mul-start g c =
-    record { fits = omega (arith, numbers_small _ _ _ _ _ _ _ c.line_at-n.ensures) }
+    record { fits = omega (arith, numbers_small _ _ _ _ _ _ _ c.line_at-n.ensures.part) }
 
 pub overflow_mul-start-2 : goal.overflow_mul-start-2
 overflow_mul-start-2 g c =
-    record { fits = omega (arith, numbers_small _ _ _ _ _ _ _ c.line_at-n.ensures) }
+    record { fits = omega (arith, numbers_small _ _ _ _ _ _ _ c.line_at-n.ensures.part) }
 
 pub overflow_add-start : goal.overflow_add-start
 overflow_add-start g c =
-    record { fits = omega (arith, numbers_small _ _ _ _ _ _ _ c.line_at-n.ensures) }
+    record { fits = omega (arith, numbers_small _ _ _ _ _ _ _ c.line_at-n.ensures.part) }
 
 pub overflow_add-start-2 : goal.overflow_add-start-2
 overflow_add-start-2 g c =
-    record { fits = omega (arith, numbers_small _ _ _ _ _ _ _ c.line_at-n.ensures) }
+    record { fits = omega (arith, numbers_small _ _ _ _ _ _ _ c.line_at-n.ensures.part) }
 
 pub overflow_mul-last-2 : goal.overflow_mul-last-2
 overflow_mul-last-2 g c =
-    record { fits = omega (arith, rest_there _ _ _ _ _ _ _ c.line_at-n.ensures, c.line_at-n.ensures.shape.not_too_large) }
+    record { fits = omega (arith, rest_there _ _ _ _ _ _ _ c.line_at-n.ensures.part, c.line_at-n.ensures.part.shape.not_too_large) }
 
 pub overflow_add-last : goal.overflow_add-last
 overflow_add-last g c =
-    record { fits = omega (arith, rest_there _ _ _ _ _ _ _ c.line_at-n.ensures, c.line_at-n.ensures.shape.not_too_large) }
+    record { fits = omega (arith, rest_there _ _ _ _ _ _ _ c.line_at-n.ensures.part, c.line_at-n.ensures.part.shape.not_too_large) }
 
 pub overflow_add-last-2 : goal.overflow_add-last-2
 overflow_add-last-2 g c =
-    record { fits = omega (arith, rest_there _ _ _ _ _ _ _ c.line_at-n.ensures, c.line_at-n.ensures.shape.not_too_large) }
+    record { fits = omega (arith, rest_there _ _ _ _ _ _ _ c.line_at-n.ensures.part, c.line_at-n.ensures.part.shape.not_too_large) }
 
 pub copy_blocks-requires-clause-there : goal.copy_blocks-requires-clause-there
 copy_blocks-requires-clause-there g c =
-    λ b lt. omega (arith, blocks_there _ _ _ _ _ _ _ c.line_at-n.ensures b lt, c.requires.all)
+    λ b lt. omega (arith, blocks_there _ _ _ _ _ _ _ c.line_at-n.ensures.part b lt, c.requires.all)
 
 pub copy_blocks-requires-clause-small : goal.copy_blocks-requires-clause-small
 copy_blocks-requires-clause-small g c =
-    omega (arith, blocks_small _ _ _ _ _ _ _ c.line_at-n.ensures)
+    omega (arith, blocks_small _ _ _ _ _ _ _ c.line_at-n.ensures.part)
 
 pub copy_rest-requires-clause-there : goal.copy_rest-requires-clause-there
 copy_rest-requires-clause-there g c =
-    omega (arith, rest_there _ _ _ _ _ _ _ c.line_at-n.ensures, c.requires.all)
+    omega (arith, rest_there _ _ _ _ _ _ _ c.line_at-n.ensures.part, c.requires.all)
 
 pub returns-clause-before : goal.returns-clause-before
 returns-clause-before g c = search (rules, front_stays)
@@ -53,10 +53,10 @@ returns-clause-values g c =
     let stored = map value c.args.stored.now in
     let count = c.args.count in
     let to = c.args.to + 4 * (count / 4) in
-    let line = c.line_at-n.result.1 in
-    let from = c.line_at-n.result.0 * line.first + c.args.from % c.line_at-n.result.0 * line.lines + 4 * (count / 4) * line.lines + count % 4 * line.line in
+    let line = c.line_at-n.new.known.line in
+    let from = c.line_at-n.result * line.first + c.args.from % c.line_at-n.result * line.lines + 4 * (count / 4) * line.lines + count % 4 * line.line in
     let rest = rest_copied value from to (count % 4) c.args.stored.now c.copy_blocks.new.part c.copy_rest.new.part
-    (omega (arith, rest_there _ _ _ _ _ _ _ c.line_at-n.ensures, c.requires.all)) (omega (arith, c.copy_blocks.auto.part, c.requires.room)) c.copy_rest.ensures in
+    (omega (arith, rest_there _ _ _ _ _ _ _ c.line_at-n.ensures.part, c.requires.all)) (omega (arith, c.copy_blocks.auto.part, c.requires.room)) c.copy_rest.ensures in
     λ i lt.
     ⊎_elim
     (λ (l : i < 4 * (count / 4)).
@@ -64,7 +64,7 @@ returns-clause-values g c =
     rest.0 (c.args.to + i) (omega (arith, l))
     ∙ ap (λ j. get_or (map value c.copy_blocks.new.part) (c.args.to + j) (pos 0)) (sym place)
     ∙ c.copy_blocks.ensures.rows (i / 4) (i % 4) (omega (arith, l)) (omega arith)
-    ∙ sym (block_value _ _ _ _ _ _ _ c.line_at-n.ensures stored (i / 4) (i % 4) (omega (arith, l)) (omega arith))
+    ∙ sym (block_value _ _ _ _ _ _ _ c.line_at-n.ensures.part stored (i / 4) (i % 4) (omega (arith, l)) (omega arith))
     ∙ ap (λ j. get_or (raster_of c.args.shape.now stored) (c.args.from + j) (pos 0)) place)
     (λ (l : 4 * (count / 4) ≤ i).
     let k = i - 4 * (count / 4) in
@@ -73,6 +73,6 @@ returns-clause-values g c =
     let small : k < count % 4 = omega (arith, lt, l) in
     ap (λ j. get_or (map value c.copy_rest.new.part) j (pos 0)) at
     ∙ rest.1 k small
-    ∙ sym (rest_value _ _ _ _ _ _ _ c.line_at-n.ensures stored k small)
+    ∙ sym (rest_value _ _ _ _ _ _ _ c.line_at-n.ensures.part stored k small)
     ∙ ap (λ j. get_or (raster_of c.args.shape.now stored) (c.args.from + j) (pos 0)) place)
     (cases_lt i (4 * (count / 4)))

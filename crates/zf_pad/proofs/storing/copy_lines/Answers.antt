@@ -2,7 +2,7 @@ use Rattle.std.proofs.Common.{rules, ◌≡◌, ℕ, ◌+◌, ◌-◌, ◌%◌, 
 use Rattle.std.proofs.lemmas.List.{length-map, take-map}
 use Rattle.zf_spec.specs.Grid.{product}
 use Rattle.zf_pad.{specs.Stored.{raster_of, line_len}, proofs.Stored.{length-raster_of}}
-use Rattle.zf_pad.proofs.StoredLines.{next_first, line_end, taken_more}
+use Rattle.zf_pad.proofs.StoredLines.{next_first, line_below, line_end, taken_more}
 use Rattle.zf_pad.proofs.storing.copy_lines.Goals as goal
 
 -- so much of a line, by its size as the shape tells it
@@ -15,6 +15,9 @@ module _ (n m at count : ℕ) (is : m ≡ n) (some : 1 ≤ count) (left : count 
 
   or_all : (count % 4 ≡ 0) ⊎ (count ≡ m - at % m) → (count % 4 ≡ 0) ⊎ (at % n + count ≡ n)
   or_all whole = ⊎_elim (λ fours. inl fours) (λ all. inr (omega (arith, all, x_is, is, some, left))) whole
+
+pub known_line-known-requires : goal.known_line-known-requires
+known_line-known-requires g c = line_below c.args.shape.now c.size-n.result c.args.from c.dims-dims.ensures.shape c.size-n.ensures c.requires.within
 
 pub loop-held-preserved : goal.loop-held-preserved
 loop-held-preserved g c =
@@ -38,6 +41,7 @@ loop-held-preserved g c =
     record {
       within = omega (arith, ends, c.values.ensures.value, c.requires.within);
       room = room;
+      known = c.copy_line.ensures.known;
       first = ap (λ k. k % n % 4) (sym place) ∙ next_first n (from + held) count so_far.first within whole;
       values = search (rules, taken_more, length-map, length-raster_of);
     }

@@ -1,11 +1,12 @@
 use Rattle.std.proofs.Common.{◌≡◌, ◌+◌, ◌-◌, ◌≤◌, map, take, drop, length}
-use Rattle.zf_pad.specs.Stored.{raster_of, IsFirst}
+use Rattle.zf_pad.specs.Stored.{raster_of, IsFirst, IsKnown, other_sizes}
 use Rattle.zf_pad.proofs.storing.copy_lines.Given as goal
 
 -- the values so far were copied
 pub record Copied (g : goal.Over) (l : goal.Live-loop-held g) : Type 0 where
   pub within : l.held ≤ l.left
   pub room : l.held ≤ length l.part
+  pub known : IsKnown (other_sizes l.shape) l.known
   pub first : IsFirst l.shape (l.from + l.held)
   pub values : take l.held (map g.T.Lane.value l.part) ≡ take l.held (drop l.from (raster_of l.shape (map g.T.Lane.value l.stored)))
 

@@ -37,8 +37,8 @@ new-requires c =
     let end = YieldsList-end (YieldsList-parts word split.result c.into_iter-part-iterator.ensures.into_iter_gives split.ensures.text split.ensures.has_more split.ensures.pattern) c.loop-part.yielded _ c.loop-part.yielded_by _ _ c.in-None.is c.next.ensures.steps in
     search (rules, some_part)
 
-pub returns-clause-shape : goal.returns-clause-shape
-returns-clause-shape c =
+pub returns : goal.returns
+returns c =
     let word = c.args.word.now in
     let sizes = take c.loop-part.dims c.loop-part.sizes in
     let split = c.split-part-items in
@@ -46,16 +46,7 @@ returns-clause-shape c =
     let cut : parts_of word ≡ map decimal sizes = sym end.0 ∙ c.loop-part.invariant.parts in
     let is_sizes : take c.loop-part.dims (get_or c.loop-part.sizes 0 0 ∷ get_or c.loop-part.sizes 1 0 ∷ get_or c.loop-part.sizes 2 0 ∷ get_or c.loop-part.sizes 3 0 ∷ []) ≡ sizes = ap (take c.loop-part.dims) (four_elements c.loop-part.sizes c.loop-part.invariant.four) in
     let iff : IsOk c.new.result ↔ IsShape sizes = subst (λ ns. IsOk c.new.result ↔ IsShape ns) is_sizes c.new.ensures.shape in
-    let same : IfOk c.new.result (λ shape. shape ≡ sizes) = subst (λ ns. IfOk c.new.result (λ shape. shape ≡ ns)) is_sizes c.new.ensures.sizes in
-    shape_some word sizes c.new.result c.ok.result cut iff same c.ok.ensures.value
-
-pub returns-clause-none : goal.returns-clause-none
-returns-clause-none c =
-    let word = c.args.word.now in
-    let sizes = take c.loop-part.dims c.loop-part.sizes in
-    let split = c.split-part-items in
-    let end = YieldsList-end (YieldsList-parts word split.result c.into_iter-part-iterator.ensures.into_iter_gives split.ensures.text split.ensures.has_more split.ensures.pattern) c.loop-part.yielded _ c.loop-part.yielded_by _ _ c.in-None.is c.next.ensures.steps in
-    let cut : parts_of word ≡ map decimal sizes = sym end.0 ∙ c.loop-part.invariant.parts in
-    let is_sizes : take c.loop-part.dims (get_or c.loop-part.sizes 0 0 ∷ get_or c.loop-part.sizes 1 0 ∷ get_or c.loop-part.sizes 2 0 ∷ get_or c.loop-part.sizes 3 0 ∷ []) ≡ sizes = ap (take c.loop-part.dims) (four_elements c.loop-part.sizes c.loop-part.invariant.four) in
-    let iff : IsOk c.new.result ↔ IsShape sizes = subst (λ ns. IsOk c.new.result ↔ IsShape ns) is_sizes c.new.ensures.shape in
-    shape_none word sizes c.new.result c.ok.result c.loop-part.invariant.small cut iff c.ok.ensures.value
+    let same : IfOk c.new.result (λ shape. shape ≡ sizes) = subst (λ ns. IfOk c.new.result (λ shape. shape ≡ ns)) is_sizes c.new.ensures.sizes in record {
+      shape = shape_some word sizes c.new.result c.ok.result cut iff same c.ok.ensures.value;
+      none = shape_none word sizes c.new.result c.ok.result c.loop-part.invariant.small cut iff c.ok.ensures.value;
+    }
