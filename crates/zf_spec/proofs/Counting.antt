@@ -68,9 +68,5 @@ map-upto_same {X} f g n h = from 0 n (λ k p q. h k (omega arith))
 
 -- a list of four is that of its elements
 pub four_elements : (xs : List ℕ) → length xs ≡ 4 → get_or xs 0 0 ∷ get_or xs 1 0 ∷ get_or xs 2 0 ∷ get_or xs 3 0 ∷ [] ≡ xs
-four_elements [] four = absurd (omega arith)
-four_elements (a ∷ []) four = absurd (omega arith)
-four_elements (a ∷ b ∷ []) four = absurd (omega arith)
-four_elements (a ∷ b ∷ c ∷ []) four = absurd (omega arith)
 four_elements (a ∷ b ∷ c ∷ d ∷ []) four = refl
-four_elements (a ∷ b ∷ c ∷ d ∷ e ∷ xs) four = absurd (omega arith)
+four_elements _ four = absurd (omega arith)

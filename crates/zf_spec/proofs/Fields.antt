@@ -1,5 +1,5 @@
 -- The lowest bits of a number, and the number that bits stand for.
-use Rattle.std.proofs.Common.{◌≡◌, refl, sym, ap, ◌∙◌, ℕ, zero, suc, ◌+◌, ◌*◌, ◌/◌, ◌%◌, ◌^◌, ◌<◌, Bool, true, false, List, [], ◌∷◌, ◌++◌, length, get_or, replicate, pow-suc, mod-eq_of_lt, pow_pos, arith}
+use Rattle.std.proofs.Common.{◌≡◌, refl, sym, ap, ◌∙◌, ℕ, zero, suc, ◌+◌, ◌*◌, ◌/◌, ◌%◌, ◌^◌, ◌<◌, Bool, true, false, List, [], ◌∷◌, ◌++◌, length, get_or, replicate, pow-suc, mod-eq_of_lt, pow_pos, arith, rules}
 use Rattle.std.{proofs.lemmas.Nat.{mod-pow-add, shr-shr}, proofs.Math.Nat.{div-one, mod-one}}
 use Rattle.zf_spec.{specs.Numbers.{is_odd, digit_value, field, number}, proofs.Halves.{digit_value-is_odd}}
 
@@ -24,10 +24,9 @@ half-digit_value b n = grind arith
 -- bits are the field of their number
 pub field-number : (n : ℕ) (bs : List Bool) → length bs ≡ n → field n (number bs) ≡ bs
 field-number zero [] l = refl
-field-number zero (b ∷ bs) l = cc
-field-number (suc n) [] l = cc
 field-number (suc n) (b ∷ bs) l =
     cc (is_odd-digit_value b (number bs), half-digit_value b (number bs), field-number n bs (omega arith))
+field-number _ _ l = cc
 
 pub number-lt : (bs : List Bool) → number bs < 2 ^ length bs
 number-lt [] = omega arith
@@ -59,8 +58,7 @@ number-append (a ∷ as') bs = omega (arith, number-append as' bs, ap (λ p. p *
 
 -- bit k of a field
 pub get_or-field : (n v k : ℕ) (d : Bool) → k < n → get_or (field n v) k d ≡ is_odd (v / 2 ^ k)
-get_or-field zero v k d h = absurd (omega arith)
-get_or-field (suc n) v zero d h = ap is_odd (sym (div-one v))
 get_or-field (suc n) v (suc k) d h =
     let up : v / 2 / 2 ^ k ≡ v / 2 ^ suc k = shr-shr v 1 k ∙ ap (λ j. v / 2 ^ j) (omega arith) in
     get_or-field n (v / 2) k d (omega arith) ∙ ap is_odd up
+get_or-field _ v k d h = search rules

@@ -23,11 +23,10 @@ length-group_in : (m : ℕ) (s : List Bool) → ((t : List Bool) → length (run
 length-group_in m s run = grind (arith, length-replicate)
 
 pub length-run_in : (m : ℕ) (s : List Bool) → length (run_in m s) ≡ m
-length-run_in zero s = refl
-length-run_in (suc zero) s = refl
 length-run_in (suc (suc m)) [] = ap suc (length-run_in (suc m) [])
 length-run_in (suc (suc m)) (false ∷ s) = ap suc (length-run_in (suc m) s)
 length-run_in (suc (suc m)) (true ∷ s) = ap suc (length-group_in (suc m) s (length-run_in (suc m)))
+length-run_in _ s = refl
 
 pub length-tail_in : (m : ℕ) (s : List Bool) → length (tail_in m s) ≡ m
 length-tail_in m s = length-group_in m s (length-run_in m)
@@ -58,10 +57,8 @@ full_run_begins (suc m) (true ∷ s) =
     (refl, subst (λ c. Begins c (true ∷ s)) (sym code) (refl, full_group_begins (suc m) s (omega arith) (full_run_begins m)))
 
 pub full_tail_begins : (m : ℕ) (s : List Bool) → Begins (tail (tail_in m s)) s
-full_tail_begins zero [] = tt
-full_tail_begins zero (false ∷ s) = tt
-full_tail_begins zero (true ∷ s) = tt
 full_tail_begins (suc m) s = full_group_begins (suc m) s (omega arith) (full_run_begins m)
+full_tail_begins _ s = search rules
 
 -- ---- no other digits have such a code
 
@@ -70,21 +67,18 @@ full_group_only : (ds s : List Bool) → ((t : List Bool) → has_one ds ≡ tru
 full_group_only ds s run h = search (rules, zeros_from_none, true≢false, false≢true)
 
 full_run_only : (ds t : List Bool) → has_one ds ≡ true → Begins (code_from_run ds) t → ds ≡ run_in (length ds) t
-full_run_only [] t e h = absurd (false≢true e)
 full_run_only (true ∷ []) t e h = refl
-full_run_only (false ∷ []) t e h = absurd (false≢true e)
 full_run_only (true ∷ d ∷ ds) [] e h = absurd (true≢false h.0)
 full_run_only (true ∷ d ∷ ds) (false ∷ t) e h = absurd (true≢false h.0)
 full_run_only (true ∷ d ∷ ds) (true ∷ t) e h = ap (λ cs. true ∷ cs) (full_group_only (d ∷ ds) t (full_run_only (d ∷ ds)) h.1)
 full_run_only (false ∷ d ∷ ds) [] e h = ap (λ cs. false ∷ cs) (full_run_only (d ∷ ds) [] e h.1)
 full_run_only (false ∷ d ∷ ds) (true ∷ t) e h = absurd (false≢true h.0)
 full_run_only (false ∷ d ∷ ds) (false ∷ t) e h = ap (λ cs. false ∷ cs) (full_run_only (d ∷ ds) t e h.1)
+full_run_only _ t e h = absurd (false≢true e)
 
 pub full_tail_only : (ds s : List Bool) → Begins (tail ds) s → ds ≡ tail_in (length ds) s
-full_tail_only [] [] h = refl
-full_tail_only [] (false ∷ s) h = refl
-full_tail_only [] (true ∷ s) h = refl
 full_tail_only (d ∷ ds) s h = full_group_only (d ∷ ds) s (full_run_only (d ∷ ds)) h
+full_tail_only _ s h = search rules
 
 -- ---- planes
 

@@ -7,7 +7,6 @@ use Rattle.zf_spec.specs.Planes.{has_one, reach, group, code_from_run, tail, pla
 use Rattle.zf_spec.specs.Kept.{zeros, kept_run, kept_tail, cut_plane, kept_plane, kept_planes_from, kept_planes}
 use Rattle.zf_spec.{specs.ReadPlanes.{first_bits, planes_in}, proofs.Reach.{reach-le}}
 use Rattle.zf_spec.proofs.Beginnings.{begins_is_first, begins_from_first, begins_itself, first_bits-first_bits, first_bits-append, first_bits-rest, first_bits-prefix, first_bits-all}
-use Rattle.zf_spec.proofs.KeptCases.{kept_tail-zeros, kept_tail-one}
 use Rattle.zf_spec.proofs.Full.{full_plane_only, full_begins, full_only, length-planes_in, planes_in-length}
 
 zeros_same : (a b : List Bool) → length a ≡ length b → zeros a ≡ zeros b
@@ -20,17 +19,10 @@ abbrev RunsSame : List Bool → List Bool → Type 0
 RunsSame a b = (s : ℕ) → has_one a ≡ true → has_one b ≡ true → first_bits s (code_from_run a) ≡ first_bits s (code_from_run b) → kept_run s a ≡ kept_run s b
 
 groups_same : (a b : List Bool) (r : ℕ) → length a ≡ length b → RunsSame a b → first_bits r (group a (code_from_run a)) ≡ first_bits r (group b (code_from_run b)) → kept_tail r a ≡ kept_tail r b
-groups_same a b zero l runs e = zeros_same a b l
-groups_same a b (suc r) l runs e = search (rules, kept_tail-one, kept_tail-zeros, zeros_same, true≢false, false≢true)
+groups_same a b _ l runs e = search rules
 
 runs_same : (a b : List Bool) → length a ≡ length b → RunsSame a b
-runs_same [] [] l s f g e = refl
-runs_same [] (d ∷ b) l s f g e = absurd (omega arith)
-runs_same (c ∷ a) [] l s f g e = absurd (omega arith)
 runs_same (c ∷ a) (d ∷ b) l zero f g e = ap (λ ds. true ∷ ds) (zeros_same a b (omega arith))
-runs_same (c ∷ []) (d ∷ []) l (suc s) f g e = refl
-runs_same (c ∷ []) (d ∷ d' ∷ b) l (suc s) f g e = absurd (omega arith)
-runs_same (c ∷ c' ∷ a) (d ∷ []) l (suc s) f g e = absurd (omega arith)
 runs_same (true ∷ c' ∷ a) (true ∷ d' ∷ b) l (suc s) f g e =
     let rest : first_bits s (tail (c' ∷ a)) ≡ first_bits s (tail (d' ∷ b)) = cc in
     ap (λ ds. true ∷ ds) (groups_same (c' ∷ a) (d' ∷ b) s (omega arith) (runs_same (c' ∷ a) (d' ∷ b) (omega arith)) rest)
@@ -39,12 +31,11 @@ runs_same (false ∷ c' ∷ a) (false ∷ d' ∷ b) l (suc s) f g e =
     ap (λ ds. false ∷ ds) (runs_same (c' ∷ a) (d' ∷ b) (omega arith) s f g rest)
 runs_same (true ∷ c' ∷ a) (false ∷ d' ∷ b) l (suc s) f g e = let no : true ≡ false = cc in absurd (true≢false no)
 runs_same (false ∷ c' ∷ a) (true ∷ d' ∷ b) l (suc s) f g e = let no : false ≡ true = cc in absurd (false≢true no)
+runs_same _ _ l s f g e = search rules
 
 pub tails_same : (a b : List Bool) (r : ℕ) → length a ≡ length b → first_bits r (tail a) ≡ first_bits r (tail b) → kept_tail r a ≡ kept_tail r b
-tails_same [] [] r l e = refl
-tails_same [] (d ∷ b) r l e = absurd (omega arith)
-tails_same (c ∷ a) [] r l e = absurd (omega arith)
 tails_same (c ∷ a) (d ∷ b) r l e = groups_same (c ∷ a) (d ∷ b) r l (runs_same (c ∷ a) (d ∷ b) l) e
+tails_same _ _ r l e = search rules
 
 -- ---- one plane
 
@@ -131,8 +122,6 @@ kept_planes_from-none size n (ds ∷ ps) some all =
 kept_from_same : (size n r : ℕ) (ps qs : List (List Bool)) → 1 ≤ size → n ≤ size → length ps ≡ length qs → All (λ ds. length ds ≡ size) ps → All (λ ds. length ds ≡ size) qs
     → first_bits r (code_from n ps) ≡ first_bits r (code_from n qs) → kept_planes_from r n ps ≡ kept_planes_from r n qs
 kept_from_same size n r [] [] some h l f g e = refl
-kept_from_same size n r [] (b ∷ qs) some h l f g e = absurd (omega arith)
-kept_from_same size n r (a ∷ ps) [] some h l f g e = absurd (omega arith)
 kept_from_same size n r (a ∷ ps) (b ∷ qs) some h l f g e =
     let c = plane_code n a in
     let d = plane_code n b in
@@ -167,6 +156,7 @@ kept_from_same size n r (a ∷ ps) (b ∷ qs) some h l f g e =
     (λ (fits : length c ≤ r).
     whole (plane_same n r a b rest_a rest_b (length_a ∙ sym length_b) (omega (arith, length_a)) fits e) fits)
     (cases_lt r (length c))
+kept_from_same size n r _ _ some h l f g e = absurd (omega arith)
 
 pub kept_same : (size budget : ℕ) (ps qs : List (List Bool)) → 1 ≤ size → length ps ≡ length qs → All (λ ds. length ds ≡ size) ps → All (λ ds. length ds ≡ size) qs
     → first_bits budget (code ps) ≡ first_bits budget (code qs) → kept_planes budget ps ≡ kept_planes budget qs

@@ -48,12 +48,11 @@ first_digit k d s v (q, e) = by d (is_odd_int v) (half_split v) e
 -- the k lowest digits are the only k digits with that sum
 pub digits_only : (k : ℕ) (ds : List Bool) (v : ℤ) → length ds ≡ k → IsSameModulo k (digits_sum ds) v → ds ≡ digits k v
 digits_only zero [] v l h = refl
-digits_only zero (d ∷ ds) v l h = cc
-digits_only (suc k) [] v l h = cc
 digits_only (suc k) (d ∷ ds) v l h =
     let first = first_digit k d (digits_sum ds) v h in
     let rest = digits_only k ds (neg_ℤ (floor_half v)) (omega arith) first.1 in
     cc (first.0, rest)
+digits_only _ _ v l h = cc
 
 -- a value of the type is the value of its digits
 pub value_of-digits : (w : Width) (v : ℤ) → FitsSigned w v → value_of w (digits (bits w) v) ≡ v

@@ -19,24 +19,21 @@ comes_before_irrefl [] h = cc
 comes_before_irrefl (a ∷ as') h = ⊎_elim (λ l. omega arith) (λ p. comes_before_irrefl as' p.1) (comes_before_cases a a as' as' h)
 
 pub comes_before_trans : (as' bs cs : List ℕ) → comes_before as' bs ≡ true → comes_before bs cs ≡ true → comes_before as' cs ≡ true
-comes_before_trans [] bs cs f g = cc
-comes_before_trans (a ∷ as') [] cs f g = cc
-comes_before_trans (a ∷ as') (b ∷ bs) [] f g = cc
 comes_before_trans (a ∷ as') (b ∷ bs) (c ∷ cs) f g =
     let next = comes_before_trans as' bs cs in
     let first = comes_before_cases a b as' bs f in
     let second = comes_before_cases b c bs cs g in
     search (rules, comes_before_less, comes_before_same)
+comes_before_trans _ bs cs f g = cc
 
 -- of two lists of one length one comes before the other, or they are equal
 pub comes_before_total : (as' bs : List ℕ) → length as' ≡ length bs → (as' ≡ bs) ⊎ ((comes_before as' bs ≡ true) ⊎ (comes_before bs as' ≡ true))
 comes_before_total [] [] l = inl refl
-comes_before_total [] (b ∷ bs) l = cc
-comes_before_total (a ∷ as') [] l = cc
 comes_before_total (a ∷ as') (b ∷ bs) l =
     let next = comes_before_total as' bs (omega arith) in
     let order = cases_order a b in
     search (rules, comes_before_less, comes_before_same)
+comes_before_total _ _ l = cc
 
 -- ---- the keys of places
 

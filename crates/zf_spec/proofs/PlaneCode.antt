@@ -11,14 +11,12 @@ pub tail-zeros : (n : ℕ) → tail (replicate (suc n) false) ≡ false ∷ []
 tail-zeros n = ap (λ t. cond t (true ∷ code_from_run (replicate (suc n) false)) (false ∷ [])) (has_one-zeros (suc n))
 
 code_from_run-first : (j : ℕ) (e : Bool) (rest : List Bool) → code_from_run (replicate j false ++ true ∷ e ∷ rest) ≡ replicate j false ++ true ∷ tail (e ∷ rest)
-code_from_run-first zero e rest = refl
-code_from_run-first (suc zero) e rest = refl
 code_from_run-first (suc (suc j)) e rest = ap (λ ds. false ∷ ds) (code_from_run-first (suc j) e rest)
+code_from_run-first _ e rest = refl
 
 code_from_run-last : (j : ℕ) → code_from_run (replicate j false ++ true ∷ []) ≡ replicate j false
-code_from_run-last zero = refl
-code_from_run-last (suc zero) = refl
 code_from_run-last (suc (suc j)) = ap (λ ds. false ∷ ds) (code_from_run-last (suc j))
+code_from_run-last _ = refl
 
 -- digits that begin with zeros and then a one have a group bit and a run
 tail_some : (j : ℕ) (rest : List Bool) → tail (replicate j false ++ true ∷ rest) ≡ true ∷ code_from_run (replicate j false ++ true ∷ rest)
@@ -57,9 +55,8 @@ reach-rest : (d : Bool) (ds : List Bool) → reach ds ≤ reach (d ∷ ds) - 1
 reach-rest d ds = search (rules, reach_some, reach_none)
 
 pub reach-drop-le : (n : ℕ) (ds : List Bool) → reach (drop n ds) ≤ reach ds - n
-reach-drop-le zero ds = omega arith
-reach-drop-le (suc n) [] = omega arith
 reach-drop-le (suc n) (d ∷ ds) = omega (arith, reach-drop-le n ds, reach-rest d ds)
+reach-drop-le _ ds = omega arith
 
 -- a plane of this size takes at most its size and the ranks that have their first one in it
 pub length-plane_code-le : (size n : ℕ) (ds : List Bool) → length ds ≡ size → n ≤ size → length (plane_code n ds) + n ≤ size + max n (reach ds)

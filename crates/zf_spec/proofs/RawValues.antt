@@ -1,20 +1,19 @@
 -- Values and their raw bytes, and the length of the header.
-use Rattle.std.proofs.Common.{rules, ◌≡◌, refl, ap, ◌∙◌, ℕ, zero, suc, ◌+◌, ◌-◌, ◌*◌, ◌/◌, ◌^◌, ◌<◌, ◌≤◌, cond, le-leb, ℤ, pos, negsuc, FitsSigned, List, [], ◌∷◌, ◌++◌, length, drop, flat_map, All, drop_at, suc-mul, arith}
+use Rattle.std.proofs.Common.{rules, ◌≡◌, refl, ap, ◌∙◌, ℕ, zero, suc, ◌+◌, ◌-◌, ◌*◌, ◌/◌, ◌^◌, ◌<◌, ◌≤◌, cond, le-leb, ℤ, FitsSigned, List, [], ◌∷◌, ◌++◌, length, drop, flat_map, All, drop_at, suc-mul, arith}
 use Rattle.std.{proofs.lemmas.Int.{of_z-to_z, to_z-of_z}, proofs.lemmas.Bool.{lt-leb}}
 use Rattle.std.proofs.lemmas.List.{length-append}
 use Rattle.std.proofs.lemmas.List.Elements.{All-head, All-tail, All-nil, All-cons, All-drop, All-append}
 use Rattle.std.specs.Int.{Width, byte_len, to_le_bytes, from_le_bytes, cast_unsigned, cast_signed}
 use borrow.Author.Differences.{fits_in, read_fits}
 use mir.Val.{bits}
-use Rattle.zf_spec.{specs.Numbers.{field}, proofs.Wrapping.{bits_is_half}, proofs.Fields.{length-field}}
+use Rattle.zf_spec.{specs.Numbers.{field}, proofs.Fields.{length-field}}
 use Rattle.zf_spec.specs.Stream.{Mode, fixed_rate, raw, first_bytes, values_from, long_form, header}
 use Rattle.zf_spec.proofs.Bytes.{length-first_bytes, All-first_bytes, first_bytes-append, first_bytes-add, length-to_le_bytes, to_le_bytes_small, from_le_bytes-to_le_bytes, to_le_bytes-from_le_bytes, from_le_bytes_below}
 
 -- ---- one value
 
 unsigned_below : (w : Width) (v : ℤ) → FitsSigned w v → cast_unsigned w v < 2 ^ bits w
-unsigned_below w (pos n) f = omega (arith, f.sfits, bits_is_half w)
-unsigned_below w (negsuc n) f = omega (arith, f.sfits, bits_is_half w)
+unsigned_below w _ f = search rules
 
 signed_fits : (w : Width) (n : ℕ) → FitsSigned w (cast_signed w n)
 signed_fits w n = omega (arith, fits_in, read_fits w n)

@@ -43,10 +43,9 @@ first_is_before d p (s ∷ qs) q r h =
 
 -- in a rising list what stands earlier comes before what stands later
 pub earlier_is_before : (d : ℕ) (ps : List ℕ) (i j : ℕ) → Rises d ps → i < j → j < length ps → IsBefore d (get_or ps i 0) (get_or ps j 0)
-earlier_is_before d [] i j r f g = absurd (omega arith)
-earlier_is_before d (p ∷ ps) i zero r f g = absurd (omega arith)
 earlier_is_before d (p ∷ ps) zero (suc j) r f g = first_is_before d p ps (get_or ps j 0) r (Contains-get_or ps j 0 (omega arith))
 earlier_is_before d (p ∷ ps) (suc i) (suc j) r f g = earlier_is_before d ps i j (rises_rest d p ps r) (omega arith) (omega arith)
+earlier_is_before d _ i j r f g = absurd (omega arith)
 
 -- a rising list has each place once
 pub same_place : (d : ℕ) (ps : List ℕ) (i j : ℕ) → Rises d ps → i ≤ j → j < length ps → get_or ps i 0 ≡ get_or ps j 0 → i ≡ j
