@@ -1,8 +1,8 @@
 -- The words of a command, and the only command that a line is read as.
-use Rattle.std.proofs.Common.{◌≡◌, ℕ, zero, suc, ◌<◌, ◌≤◌, ℤ, List, [], ◌∷◌, length, get_or, take, Bool, true, false, not, ◌&&◌, ◌==◌, ◌↔◌, Option, Some, None, IsTrue, find, bytes_eq, refl, ap, sym, ◌∙◌, subst, arith, lit<, codes, decimal}
+use Rattle.std.proofs.Common.{◌≡◌, ℕ, suc, ◌<◌, ◌≤◌, ℤ, List, [], ◌∷◌, length, get_or, take, Bool, true, false, not, ◌&&◌, ◌==◌, ◌↔◌, Option, Some, None, IsTrue, find, bytes_eq, refl, ap, sym, ◌∙◌, subst, arith, lit<, codes, decimal, rules}
 use Rattle.std.{specs.Fmt.{signed_decimal}, specs.Str.Parse.{digits_value, signed_digits_value}}
 use Rattle.std.{specs.List.{AllByRecursion, list_all}, proofs.lemmas.Slice.Eq.{bytes_eq-Decides}}
-use Rattle.std.proofs.lemmas.Bool.{eqb-true, ltb-true, leb-true, not-true, and_parts, and_from, cond-true, cond-false, cond_both}
+use Rattle.std.proofs.lemmas.Bool.{eqb-true, ltb-true, leb-true, not-true, and_parts, and_from, cond-false, cond_both}
 use Rattle.std.proofs.lemmas.List.Elements.{All-nil, All-cons}
 use Rattle.zf_cached.specs.Commands.{Command}
 use Rattle.zf_cached.specs.Grammar.{IsNoDigit, space, comma, letter_x, numbers_text, view_word, words_of, line_of, is_number, is_value, has_axes, has_sizes, is_writable, cut_at, numbers_in, candidates, is_line, read_line}
@@ -96,8 +96,7 @@ words_no_space d (Command.pstats i) ok = (view_no_space i ok, (letters (codes "s
 words_no_space d c ok = (letters (get_or (words_of c) 0 []) refl, tt)
 
 some_word : (c : Command) → 1 ≤ length (words_of c)
-some_word (Command.get p) = omega arith
-some_word c = omega arith
+some_word c = search rules
 
 -- the text of a command is cut into its words
 pub cut_at-line_of : (d : ℕ) (c : Command) → is_writable d c ≡ true → cut_at space (line_of c) ≡ words_of c
@@ -105,11 +104,10 @@ cut_at-line_of d c ok = cut_at-joined space (words_of c) (some_word c) (words_no
 
 -- ---- the candidate of a command's own words
 found_at : (test : Command → Bool) (cs : List Command) (k : ℕ) (c : Command) → list_all (λ other. not (test other)) (take k cs) ≡ true → k < length cs → get_or cs k c ≡ c → test c ≡ true → find test cs ≡ Some c
-found_at test [] k c others lt same passes = absurd (omega arith)
-found_at test (x ∷ cs) zero c others lt same passes = cond-true (test x) (Some x) (find test cs) (ap test same ∙ passes) ∙ ap Some same
 found_at test (x ∷ cs) (suc k) c others lt same passes =
     let parts = and_parts (not (test x)) (list_all (λ other. not (test other)) (take k cs)) others in
     cond-false (test x) (Some x) (find test cs) (not-true (test x) parts.0) ∙ found_at test cs k c parts.1 (omega arith) same passes
+found_at test _ k c others lt same passes = search rules
 
 -- a command's own text is it
 own_line : (d : ℕ) (c : Command) → is_writable d c ≡ true → is_line d (line_of c) c ≡ true
@@ -244,8 +242,7 @@ read_line_iff d line c some =
     (read_line-Some d line c, λ is. ap (read_line d) is.1 ∙ read_line-line_of d c some is.0)
 
 option_none : (o : Option Command) → ((c : Command) → o ≡ Some c → ⊥) → o ≡ None
-option_none None none = refl
-option_none (Some c) none = absurd (none c refl)
+option_none _ none = search rules
 
 -- no command is read off a line that is the text of none
 pub read_line-None : (d : ℕ) (line : List ℕ) → ((c : Command) → is_writable d c ≡ true → line ≡ line_of c → ⊥) → read_line d line ≡ None

@@ -1,5 +1,5 @@
 -- The steps of a script keep the array in a state that is reached, and the window in the array.
-use Rattle.std.proofs.Common.{◌≡◌, ◌≢◌, refl, sym, ap, subst, ◌∙◌, ℕ, zero, suc, ◌<◌, ◌≤◌, ℤ, Bool, true, false, ◌&&◌, cond, eqb, eqb-true, List, [], ◌∷◌, map, length, set, replicate, Option, Some, None, is_none, is_some, ◌⊎◌, inl, inr, arith}
+use Rattle.std.proofs.Common.{◌≡◌, ◌≢◌, refl, sym, ap, subst, ◌∙◌, ℕ, zero, suc, ◌<◌, ◌≤◌, ℤ, Bool, true, false, ◌&&◌, cond, eqb, eqb-true, List, [], ◌∷◌, map, length, set, replicate, Option, Some, None, is_none, is_some, ◌⊎◌, inl, inr, arith, rules}
 use Rattle.std.{specs.Int.{Width}, proofs.lemmas.Bool.{and_parts, not-false, cases_eq, ltb-true}}
 use Rattle.std.{proofs.lemmas.List.{length-set, get_or-set_same, get_or-set_other}, specs.List.{list_all}}
 use Rattle.zf_spec.proofs.Counting.{length-map-upto, get_or-map-upto}
@@ -36,8 +36,7 @@ changed-alone setting s b change none = none
 
 -- a command that is not refused though it needs no split: there is none
 alone : (t : Bool) → elim t as (λ x. Bool) [ true ↦ true | false ↦ false ] ≡ false → t ≡ false
-alone true e = absurd (cc)
-alone false e = refl
+alone _ e = search rules
 
 as_many : (d : ℕ) (ns : List ℕ) → has_axes d ns ≡ true → length ns ≡ d
 as_many d ns h = eqb-true (length ns) d (and_parts (eqb (length ns) d) (list_all is_number ns) h).0
@@ -50,8 +49,7 @@ pub record IsTaken {Code : Type 0} (setting : Setting Code) (s : Session Code) (
   pub range : (tests setting s c).range ≡ false
 
 refusal_none : (p a b v m : Bool) → first_refusal p a b v m ≡ None → (p ≡ false) × (a ≡ false) × (b ≡ false)
-refusal_none false false false v m e = (refl, refl, refl)
-refusal_none p a b v m e = absurd (cc)
+refusal_none p a b v m e = search rules
 
 -- a step by whether the command is refused
 pub step_by : {Code : Type 0} (setting : Setting Code) (s : Session Code) (c : Command) (starving : Bool) (P : Session Code × Option Reply → Type 0)
@@ -68,8 +66,7 @@ step_by {Code} setting s c starving P refuses takes = by (refusal setting s c st
 
 -- an array that isn't split has no views
 pub no_views : (o : Option (List View)) → is_some o ≡ false → (i : ℕ) → i < length (views_in o) → ⊥
-no_views None none i lt = omega (arith, lt)
-no_views (Some views) none i lt = cc
+no_views _ none i lt = search rules
 
 -- the blocks of view i
 abbrev owner_in : {Code : Type 0} → Setting Code → Session Code → ℕ → ℕ → Bool
