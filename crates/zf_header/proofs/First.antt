@@ -29,12 +29,7 @@ same_first : (bytes : List ℕ) → SameNumbers (to_bits (take 19 bytes)) (to_bi
 same_first bytes = record { same = λ at n within. ap (number_at at n) (to_bits-take 19 bytes) ∙ number_at-take 152 at n (to_bits bytes) within }
 
 size_within : (d axis : ℕ) → 1 ≤ d → d ≤ 4 → axis < d → (36 + axis * (48 / d)) + 48 / d ≤ 152
-size_within zero axis some four used = absurd (omega arith)
-size_within (suc zero) axis some four used = omega arith
-size_within (suc (suc zero)) axis some four used = omega arith
-size_within (suc (suc (suc zero))) axis some four used = omega arith
-size_within (suc (suc (suc (suc zero)))) axis some four used = omega arith
-size_within (suc (suc (suc (suc (suc d))))) axis some four used = absurd (omega arith)
+size_within _ axis some four used = search rules
 
 same_sizes : (r s : List Bool) → SameNumbers r s → sizes_in r ≡ sizes_in s
 same_sizes r s same = search (rules, number_at_below, map-upto_same, size_within)

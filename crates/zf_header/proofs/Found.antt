@@ -1,5 +1,5 @@
 -- What is read is spelled so.
-use Rattle.std.proofs.Common.{rules, ◌≡◌, ℕ, zero, suc, ◌+◌, ◌-◌, ◌*◌, ◌<◌, ◌≤◌, ◌==◌, Bool, true, cond, List, [], ◌∷◌, ◌++◌, length, map, take, drop, refl, sym, ap, subst, ◌∙◌, arith}
+use Rattle.std.proofs.Common.{rules, ◌≡◌, ℕ, ◌+◌, ◌-◌, ◌*◌, ◌<◌, ◌≤◌, ◌==◌, Bool, true, cond, List, [], ◌∷◌, ◌++◌, length, map, take, drop, refl, sym, ap, subst, ◌∙◌, arith}
 use Rattle.std.{specs.List.{AllByRecursion}, proofs.lemmas.Bool.{ltb-true, eqb-true, and_parts}}
 use Rattle.std.proofs.lemmas.List.{length-take-le, length-take}
 use Rattle.zf_base.{specs.declared.lane.Ty.TheVariants.{I32, I64}, specs.Widths.{width_of}}
@@ -17,9 +17,7 @@ use Rattle.zf_header.proofs.Modes.{mode_said-short, mode_said-precision, mode_sa
 
 -- the type's number that was read is that of the type
 type_back : (t : ℕ) → t ≤ 1 → t ≡ type_number (width_of (cond (t == 0) I32 I64)) - 1
-type_back zero small = refl
-type_back (suc zero) small = refl
-type_back (suc (suc t)) small = absurd (omega arith)
+type_back _ small = search rules
 
 -- the number of the mode, and the bits behind it: none, or the long form
 record ModeBack (s : List Bool) (mode : Mode) : Type 0 where

@@ -1,22 +1,18 @@
 -- The mode that fields say.
-use Rattle.std.proofs.Common.{rules, ◌≡◌, ℕ, ◌+◌, ◌-◌, ◌<◌, ◌≤◌, ◌^◌, Bool, true, false, ◌&&◌, nat_le, List, refl, ap, ◌∙◌, le-leb, arith}
-use Rattle.std.proofs.lemmas.Bool.{cases_lt, ne_eqb, lt-leb, and_from, and_left, and_parts, leb-true}
+use Rattle.std.proofs.Common.{rules, ◌≡◌, ℕ, ◌+◌, ◌-◌, ◌<◌, ◌≤◌, ◌^◌, Bool, true, false, ◌&&◌, nat_le, List, refl, le-leb, arith}
+use Rattle.std.proofs.lemmas.Bool.{ne_eqb, lt-leb, and_from, and_left, and_parts, leb-true}
 use Rattle.zf_spec.specs.Stream.{mode_number}
-use Rattle.zf_header.{specs.declared.header.Mode.{Mode}, proofs.Parts.{short_number, long_number}}
+use Rattle.zf_header.{specs.declared.header.Mode.{Mode}}
 use Rattle.zf_header.specs.declared.header.Mode.TheVariants.{Reversible, Rate, Precision}
 use Rattle.zf_header.{specs.HeaderBits.{coding, IsMode, IsRate, block_bits}, proofs.Bits.{number_at_below}}
 use Rattle.zf_header.specs.HeaderFields.{mode_in, long_rate_in, is_long_rate, mode_said, header_in}
 
 -- a mode of a fixed rate is that of its bits a block
 pub mode_is_rate : (m : Mode) → IsRate m → m ≡ Rate (block_bits m)
-mode_is_rate Reversible is = absurd is
-mode_is_rate (Rate b) is = refl
-mode_is_rate (Precision p) is = absurd is
+mode_is_rate _ is = search rules
 
 pub rate_is_some : (m : Mode) → IsRate m → (1 ≤ block_bits m) × (block_bits m ≤ 32768)
-rate_is_some Reversible is = absurd is
-rate_is_some (Rate b) is = is
-rate_is_some (Precision p) is = absurd is
+rate_is_some _ is = search rules
 
 -- the test for the numbers of fixed precisions
 abbrev pub is_precision : ℕ → Bool
@@ -46,6 +42,4 @@ header_in-mode s = said_is_mode (mode_in s) (long_rate_in s) (number_at_below 84
 
 -- the mode that a header says is read again
 pub mode_again : (s : List Bool) (mode : Mode) → IsMode mode → mode_in s ≡ mode_number (coding mode) → ((b : ℕ) → mode ≡ Rate b → 2048 < b → (long_rate_in s ≡ b) × (is_long_rate s ≡ true)) → mode_said (mode_in s) (long_rate_in s) ≡ mode
-mode_again s Reversible has is long_is = mode_said-reversible (mode_in s) (long_rate_in s) is
-mode_again s (Precision p) has is long_is = mode_said-precision (mode_in s) (long_rate_in s) (omega arith) (omega arith) ∙ ap Precision (omega arith)
-mode_again s (Rate b) has is long_is = search (rules, cases_lt, mode_said-long, long_number, short_number, mode_said-short)
+mode_again s _ has is long_is = search rules

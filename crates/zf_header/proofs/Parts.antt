@@ -1,12 +1,11 @@
 -- A header field by field, and how long it is.
 use Rattle.std.proofs.Common.{rules, ◌≡◌, ◌≢◌, ℕ, ◌+◌, ◌-◌, ◌/◌, ◌<◌, ◌≤◌, Bool, cond, List, [], ◌++◌, length, refl, ap, arith, le-leb}
-use Rattle.std.{proofs.lemmas.Bool.{lt-leb, cases_lt}, specs.List.{flat_map}}
+use Rattle.std.{proofs.lemmas.Bool.{lt-leb}, specs.List.{flat_map}}
 use Rattle.zf_base.specs.Widths.{width_of}
 use Rattle.zf_spec.{specs.Numbers.{field}, specs.Grid.{IsShape}}
 use Rattle.zf_spec.specs.Stream.{magic, codec, type_number, mode_number, all_planes, no_exponent, long_form, header, fixed_rate}
-use Rattle.zf_spec.proofs.RawValues.{length-header, length-long_form, length-short_form}
+use Rattle.zf_spec.proofs.RawValues.{length-header}
 use Rattle.zf_header.{specs.declared.header.Header.{Header}, specs.declared.header.Mode.{Mode}}
-use Rattle.zf_header.specs.declared.header.Mode.TheVariants.{Reversible, Rate, Precision}
 use Rattle.zf_header.specs.HeaderBits.{coding, IsMode, header_bits}
 
 -- the fields of the sizes
@@ -44,20 +43,14 @@ long_form_long b lt = ap (λ t. cond t [] (long_fields b)) (lt-leb b 2048 lt)
 
 -- the number 4095 begins the long form, and no other does
 pub length-long_form_begun : (m : Mode) → IsMode m → mode_number (coding m) ≡ 4095 → length (long_form (coding m)) ≡ 52
-length-long_form_begun Reversible has is = absurd (omega arith)
-length-long_form_begun (Precision p) has is = absurd (omega arith)
-length-long_form_begun (Rate b) has is = search (rules, cases_lt, length-long_form, short_number)
+length-long_form_begun _ has is = search rules
 
 pub length-long_form_none : (m : Mode) → mode_number (coding m) ≢ 4095 → length (long_form (coding m)) ≡ 0
-length-long_form_none Reversible is_not = refl
-length-long_form_none (Precision p) is_not = refl
-length-long_form_none (Rate b) is_not = search (rules, cases_lt, long_number, length-short_form)
+length-long_form_none _ is_not = search rules
 
 -- no header is longer than one with the long form
 length-long_form-le : (m : Mode) → length (long_form (coding m)) ≤ 52
-length-long_form-le Reversible = omega arith
-length-long_form-le (Precision p) = omega arith
-length-long_form-le (Rate b) = search (rules, cases_lt, length-long_form, length-short_form)
+length-long_form-le _ = search rules
 
 pub length-header_bits_le : (h : Header) → IsShape h.shape → length (header_bits h) ≤ 148
 length-header_bits_le h shape = omega (arith, length-header_bits h shape, length-long_form-le h.mode)

@@ -1,5 +1,5 @@
 -- The fields of the sizes, end to end.
-use Rattle.std.proofs.Common.{◌≡◌, ℕ, zero, suc, ◌+◌, ◌-◌, ◌*◌, ◌/◌, ◌^◌, ◌≤◌, Bool, List, [], ◌∷◌, ◌++◌, length, map, take, drop, refl, sym, ap, ◌∙◌, arith, append_assoc, length-append, suc-mul}
+use Rattle.std.proofs.Common.{◌≡◌, ℕ, zero, suc, ◌+◌, ◌-◌, ◌*◌, ◌/◌, ◌^◌, ◌≤◌, Bool, List, [], ◌∷◌, ◌++◌, length, map, take, drop, refl, sym, ap, ◌∙◌, arith, append_assoc, length-append, suc-mul, rules}
 use Rattle.std.{specs.List.{flat_map, AllByRecursion}, proofs.lemmas.List.{drop-drop}}
 use Rattle.zf_spec.{specs.Numbers.{field}, specs.Grid.{IsShape, upto}, proofs.Fields.{length-field}}
 use Rattle.zf_spec.proofs.RawValues.{share}
@@ -46,12 +46,7 @@ sizes_at-fields w (n ∷ ns) at s before after some fit is count =
 
 -- the sizes by axis are those of the fields from bit 36 on
 sizes-by_axis : (d : ℕ) (s : List Bool) → 1 ≤ d → d ≤ 4 → map (λ axis. size_in d axis s) (upto d) ≡ sizes_at (48 / d) 36 d s
-sizes-by_axis zero s some four = absurd (omega arith)
-sizes-by_axis (suc zero) s some four = refl
-sizes-by_axis (suc (suc zero)) s some four = refl
-sizes-by_axis (suc (suc (suc zero))) s some four = refl
-sizes-by_axis (suc (suc (suc (suc zero)))) s some four = refl
-sizes-by_axis (suc (suc (suc (suc (suc d))))) s some four = absurd (omega arith)
+sizes-by_axis _ s some four = search rules
 
 pub length-size_bits : (ns : List ℕ) → 1 ≤ length ns → length ns ≤ 4 → length (size_bits ns) ≡ 48
 length-size_bits ns some four = length-fields (48 / length ns) ns ∙ share (length ns) some four

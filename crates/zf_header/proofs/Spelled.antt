@@ -1,6 +1,6 @@
 -- What is spelled so is read.
-use Rattle.std.proofs.Common.{rules, ◌≡◌, ℕ, ◌+◌, ◌-◌, ◌^◌, ◌<◌, ◌≤◌, ◌==◌, Bool, true, false, cond, nat_le, List, [], ◌++◌, length, map, drop, refl, sym, ap, subst, ◌∙◌, arith, append_assoc, length-append, length-take, lit<, lit≤, None, inl, inr}
-use Rattle.std.proofs.lemmas.Bool.{cases_lt, lt-ltb, eq-eqb, and_from}
+use Rattle.std.proofs.Common.{rules, ◌≡◌, ℕ, ◌+◌, ◌-◌, ◌^◌, ◌<◌, ◌≤◌, ◌==◌, Bool, true, false, cond, nat_le, List, [], ◌++◌, length, map, drop, refl, sym, ap, subst, ◌∙◌, arith, append_assoc, length-append, length-take, lit<, None}
+use Rattle.std.proofs.lemmas.Bool.{lt-ltb, eq-eqb, and_from}
 use Rattle.std.proofs.lemmas.List.{take-append-drop}
 use Rattle.zf_base.{specs.declared.lane.Ty.{Ty}, specs.declared.lane.Ty.TheVariants.{I32, I64}}
 use Rattle.zf_base.specs.Widths.{width_of}
@@ -8,13 +8,13 @@ use Rattle.zf_spec.{specs.Numbers.{field}, specs.Grid.{upto}, proofs.Fields.{len
 use Rattle.zf_spec.specs.Stream.{magic, codec, type_number, mode_number, all_planes, no_exponent, long_form, to_bits}
 use Rattle.zf_spec.proofs.Bytes.{length-to_bits}
 use Rattle.zf_header.{specs.declared.header.Header.{Header}, specs.declared.header.Mode.{Mode}}
-use Rattle.zf_header.specs.declared.header.Mode.TheVariants.{Reversible, Rate, Precision}
+use Rattle.zf_header.specs.declared.header.Mode.TheVariants.{Rate}
 use Rattle.zf_header.specs.HeaderBits.{coding, IsMode, IsRate, IsHeader, header_bits, BeginsWith}
 use Rattle.zf_header.specs.HeaderFields.{number_at, magic_in, codec_in, type_in, dims_in, size_in, mode_in, long_rate_in, is_long_rate, header_in}
 use Rattle.zf_header.{specs.HeaderFaults.{header_fault}, proofs.Pieces.{number_at_piece}}
-use Rattle.zf_header.proofs.Parts.{size_bits, long_fields, header_bits-parts, length-header_bits, short_number, long_number, long_form_long, length-long_form_begun}
+use Rattle.zf_header.proofs.Parts.{size_bits, long_fields, header_bits-parts, length-header_bits, long_form_long, length-long_form_begun}
 use Rattle.zf_header.{proofs.Sizes.{length-size_bits, sizes-size_bits}, proofs.Modes.{mode_again}}
-use Rattle.zf_header.proofs.Good.{GoodMode, short, precise, without_loss, long, Good, no_fault_of_good}
+use Rattle.zf_header.proofs.Good.{GoodMode, Good, no_fault_of_good}
 
 abbrev header_of : Ty → List ℕ → Mode → Header
 header_of ty ns mode = record { ty = ty; shape = ns; mode = mode }
@@ -23,8 +23,7 @@ same_header : {t u : Ty} {ns ms : List ℕ} {a b : Mode} → t ≡ u → ns ≡ 
 same_header p q r = cc
 
 type_le : (ty : Ty) → type_number (width_of ty) - 1 ≤ 1
-type_le I32 = lit≤ tt
-type_le I64 = lit≤ tt
+type_le _ = search rules
 
 -- the fields say what the header does
 pub record Says (s : List Bool) (h : Header) : Type 0 where
@@ -41,13 +40,10 @@ codec_small : (d : ℕ) → codec d < 2 ^ 8
 codec_small d = elim (nat_le d 2) as (λ t. cond t 5 69 < 2 ^ 8) [ true ↦ lit< tt | false ↦ lit< tt ]
 
 type_small : (ty : Ty) → type_number (width_of ty) - 1 < 2 ^ 2
-type_small I32 = lit< tt
-type_small I64 = lit< tt
+type_small _ = search rules
 
 mode_small : (mode : Mode) → IsMode mode → mode_number (coding mode) < 2 ^ 12
-mode_small Reversible has = lit< tt
-mode_small (Precision p) has = omega arith
-mode_small (Rate b) has = search (rules, cases_lt, long_number, short_number)
+mode_small _ has = search rules
 
 regroup4 : (x a b c d y : List Bool) → (x ++ (a ++ b ++ c ++ d)) ++ y ≡ (x ++ a) ++ (b ++ (c ++ (d ++ y)))
 regroup4 x a b c d y = simp append_assoc
@@ -121,8 +117,7 @@ spelled_says h y is =
 
 -- and so they say that header
 type_again : (ty : Ty) (t : ℕ) → t ≡ type_number (width_of ty) - 1 → cond (t == 0) I32 I64 ≡ ty
-type_again I32 t e = rw e refl
-type_again I64 t e = rw e refl
+type_again _ t e = search rules
 
 pub says_header : (s : List Bool) (h : Header) → IsHeader h → Says s h → header_in s ≡ h
 says_header s h is says = search (rules, type_again, mode_again, same_header)
@@ -135,12 +130,7 @@ one_header g h x y is_g is_h e =
 -- and the bytes have no fault
 good_mode_said : (bytes : List ℕ) (mode : Mode) → IsMode mode → mode_in (to_bits bytes) ≡ mode_number (coding mode) → (mode_number (coding mode) ≡ 4095 → 19 ≤ length bytes)
     → ((b : ℕ) → mode ≡ Rate b → 2048 < b → (long_rate_in (to_bits bytes) ≡ b) × (is_long_rate (to_bits bytes) ≡ true)) → GoodMode bytes
-good_mode_said bytes Reversible has is enough long_is = without_loss is
-good_mode_said bytes (Precision p) has is enough long_is = precise (omega arith) (omega arith)
-good_mode_said bytes (Rate b) has is enough long_is = elim (cases_lt 2048 b) [
-  | inl lt ↦ long (is ∙ long_number b lt) (enough (long_number b lt)) (long_is b refl lt).1
-  | inr le ↦ short (omega (arith, is, short_number b le))
-]
+good_mode_said bytes _ has is enough long_is = search rules
 
 pub good_of_says : (bytes : List ℕ) (h : Header) → IsHeader h → length (header_bits h) ≤ length (to_bits bytes) → Says (to_bits bytes) h → Good bytes
 good_of_says bytes h is within says = search (rules, length-header_bits, length-to_bits, type_le, good_mode_said, length-long_form_begun)
