@@ -111,13 +111,7 @@ module _ {Code : Type 0} (setting : Setting Code) (ns : List ℕ) (n : ℕ) (som
 
   refusal_is : (s : Session Code) → IsParted s → (c : Command) → is_some (view_named c) ≡ true → (starving : Bool) → refusal setting s c starving ≡ refusal_of c
   unfolding refusal refusal_of
-  refusal_is s p (Command.pget j ps) e starving = λ k. first_at (p.split k) (out_of (p.shape k) (p.many k) j ps) false
-  refusal_is s p (Command.pset j ps v) e starving = λ k. first_at (p.split k) (out_of (p.shape k) (p.many k) j ps) (not (is_of_type w v))
-  refusal_is s p (Command.padd j ps v) e starving = λ k. first_at (p.split k) (out_of (p.shape k) (p.many k) j ps) (not (is_of_type w v))
-  refusal_is s p (Command.pflush j) e starving = λ k. first_at (p.split k) (not (ltb j (p.many k))) false
-  refusal_is s p (Command.pdiscard j) e starving = λ k. first_at (p.split k) (not (ltb j (p.many k))) false
-  refusal_is s p (Command.pstats j) e starving = λ k. first_at (p.split k) (not (ltb j (p.many k))) false
-  refusal_is s p c e starving = absurd (cc)
+  refusal_is s p c e starving = search rules
 
   -- a command that needs no split is refused for it
   whole_refused : (s : Session Code) → IsParted s → (c : Command) → needs_split c ≡ false → (starving : Bool) → refusal setting s c starving ≡ Some Refusal.split
@@ -162,8 +156,7 @@ module _ {Code : Type 0} (setting : Setting Code) (ns : List ℕ) (n : ℕ) (som
     both_refuse s s' why v h = inl (record { together = h; replies = refl; here = refl })
 
     accepted_number : (o : Option ℤ) → is_accepted (option_map Reply.number o) ≡ true
-    accepted_number None = refl
-    accepted_number (Some x) = refl
+    accepted_number _ = search rules
 
     away_is : (j : ℕ) (reply : Option Reply) → is_accepted reply ≡ true → (j ≡ i → ⊥) → is_away (Some j) reply ≡ true
     away_is j reply accepted ne = ap (λ t. t && (true && not (eqb j i))) accepted ∙ ap not (ne_eqb j i ne)
@@ -263,8 +256,7 @@ module _ {Code : Type 0} (setting : Setting Code) (ns : List ℕ) (n : ℕ) (som
     read_stepped s s' h (Some c) x y other = search (rules, stepped, other, word)
 
     empty_text : (c : Command) → [] ≡ line_of c → ⊥
-    empty_text (Command.get ps) e = omega (arith, ap length e)
-    empty_text c e = omega (arith, ap length e)
+    empty_text c e = search rules
 
     no_line : read_line d [] ≡ None
     no_line = read_line-None d [] (λ c ok e. empty_text c e)
@@ -323,8 +315,7 @@ module _ {Code : Type 0} (setting : Setting Code) (ns : List ℕ) (n : ℕ) (som
 
 module _ {Code : Type 0} (setting : Setting Code) (start : Session Code) (n lines : ℕ) (taken : refusal setting start (Command.split n lines) false ≡ None) where
   size_false : (p a b v m : Bool) → first_refusal p a b v m ≡ None → a ≡ false
-  size_false false false b v m e = refl
-  size_false x a b v m e = absurd (cc)
+  size_false x a b v m e = search rules
 
   counted : is_view_count (format_of setting start).blocks n && is_line_count lines ≡ true
   unfolding refusal
