@@ -175,6 +175,7 @@ differ a b apart same = false≢true (sym apart ∙ (bytes_eq-Decides a b).1 sam
 
 -- the verb of a command, or of one on a view the verb behind the view's word
 verb_of : Command → Verb
+verb_of (Command.get p) = verbs.Get
 verb_of (Command.set p v) = verbs.Set
 verb_of (Command.add p v) = verbs.Add
 verb_of (Command.fill v) = verbs.Fill
@@ -191,12 +192,12 @@ verb_of (Command.resize s) = verbs.Resize
 verb_of Command.stats = verbs.Stats
 verb_of (Command.split n l) = verbs.Split
 verb_of Command.join = verbs.Join
+verb_of (Command.pget i p) = verbs.Get
 verb_of (Command.pset i p v) = verbs.Set
 verb_of (Command.padd i p v) = verbs.Add
 verb_of (Command.pflush i) = verbs.Flush
 verb_of (Command.pdiscard i) = verbs.Discard
 verb_of (Command.pstats i) = verbs.Stats
-verb_of _ = verbs.Get
 
 -- the first word of a command is its verb, or that of a view before another word
 pub record HasViewWord (c : Command) : Type 0 where
