@@ -1,23 +1,21 @@
 -- The numbering of the positions of a box.
-use Rattle.std.proofs.Common.{◌≡◌, ℕ, zero, suc, ◌+◌, ◌-◌, ◌*◌, ◌/◌, ◌%◌, ◌<◌, ◌≤◌, min, true, nat_lt, List, [], ◌∷◌, ◌++◌, length, replicate, refl, ap, arith, lit<, rules}
+use Rattle.std.proofs.Common.{◌≡◌, ℕ, zero, suc, ◌+◌, ◌-◌, ◌*◌, ◌/◌, ◌%◌, ◌<◌, ◌≤◌, min, true, nat_lt, List, [], ◌∷◌, ◌++◌, length, replicate, refl, ap, arith, rules}
 use Rattle.std.{specs.List.{AllByRecursion}, proofs.lemmas.Nat.{mul-add-lt, mod_below, div_below}}
-use Rattle.std.proofs.lemmas.Bool.{and_parts, and_from, ltb-true, lt-ltb, false≢true}
+use Rattle.std.proofs.lemmas.Bool.{and_parts, and_from, ltb-true, lt-ltb}
 use Rattle.std.proofs.Math.Nat.{le-mul_of_pos_right, mul-pos}
 use Rattle.zf_spec.specs.Grid.{product, raster, coordinates, is_inside, extents}
 use Rattle.zf_base.{specs.declared.position.Pos.{Pos}, specs.Positions.{axes}}
 
 -- a product that is more than some number has no factor zero
 pub factor_not_zero : (n m k : ℕ) → k < n * m → 0 < n
-factor_not_zero zero m k h = omega arith
-factor_not_zero (suc n) m k h = omega arith
+factor_not_zero _ m k h = search rules
 
 -- a position in a box has a number below the count of positions
 pub raster-lt : (ns ps : List ℕ) → is_inside ns ps ≡ true → raster ns ps < product ns
-raster-lt [] ps h = lit< tt
-raster-lt (n ∷ ns) [] h = absurd (false≢true h)
 raster-lt (n ∷ ns) (p ∷ ps) h =
     let parts = and_parts (nat_lt p n) (is_inside ns ps) h in
     omega (arith, mul-add-lt (raster ns ps) n p (product ns) (raster-lt ns ps parts.1) (ltb-true p n parts.0))
+raster-lt _ ps h = search rules
 
 -- so are the numbers that its sum passes through, which are those along fewer axes
 raster_step : (n p : ℕ) (ns ps : List ℕ) (most : ℕ) → is_inside (n ∷ ns) (p ∷ ps) ≡ true → product (n ∷ ns) < most → (raster (n ∷ ns) (p ∷ ps) < most) × (is_inside ns ps ≡ true) × (product ns < most)
@@ -50,24 +48,20 @@ product-append_ones [] (suc k) = omega (arith, product-append_ones [] k)
 product-append_ones (n ∷ ns) k = ap (λ m. n * m) (product-append_ones ns k)
 
 raster-zeros : (ms : List ℕ) (k : ℕ) → raster ms (replicate k 0) ≡ 0
-raster-zeros [] k = refl
-raster-zeros (m ∷ ms) zero = refl
 raster-zeros (m ∷ ms) (suc k) = rw (raster-zeros ms k) (omega arith)
+raster-zeros _ k = refl
 
 pub raster-append_zeros : (ns ms ps : List ℕ) (k : ℕ) → length ps ≡ length ns → raster (ns ++ ms) (ps ++ replicate k 0) ≡ raster ns ps
 raster-append_zeros [] ms [] k e = raster-zeros ms k
-raster-append_zeros [] ms (p ∷ ps) k e = absurd (omega arith)
-raster-append_zeros (n ∷ ns) ms [] k e = absurd (omega arith)
 raster-append_zeros (n ∷ ns) ms (p ∷ ps) k e = ap (λ r. p + n * r) (raster-append_zeros ns ms ps k (omega arith))
+raster-append_zeros _ ms _ k e = absurd (omega arith)
 
 pub is_inside-append_ones : (ns ps : List ℕ) (k : ℕ) → length ps ≡ length ns → is_inside ns ps ≡ true → is_inside (ns ++ replicate k 1) (ps ++ replicate k 0) ≡ true
-is_inside-append_ones [] [] zero e h = refl
 is_inside-append_ones [] [] (suc k) e h = is_inside-append_ones [] [] k refl refl
-is_inside-append_ones [] (p ∷ ps) k e h = absurd (omega arith)
-is_inside-append_ones (n ∷ ns) [] k e h = absurd (omega arith)
 is_inside-append_ones (n ∷ ns) (p ∷ ps) k e h =
     let parts = and_parts (nat_lt p n) (is_inside ns ps) h in
     and_from (nat_lt p n) (is_inside (ns ++ replicate k 1) (ps ++ replicate k 0)) parts.0 (is_inside-append_ones ns ps k (omega arith) parts.1)
+is_inside-append_ones _ _ k e h = search rules
 
 pub coordinates-append_ones : (ns : List ℕ) (k b : ℕ) → coordinates (ns ++ replicate k 1) b ≡ coordinates ns b ++ replicate k 0
 coordinates-append_ones [] zero b = refl
@@ -76,8 +70,6 @@ coordinates-append_ones [] (suc k) b =
 coordinates-append_ones (n ∷ ns) k b = ap (λ cs. b % n ∷ cs) (coordinates-append_ones ns k (b / n))
 
 pub extents-append_ones : (ns cs : List ℕ) (k : ℕ) → length cs ≡ length ns → extents (ns ++ replicate k 1) (cs ++ replicate k 0) ≡ extents ns cs ++ replicate k 1
-extents-append_ones [] [] zero e = refl
 extents-append_ones [] [] (suc k) e = ap (λ es. 1 ∷ es) (extents-append_ones [] [] k refl)
-extents-append_ones [] (c ∷ cs) k e = absurd (omega arith)
-extents-append_ones (n ∷ ns) [] k e = absurd (omega arith)
 extents-append_ones (n ∷ ns) (c ∷ cs) k e = ap (λ es. min 4 (n - 4 * c) ∷ es) (extents-append_ones ns cs k (omega arith))
+extents-append_ones _ _ k e = search rules

@@ -45,12 +45,8 @@ module _ (ns : List ℕ) (p q g : Pos) (shape : IsShape ns) (h : IsPosition ns p
       ap (λ s. raster s (axes q)) (grid_axes ns g shape.four_at_most e) ∙ ap (raster (grid ns ++ replicate (4 - length ns) 1)) block_axes ∙ raster-append_zeros (grid ns) (replicate (4 - length ns) 1) (map (λ c. c / 4) (used_axes (length ns) p)) (4 - length ns) block_length
 
 fours_four : (d : ℕ) → d ≤ 4 → fours 4 ≡ fours d ++ fours (4 - d)
-fours_four zero h = refl
-fours_four (suc zero) h = refl
-fours_four (suc (suc zero)) h = refl
-fours_four (suc (suc (suc zero))) h = refl
-fours_four (suc (suc (suc (suc zero)))) h = refl
 fours_four (suc (suc (suc (suc (suc d))))) h = absurd (omega arith)
+fours_four _ h = refl
 
 pub place_axes : (ns : List ℕ) (p q : Pos) → length ns ≤ 4 → IsPosition ns p → axes q ≡ map (λ c. c % 4) (axes p) → raster (fours 4) (axes q) ≡ place_of (used_axes (length ns) p)
 place_axes ns p q four h is =
@@ -71,29 +67,23 @@ pub same_from_axes : (p q : Pos) → axes p ≡ axes q → p ≡ q
 same_from_axes p q e = ap (with_unused 0) e
 
 pub used_axes-with_unused : (n : ℕ) (ns : List ℕ) → length ns ≤ 4 → used_axes (length ns) (with_unused n ns) ≡ ns
-used_axes-with_unused n [] h = refl
-used_axes-with_unused n (a ∷ []) h = refl
-used_axes-with_unused n (a ∷ b ∷ []) h = refl
-used_axes-with_unused n (a ∷ b ∷ c ∷ []) h = refl
-used_axes-with_unused n (a ∷ b ∷ c ∷ d ∷ []) h = refl
 used_axes-with_unused n (a ∷ b ∷ c ∷ d ∷ e ∷ ns) h = absurd (omega arith)
+used_axes-with_unused n _ h = refl
 
 -- a list of coordinates inside an array, as a position of it
 pub IsPosition-with_unused : (ns ps : List ℕ) → length ns ≤ 4 → length ps ≡ length ns → is_inside ns ps ≡ true → IsPosition ns (with_unused 0 ps)
 IsPosition-with_unused ns ps four same h = search (rules, used_axes-with_unused)
 
 extents_not_zero : (ns cs : List ℕ) → is_inside (grid ns) cs ≡ true → AllByRecursion (λ n. 1 ≤ n) (extents ns cs)
-extents_not_zero [] cs h = tt
-extents_not_zero (n ∷ ns) [] h = tt
 extents_not_zero (n ∷ ns) (c ∷ cs) h =
     let parts = and_parts (nat_lt c ((n + 3) / 4)) (is_inside (grid ns) cs) h in
     let lt = ltb-true c ((n + 3) / 4) parts.0 in
     (omega (arith, lt), extents_not_zero ns cs parts.1)
+extents_not_zero _ cs h = tt
 
 extents_four_at_most : (ns cs : List ℕ) → AllByRecursion (λ n. n ≤ 4) (extents ns cs)
-extents_four_at_most [] cs = tt
-extents_four_at_most (n ∷ ns) [] = tt
 extents_four_at_most (n ∷ ns) (c ∷ cs) = (omega arith, extents_four_at_most ns cs)
+extents_four_at_most _ cs = tt
 
 -- a block has an extent along each axis
 pub length-extent_of : (ns : List ℕ) (b : ℕ) → length (extent_of ns b) ≡ length ns

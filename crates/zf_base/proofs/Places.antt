@@ -9,12 +9,11 @@ use Rattle.zf_base.{specs.Places.{block_number, place_of, IsAt}, proofs.Boxes.{r
 -- ---- from a position to its block and its indices there
 
 pub is_inside-grid : (ns ps : List ℕ) → is_inside ns ps ≡ true → is_inside (grid ns) (map (λ p. p / 4) ps) ≡ true
-is_inside-grid [] ps h = refl
-is_inside-grid (n ∷ ns) [] h = absurd (false≢true h)
 is_inside-grid (n ∷ ns) (p ∷ ps) h =
     let parts = and_parts (nat_lt p n) (is_inside ns ps) h in
     let lt = ltb-true p n parts.0 in
     and_from (nat_lt (p / 4) ((n + 3) / 4)) (is_inside (grid ns) (map (λ p. p / 4) ps)) (lt-ltb (p / 4) ((n + 3) / 4) (omega (arith, lt))) (is_inside-grid ns ps parts.1)
+is_inside-grid _ ps h = search rules
 
 pub is_inside-fours : (ps : List ℕ) → is_inside (fours (length ps)) (map (λ p. p % 4) ps) ≡ true
 is_inside-fours [] = refl
@@ -22,12 +21,11 @@ is_inside-fours (p ∷ ps) =
     and_from (nat_lt (p % 4) 4) (is_inside (fours (length ps)) (map (λ p. p % 4) ps)) (lt-ltb (p % 4) 4 (omega arith)) (is_inside-fours ps)
 
 is_inside-extents : (ns ps : List ℕ) → is_inside ns ps ≡ true → is_inside (extents ns (map (λ p. p / 4) ps)) (map (λ p. p % 4) ps) ≡ true
-is_inside-extents [] ps h = refl
-is_inside-extents (n ∷ ns) [] h = absurd (false≢true h)
 is_inside-extents (n ∷ ns) (p ∷ ps) h =
     let parts = and_parts (nat_lt p n) (is_inside ns ps) h in
     let lt = ltb-true p n parts.0 in
     and_from (nat_lt (p % 4) (min 4 (n - 4 * (p / 4)))) (is_inside (extents ns (map (λ p. p / 4) ps)) (map (λ p. p % 4) ps)) (lt-ltb (p % 4) (min 4 (n - 4 * (p / 4))) (omega (arith, lt))) (is_inside-extents ns ps parts.1)
+is_inside-extents _ ps h = search rules
 
 position_in-parts : (ps : List ℕ) → position_in (map (λ p. p / 4) ps) (map (λ p. p % 4) ps) ≡ ps
 position_in-parts [] = refl
@@ -36,41 +34,35 @@ position_in-parts (p ∷ ps) = let e : 4 * (p / 4) + p % 4 ≡ p = omega arith i
 -- ---- from indices in a block to the position
 
 is_inside-position_in : (ns cs is : List ℕ) → length cs ≡ length ns → is_inside (extents ns cs) is ≡ true → is_inside ns (position_in cs is) ≡ true
-is_inside-position_in [] cs is e h = refl
-is_inside-position_in (n ∷ ns) [] is e h = absurd (omega arith)
-is_inside-position_in (n ∷ ns) (c ∷ cs) [] e h = absurd (false≢true h)
 is_inside-position_in (n ∷ ns) (c ∷ cs) (i ∷ is) e h =
     let parts = and_parts (nat_lt i (min 4 (n - 4 * c))) (is_inside (extents ns cs) is) h in
     let lt = ltb-true i (min 4 (n - 4 * c)) parts.0 in
     and_from (nat_lt (4 * c + i) n) (is_inside ns (position_in cs is)) (lt-ltb (4 * c + i) n (omega (arith, lt))) (is_inside-position_in ns cs is (omega arith) parts.1)
+is_inside-position_in _ cs is e h = search rules
 
 blocks_of_position_in : (ns cs is : List ℕ) → length cs ≡ length ns → length is ≡ length ns → is_inside (extents ns cs) is ≡ true → map (λ p. p / 4) (position_in cs is) ≡ cs
 blocks_of_position_in [] [] is e f h = refl
-blocks_of_position_in [] (c ∷ cs) is e f h = absurd (omega arith)
-blocks_of_position_in (n ∷ ns) [] is e f h = absurd (omega arith)
 blocks_of_position_in (n ∷ ns) (c ∷ cs) [] e f h = absurd (false≢true h)
 blocks_of_position_in (n ∷ ns) (c ∷ cs) (i ∷ is) e f h =
     let parts = and_parts (nat_lt i (min 4 (n - 4 * c))) (is_inside (extents ns cs) is) h in
     let lt = ltb-true i (min 4 (n - 4 * c)) parts.0 in
     let first : (4 * c + i) / 4 ≡ c = omega (arith, lt) in
     rw (first, blocks_of_position_in ns cs is (omega arith) (omega arith) parts.1)
+blocks_of_position_in _ _ is e f h = absurd (omega arith)
 
 indices_of_position_in : (ns cs is : List ℕ) → length cs ≡ length ns → length is ≡ length ns → is_inside (extents ns cs) is ≡ true → map (λ p. p % 4) (position_in cs is) ≡ is
 indices_of_position_in [] [] [] e f h = refl
-indices_of_position_in [] [] (i ∷ is) e f h = absurd (omega arith)
-indices_of_position_in [] (c ∷ cs) is e f h = absurd (omega arith)
-indices_of_position_in (n ∷ ns) [] is e f h = absurd (omega arith)
 indices_of_position_in (n ∷ ns) (c ∷ cs) [] e f h = absurd (false≢true h)
 indices_of_position_in (n ∷ ns) (c ∷ cs) (i ∷ is) e f h =
     let parts = and_parts (nat_lt i (min 4 (n - 4 * c))) (is_inside (extents ns cs) is) h in
     let lt = ltb-true i (min 4 (n - 4 * c)) parts.0 in
     let first : (4 * c + i) % 4 ≡ i = omega (arith, lt) in
     rw (first, indices_of_position_in ns cs is (omega arith) (omega arith) parts.1)
+indices_of_position_in _ _ is e f h = absurd (omega arith)
 
 length-position_in : (cs is : List ℕ) → length cs ≡ length is → length (position_in cs is) ≡ length cs
-length-position_in [] is e = refl
-length-position_in (c ∷ cs) [] e = absurd (omega arith)
 length-position_in (c ∷ cs) (i ∷ is) e = ap suc (length-position_in cs is (omega arith))
+length-position_in _ is e = search rules
 
 -- ---- the laws
 

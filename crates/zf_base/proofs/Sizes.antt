@@ -10,12 +10,8 @@ use Rattle.zf_base.specs.declared.shape.ShapeFault.TheVariants.{Zero, Field, Too
 use Rattle.zf_base.proofs.Boxes.{product-append_ones}
 
 pub axes-with_unused : (n : ℕ) (ns : List ℕ) → length ns ≤ 4 → axes (with_unused n ns) ≡ ns ++ replicate (4 - length ns) n
-axes-with_unused n [] h = refl
-axes-with_unused n (a ∷ []) h = refl
-axes-with_unused n (a ∷ b ∷ []) h = refl
-axes-with_unused n (a ∷ b ∷ c ∷ []) h = refl
-axes-with_unused n (a ∷ b ∷ c ∷ d ∷ []) h = refl
 axes-with_unused n (a ∷ b ∷ c ∷ d ∷ e ∷ ns) h = absurd (omega arith)
+axes-with_unused n _ h = refl
 
 -- what holds of the used sizes and of 1 holds of all four
 AllByRecursion-ones : (P : ℕ → Type 0) (ns : List ℕ) (k : ℕ) → P 1 → AllByRecursion P ns → AllByRecursion P (ns ++ replicate k 1)
@@ -56,12 +52,11 @@ blocks_le (n ∷ ns) h =
 
 -- sizes that fit their fields have no more than 2^48 values
 pub product_fields : (ns : List ℕ) → 1 ≤ length ns → length ns ≤ 4 → AllByRecursion (λ n. n ≤ 2 ^ (48 / length ns)) ns → product ns ≤ 2 ^ 48
-product_fields [] one four h = absurd (omega arith)
 product_fields (a ∷ []) one four h = omega (arith, h.0)
 product_fields (a ∷ b ∷ []) one four h = omega (arith, mul-le-mul h.0 h.1.0)
 product_fields (a ∷ b ∷ c ∷ []) one four h = omega (arith, mul-le-mul h.0 (mul-le-mul h.1.0 h.1.1.0))
 product_fields (a ∷ b ∷ c ∷ d ∷ []) one four h = omega (arith, mul-le-mul h.0 (mul-le-mul h.1.0 (mul-le-mul h.1.1.0 h.1.1.1.0)))
-product_fields (a ∷ b ∷ c ∷ d ∷ e ∷ ns) one four h = absurd (omega arith)
+product_fields _ one four h = absurd (omega arith)
 
 -- no size is above a bound
 pub none_above : (most : ℕ) (ns : List ℕ) → list_any (λ n. nat_lt most n) ns ≡ false → AllByRecursion (λ n. n ≤ most) ns
@@ -89,10 +84,7 @@ none_zero (n ∷ ns) h =
     (omega arith, none_zero ns parts.1)
 
 no_fault : (z f l : Bool) → is_none (cond z (Some Zero) (cond f (Some Field) (cond l (Some TooLarge) None))) ≡ true → (z ≡ false) × (f ≡ false) × (l ≡ false)
-no_fault false false false h = (refl, refl, refl)
-no_fault false false true h = absurd (cc)
-no_fault false true l h = absurd (cc)
-no_fault true f l h = absurd (cc)
+no_fault _ f l h = search rules
 
 -- sizes with no fault are a shape's
 pub shape_from_no_fault : (ns : List ℕ) → 1 ≤ length ns → length ns ≤ 4 → is_none (shape_fault ns) ≡ true → IsShape ns

@@ -1,5 +1,5 @@
 -- The numbers of a list of values.
-use Rattle.std.proofs.Common.{◌≡◌, ℕ, zero, suc, ◌+◌, ◌<◌, List, ◌++◌, length, get_or, set, map, take, drop, replicate, refl, ap, sym, ◌∙◌, rules}
+use Rattle.std.proofs.Common.{◌≡◌, ℕ, suc, ◌+◌, ◌<◌, List, ◌++◌, length, get_or, set, map, take, drop, replicate, refl, ap, sym, ◌∙◌, rules}
 use Rattle.std.{proofs.lemmas.List.{get_or-map, map-set}, proofs.lemmas.List.Edits.{map_over_more}}
 
 -- x is the element at i: its number is that at i among the numbers
@@ -12,6 +12,5 @@ numbers_more value f numbers block i d y lt same so_far written = search (rules,
 
 -- in a list of one value alone, and past its end, each is that value
 pub alike_at : {X : Type 0} (x : X) (n k : ℕ) → get_or (replicate n x) k x ≡ x
-alike_at x zero k = refl
-alike_at x (suc n) zero = refl
 alike_at x (suc n) (suc k) = alike_at x n k
+alike_at x _ k = refl

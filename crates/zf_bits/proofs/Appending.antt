@@ -1,5 +1,5 @@
 -- One append after another.
-use Rattle.std.proofs.Common.{◌≡◌, ◌+◌, Bool, List, [], ◌++◌, length, ap, subst, ◌∙◌, arith, append_assoc, length-append}
+use Rattle.std.proofs.Common.{◌≡◌, ◌+◌, Bool, List, ◌++◌, length, ap, subst, ◌∙◌, arith, append_assoc, length-append}
 use Rattle.zf_bits.specs.Writer.{Writer, Appends}
 
 pub Appends-append : {a b c : Writer} {xs ys : List Bool} → Appends a b xs → Appends b c ys → Appends a c (xs ++ ys)

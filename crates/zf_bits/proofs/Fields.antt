@@ -1,5 +1,5 @@
 -- One bit as a digit; what is short, cut or one longer of the bits of a number.
-use Rattle.std.proofs.Common.{◌≡◌, ℕ, ◌+◌, ◌*◌, ◌/◌, ◌%◌, ◌^◌, ◌<◌, ◌≤◌, Bool, true, false, List, [], ◌∷◌, ◌++◌, length, take, drop, refl, ap, sym, ◌∙◌, arith, length-append, lit<}
+use Rattle.std.proofs.Common.{◌≡◌, ℕ, ◌+◌, ◌*◌, ◌/◌, ◌%◌, ◌^◌, ◌<◌, ◌≤◌, Bool, List, [], ◌∷◌, ◌++◌, length, take, drop, refl, ap, sym, ◌∙◌, arith, length-append, lit<, rules}
 use Rattle.std.{proofs.Math.Nat.{mod-eq_of_lt, mul_comm, pow-le-pow_right}, specs.Int.{from_bool}}
 use Rattle.std.proofs.lemmas.Nat.{mod-pow-add, mod_low, mod_below, pow_pos, shl_whole}
 use Rattle.std.proofs.lemmas.List.{take_at, drop_at}
@@ -9,12 +9,10 @@ use Rattle.zf_spec.proofs.Fields.{length-field, number-field, number-lt, number-
 -- ---- one bit
 
 pub digit_value_le : (b : Bool) → digit_value b ≤ 1
-digit_value_le true = omega arith
-digit_value_le false = omega arith
+digit_value_le _ = search rules
 
 pub from_bool-digit_value : (b : Bool) → from_bool b ≡ digit_value b
-from_bool-digit_value true = refl
-from_bool-digit_value false = refl
+from_bool-digit_value _ = search rules
 
 -- ---- fields
 

@@ -44,21 +44,19 @@ sum_through-cons (suc k) b bs =
 
 -- the bits of bytes are those of the number that they are, least significant byte first
 pub number-to_bits : (k : ℕ) (bs : List ℕ) → length bs ≡ suc k → ((i : ℕ) → get_or bs i 0 < 256) → number (to_bits bs) ≡ sum_through (λ i. byte_worth i (get_or bs i 0)) k
-number-to_bits k [] count bytes = absurd (omega arith)
 number-to_bits zero (b ∷ []) count bytes = grind (arith, mod-eq_of_lt (bytes 0), number-flat_map-field 8 b [])
-number-to_bits zero (b ∷ c ∷ bs) count bytes = absurd (omega arith)
 number-to_bits (suc k) (b ∷ bs) count bytes =
     let others = number-to_bits k bs (omega arith) (λ i. bytes (suc i)) in
     cc (mod-eq_of_lt (bytes 0), number-flat_map-field 8 b bs, sum_through-cons k b bs)
+number-to_bits k _ count bytes = absurd (omega arith)
 
 -- ---- words
 
 get_or-first_bytes : (n : ℕ) (s : List ℕ) → ((i : ℕ) → get_or s i 0 < 256) → (i : ℕ) → get_or (first_bytes n s) i 0 < 256
-get_or-first_bytes zero s bytes i = lit< tt
-get_or-first_bytes (suc n) [] bytes zero = lit< tt
 get_or-first_bytes (suc n) [] bytes (suc i) = get_or-first_bytes n [] bytes i
 get_or-first_bytes (suc n) (b ∷ s) bytes zero = bytes 0
 get_or-first_bytes (suc n) (b ∷ s) bytes (suc i) = get_or-first_bytes n s (λ k. bytes (suc k)) i
+get_or-first_bytes _ s bytes i = lit< tt
 
 -- the bits of a word are those of its bytes
 pub field-word_of : (s : List ℕ) → ((i : ℕ) → get_or s i 0 < 256) → field 64 (word_of s) ≡ to_bits (first_bytes 8 s)
@@ -108,9 +106,8 @@ length-words_of s = length-words_from (div_ceil (length s) 8) s
 
 -- what follows enough bytes is not looked at
 pub first_bytes-more : (n : ℕ) (s more : List ℕ) → n ≤ length s → first_bytes n (s ++ more) ≡ first_bytes n s
-first_bytes-more zero s more fits = refl
-first_bytes-more (suc n) [] more fits = absurd (omega arith)
 first_bytes-more (suc n) (b ∷ s) more fits = ap (λ bs. b ∷ bs) (first_bytes-more n s more (omega arith))
+first_bytes-more _ s more fits = search rules
 
 -- a whole word, and the bytes behind it
 words_of-whole : (piece rest : List ℕ) → length piece ≡ 8 → words_of (piece ++ rest) ≡ word_of piece ∷ words_of rest

@@ -27,10 +27,8 @@ drop-words w (suc q) (v ∷ words) =
 
 -- two words that are set
 pub two_set : (q : ℕ) (words : List ℕ) (x y : ℕ) → suc q < length words → set (set words q x) (suc q) y ≡ take q words ++ x ∷ y ∷ drop (suc (suc q)) words
-two_set q [] x y within = absurd (omega arith)
-two_set zero (a ∷ []) x y within = absurd (omega arith)
-two_set zero (a ∷ b ∷ words) x y within = refl
 two_set (suc q) (a ∷ words) x y within = ap (λ (vs : List ℕ). a ∷ vs) (two_set q words x y (omega arith))
+two_set q _ x y within = search rules
 
 pub words-two_set : (w q : ℕ) (words : List ℕ) (x y : ℕ) → suc q < length words
     → flat_map (field w) (set (set words q x) (suc q) y) ≡ take (w * q) (flat_map (field w) words) ++ (field w x ++ (field w y ++ drop (w * suc (suc q)) (flat_map (field w) words)))
@@ -39,9 +37,8 @@ words-two_set w q words x y within =
     cc (two_set q words x y within, flat_map-append (field w) (take q words) (x ∷ y ∷ rest), take-words w q words, drop-words w (suc (suc q)) words)
 
 one_set : (q : ℕ) (words : List ℕ) (x : ℕ) → q < length words → set words q x ≡ take q words ++ x ∷ drop (suc q) words
-one_set q [] x within = absurd (omega arith)
-one_set zero (a ∷ words) x within = refl
 one_set (suc q) (a ∷ words) x within = ap (λ (vs : List ℕ). a ∷ vs) (one_set q words x (omega arith))
+one_set q _ x within = search rules
 
 pub words-set : (w q : ℕ) (words : List ℕ) (x : ℕ) → q < length words
     → flat_map (field w) (set words q x) ≡ take (w * q) (flat_map (field w) words) ++ (field w x ++ drop (w * suc q) (flat_map (field w) words))

@@ -37,8 +37,7 @@ module _ (line : Line) (may_hold : ℕ → ℕ → ℕ → Type 0) (placing : Is
 
   still_split : is_split s ≡ true → (m : ℕ) → is_split (u m) ≡ true
   unfolding flushed_views by_view with_view
-  still_split e zero = e
-  still_split e (suc m) = refl
+  still_split e _ = search rules
 
   abbrev before : ℕ → State Code
   before m = with_codes (seen m) (u m).state.codes

@@ -23,8 +23,7 @@ use Rattle.zf_cached.proofs.Acting.{acted-codes, acted-consistent}
 
 -- a command that is not refused though it needs no split: there is none
 alone : (t : Bool) → elim t as (λ x. Bool) [ true ↦ true | false ↦ false ] ≡ false → t ≡ false
-alone true e = absurd (cc)
-alone false e = refl
+alone _ e = search rules
 
 as_many : (d : ℕ) (ns : List ℕ) → has_axes d ns ≡ true → length ns ≡ d
 as_many d ns h = eqb-true (length ns) d (and_parts (eqb (length ns) d) (list_all is_number ns) h).0
@@ -40,8 +39,7 @@ pub record IsTaken {Code : Type 0} (setting : Setting Code) (s : Session Code) (
   pub range : (tests setting s c).range ≡ false
 
 refusal_none : (p a b v m : Bool) → first_refusal p a b v m ≡ None → (p ≡ false) × (a ≡ false) × (b ≡ false)
-refusal_none false false false v m e = (refl, refl, refl)
-refusal_none p a b v m e = absurd (cc)
+refusal_none p a b v m e = search rules
 
 -- a step by whether the command is refused
 pub step_by : {Code : Type 0} (setting : Setting Code) (s : Session Code) (c : Command) (starving : Bool) (P : Session Code × Option Reply → Type 0)
@@ -58,8 +56,7 @@ step_by {Code} setting s c starving P refuses takes = by (refusal setting s c st
 
 -- an array that isn't split has no views
 pub no_views : (o : Option (List View)) → is_some o ≡ false → (i : ℕ) → i < length (views_in o) → ⊥
-no_views None none i lt = omega (arith, lt)
-no_views (Some views) none i lt = cc
+no_views _ none i lt = search rules
 
 -- the blocks of view i
 abbrev owner_in : {Code : Type 0} → Setting Code → Session Code → ℕ → ℕ → Bool

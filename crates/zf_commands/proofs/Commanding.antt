@@ -19,8 +19,7 @@ use Rattle.zf_commands.proofs.Stepping.{no_split, refused_size, refused_range, r
 -- ---- tests
 
 pub is_not : (t : Bool) → (t ≡ true → ⊥) → not t ≡ true
-is_not true h = absurd (h refl)
-is_not false h = refl
+is_not _ h = search rules
 
 -- a position outside
 pub outside : (ns : List ℕ) (p : Pos) → p ≡ with_unused 0 (used_axes (length ns) p) → (IsPosition ns p → ⊥) → not (is_inside ns (used_axes (length ns) p)) ≡ true

@@ -1,5 +1,5 @@
 -- Lines one after the other, with the replies that are written.
-use Rattle.std.proofs.Common.{◌≡◌, ◌≢◌, refl, sym, ap, subst, ◌∙◌, ℕ, suc, ◌+◌, ◌≤◌, ◌<◌, Bool, true, false, ◌||◌, cond, eqb, List, [], ◌∷◌, ◌++◌, length, take, count_by, Option, Some, None, append_assoc, length-append, ne_eqb, eq-eqb, zero-add, arith, Result, Ok, Err, OnErr, rules}
+use Rattle.std.proofs.Common.{◌≡◌, ◌≢◌, refl, sym, ap, subst, ◌∙◌, ℕ, suc, ◌+◌, ◌≤◌, ◌<◌, Bool, true, false, ◌||◌, cond, eqb, List, [], ◌∷◌, ◌++◌, length, take, count_by, Option, Some, append_assoc, length-append, ne_eqb, eq-eqb, zero-add, arith, Result, OnErr, rules}
 use Rattle.std.{specs.List.{list_any}, specs.Option.{option_to_list}, proofs.lemmas.List.{append-nil}}
 use Rattle.std.{proofs.lemmas.Grind.{flat_map-append}, proofs.lemmas.List.Sums.{sum_by-append}}
 use Rattle.std.proofs.Math.Seq.{take-append_seam, take-append-add}
@@ -57,12 +57,10 @@ abbrev with_line : Bool → ℕ → List ℕ → List ℕ
 with_line t k starved = starved ++ number_if t k
 
 or_assoc : (a b c : Bool) → (a || b) || c ≡ a || (b || c)
-or_assoc true b c = refl
-or_assoc false b c = refl
+or_assoc _ b c = search rules
 
 or_false : (a : Bool) → a || false ≡ a
-or_false true = refl
-or_false false = refl
+or_false _ = search rules
 
 listed-append : (xs ys : List ℕ) (n : ℕ) → listed (xs ++ ys) n ≡ listed xs n || listed ys n
 listed-append [] ys n = refl
@@ -83,8 +81,7 @@ count_by-append : {X : Type 0} (p : X → Bool) (xs ys : List X) → count_by p 
 count_by-append p xs ys = sum_by-append (λ x. cond (p x) 1 0) xs ys
 
 count-refusal : (reply : Option Reply) → count_by is_refusal (option_to_list reply) ≡ cond (refuses reply) 1 0
-count-refusal None = refl
-count-refusal (Some reply) = zero-add _
+count-refusal _ = search rules
 
 -- ---- the fold
 
@@ -234,23 +231,19 @@ module _ {K Code : Type 0} (S : K → Setting Code) {k m : K} {s t : Session Cod
 
 -- a bool as a number
 pub one_or_none : (t : Bool) → bool_byte t ≡ cond t 1 0
-one_or_none true = refl
-one_or_none false = refl
+one_or_none _ = search rules
 
 pub at_most_one : (t : Bool) → bool_byte t ≤ 1
-at_most_one true = omega arith
-at_most_one false = omega arith
+at_most_one _ = search rules
 
 -- what holds at all holds of an error
 pub of_error : {X E P : Type 0} (r : Result X E) → P → OnErr r P
-of_error (Ok x) p = tt
-of_error (Err e) p = p
+of_error _ p = search rules
 
 -- ---- the lines that are out of memory are as many as say so
 
 count-starved : (reply : Option Reply) (k : ℕ) → count_by is_starved (option_to_list reply) ≡ length (number_if (starves reply) k)
-count-starved None k = refl
-count-starved (Some reply) k = search (rules, k)
+count-starved _ k = search rules
 
 pub starved-counted : {Code : Type 0} (setting : Setting Code) (starved : List ℕ) (k : ℕ) (lines : List (List ℕ)) (s : Session Code)
     → length (starved_lines setting starved k lines s) ≡ count_by is_starved (run_lines setting starved k lines s).1

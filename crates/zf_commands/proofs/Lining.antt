@@ -1,5 +1,5 @@
 -- A line as it is read.
-use Rattle.std.proofs.Common.{◌≡◌, refl, sym, ap, ◌∙◌, ℕ, zero, suc, ◌<◌, ◌==◌, Bool, false, List, [], ◌∷◌, length, Option, Some, None, arith, rules}
+use Rattle.std.proofs.Common.{◌≡◌, refl, ◌∙◌, ℕ, ◌<◌, ◌==◌, Bool, false, List, length, Option, Some, None, rules}
 use Rattle.zf_cached.{specs.Commands.{Command}, specs.Grammar.{read_line}, specs.Steps.{Setting, Session}}
 use Rattle.zf_cached.specs.Runs.{line_step, read_step}
 use Rattle.zf_cached.specs.Replies as script
@@ -11,13 +11,11 @@ use Rattle.zf_commands.{specs.Calls.{IsReady, StaysReady, Obeys}, specs.Steps.{T
 module _ {Code : Type 0} (setting : Setting Code) (s : Session Code) where
   pub line_empty : (line : List ℕ) → length line ≡ 0 → LeadsTo setting s line s None
   unfolding line_step
-  line_empty [] none = refl
-  line_empty (b ∷ bs) none = absurd (omega arith)
+  line_empty _ none = search rules
 
   read_as : (line : List ℕ) (d : ℕ) (o : Option Command) (starving : Bool) → 0 < length line → d ≡ length s.shape → read_line d line ≡ o → line_step setting s line starving ≡ read_step setting s o starving
   unfolding line_step
-  read_as [] d o starving some dims is = absurd (omega arith)
-  read_as (b ∷ bs) d o starving some dims is = ap (λ x. read_step setting s x starving) (ap (λ n. read_line n (b ∷ bs)) (sym dims) ∙ is)
+  read_as _ d o starving some dims is = search rules
 
   pub line_read : (line : List ℕ) (d : ℕ) (c : Command) (t : Session Code) (reply : Option script.Reply) → 0 < length line → d ≡ length s.shape → read_line d line ≡ Some c
       → Takes setting s c t reply → LeadsTo setting s line t reply
@@ -29,8 +27,7 @@ module _ {Code : Type 0} (setting : Setting Code) (s : Session Code) where
   line_not_read line d why some dims is word = search (rules, read_as)
 
 pub some_bytes : (n : ℕ) → (n == 0) ≡ false → 0 < n
-some_bytes zero e = absurd (cc)
-some_bytes (suc n) e = omega arith
+some_bytes _ e = search rules
 
 -- what is ready stays so where nothing was done, behind a command, and behind one call and another
 module _ {A : Type 0} {S : Subject A} {a : A} where

@@ -1,5 +1,5 @@
 -- Commands and their kinds.
-use Rattle.std.proofs.Common.{◌≡◌, refl, ap, subst, ◌∙◌, ℕ, Bool, false, length}
+use Rattle.std.proofs.Common.{◌≡◌, refl, ap, subst, ◌∙◌, ℕ, Bool, false, length, rules}
 use Rattle.zf_cached.specs.Kinds as sorts
 use Rattle.zf_base.specs.Positions.{used_axes}
 use Rattle.zf_cached.{specs.Kinds.{is_reading, is_windowless, is_of_split}, specs.Steps.{Session}}
@@ -57,12 +57,7 @@ sort_of d kinds.Join = sorts.Kind.join
 sort_of d (kinds.View i cmd) = sorts.Kind.view i (view_sort d cmd)
 
 pub sorted : (d : ℕ) (k : Kind) → sorts.kind_of (command_of d (cmd_of_kind k)) ≡ sort_of d k
-sorted d (kinds.Read (reads.Get p)) = refl
-sorted d (kinds.Window (windows.View p s t)) = refl
-sorted d (kinds.Write (writes.Set p v)) = refl
-sorted d (kinds.Array (arrays.Set p v)) = refl
-sorted d (kinds.View i (views.Get p)) = refl
-sorted d k = refl
+sorted d k = search rules
 
 -- what holds of a command by its kind
 pub by_kind : {Code : Type 0} (s : Session Code) (k : Kind) (test : sorts.Kind → Bool) (t : Bool) → test (sort_of (length s.shape) k) ≡ t → test (sorts.kind_of (asked s (cmd_of_kind k))) ≡ t
@@ -73,14 +68,10 @@ same_plain s a b is plain = subst (IsPlain s) is plain
 
 -- those that an array which is only read refuses, and those that one with no window does, and one that is whole, and one that is split
 pub not_reading : (d : ℕ) (k : Kind) → ((c : ReadCmd) → k ≡ kinds.Read c → ⊥) → ((c : WindowCmd) → k ≡ kinds.Window c → ⊥) → is_reading (sort_of d k) ≡ false
-not_reading d (kinds.Read c) read window = absurd (read c refl)
-not_reading d (kinds.Window c) read window = absurd (window c refl)
-not_reading d x read window = refl
+not_reading d x read window = search rules
 
 pub not_windowless : (d : ℕ) (k : Kind) → ((c : ReadCmd) → k ≡ kinds.Read c → ⊥) → ((c : WriteCmd) → k ≡ kinds.Write c → ⊥) → is_windowless (sort_of d k) ≡ false
-not_windowless d (kinds.Read c) read write = absurd (read c refl)
-not_windowless d (kinds.Write c) read write = absurd (write c refl)
-not_windowless d x read write = refl
+not_windowless d x read write = search rules
 
 pub not_of_split : (d : ℕ) (k : Kind) → (k ≡ kinds.Join → ⊥) → ((i : ℕ) (c : ViewCmd) → k ≡ kinds.View i c → ⊥) → is_of_split (sort_of d k) ≡ false
 not_of_split d kinds.Join join view = absurd (join refl)

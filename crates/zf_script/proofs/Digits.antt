@@ -1,5 +1,5 @@
 -- Digits one by one, and numbers as words.
-use Rattle.std.proofs.Common.{◌≡◌, ◌≢◌, ℕ, zero, suc, ◌+◌, ◌*◌, ◌<◌, ◌^◌, List, [], ◌∷◌, length, get_or, take, Option, Some, None, IfSome, IfNone, ap, sym, ◌∙◌, subst, arith, decimal, slice_get, refl, rules}
+use Rattle.std.proofs.Common.{◌≡◌, ◌≢◌, ℕ, suc, ◌+◌, ◌*◌, ◌<◌, ◌^◌, List, [], ◌∷◌, length, get_or, take, Option, Some, None, IfSome, IfNone, ap, sym, ◌∙◌, subst, arith, decimal, slice_get, refl, rules}
 use Rattle.std.{specs.Char.{digit_value}, specs.Option.{SomeIff}, specs.Str.Parse.{AllDigits, digits_value}}
 use Rattle.std.{proofs.lemmas.Int.Digits.{digits_value_more}, proofs.lemmas.Str.Parse.{digits_value-take-le}}
 use Rattle.std.proofs.lemmas.Fmt.{digits_decimal, decimal-digits_value, decimal_nonempty}
@@ -9,9 +9,8 @@ use Rattle.zf_base.proofs.Decimals.{one_zero}
 
 -- each byte of digits is a digit
 pub digit_in : (word : List ℕ) (i : ℕ) → AllDigits 10 word → i < length word → digit_value (get_or word i 0) < 10
-digit_in [] i digits lt = absurd (omega arith)
-digit_in (c ∷ cs) zero digits lt = digits.0
 digit_in (c ∷ cs) (suc i) digits lt = digit_in cs i digits.1 (omega arith)
+digit_in _ i digits lt = search rules
 
 -- where a numeral is short, each of its digits is a digit more of what stands before it
 pub digit_more : (word : List ℕ) (i number byte : ℕ) → i < length word → number ≡ digits_value 10 (take i word) → byte ≡ get_or word i 0 → IsShortNumeral word → IsDigitMore number byte

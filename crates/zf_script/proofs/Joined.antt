@@ -1,5 +1,5 @@
 -- Numbers with a byte between two of them, part by part.
-use Rattle.std.proofs.Common.{◌≡◌, ℕ, zero, suc, ◌+◌, ◌<◌, ◌≤◌, ◌^◌, true, ◌==◌, List, [], ◌∷◌, ◌++◌, map, length, get_or, set, take, refl, ap, sym, ◌∙◌, arith, lit<, decimal, get_or-set_other, length-take, append_assoc, append-nil, length-append, rules}
+use Rattle.std.proofs.Common.{◌≡◌, ℕ, ◌+◌, ◌<◌, ◌≤◌, ◌^◌, true, ◌==◌, List, [], ◌∷◌, ◌++◌, map, length, get_or, set, take, ap, sym, ◌∙◌, arith, decimal, get_or-set_other, length-take, append_assoc, append-nil, length-append, rules}
 use Rattle.std.{specs.List.{join_with_byte, list_all}, proofs.lemmas.List.Folds.{list_all-append}}
 use Rattle.std.proofs.lemmas.Bool.{ltb-true, lt-ltb, le-leb, and_from, and_parts}
 use Rattle.std.proofs.lemmas.List.{length-map, map-append, take_more_set}
@@ -72,16 +72,7 @@ same_pos xs ys x y z w = cc
 
 -- the others are as they were
 others_are : (numbers : List ℕ) (count unused : ℕ) → length numbers ≡ 4 → count ≤ 4 → ((k : ℕ) → count ≤ k → k < 4 → get_or numbers k 0 ≡ unused) → pos_of numbers ≡ with_unused unused (used_axes count (pos_of numbers))
-others_are numbers zero u four most others =
-    same_pos numbers (u ∷ u ∷ u ∷ u ∷ []) (others 0 (omega arith) (lit< tt)) (others 1 (omega arith) (lit< tt)) (others 2 (omega arith) (lit< tt)) (others 3 (omega arith) (lit< tt))
-others_are numbers (suc zero) u four most others =
-    same_pos numbers (get_or numbers 0 0 ∷ u ∷ u ∷ u ∷ []) refl (others 1 (omega arith) (lit< tt)) (others 2 (omega arith) (lit< tt)) (others 3 (omega arith) (lit< tt))
-others_are numbers (suc (suc zero)) u four most others =
-    same_pos numbers (get_or numbers 0 0 ∷ get_or numbers 1 0 ∷ u ∷ u ∷ []) refl refl (others 2 (omega arith) (lit< tt)) (others 3 (omega arith) (lit< tt))
-others_are numbers (suc (suc (suc zero))) u four most others =
-    same_pos numbers (get_or numbers 0 0 ∷ get_or numbers 1 0 ∷ get_or numbers 2 0 ∷ u ∷ []) refl refl refl (others 3 (omega arith) (lit< tt))
-others_are numbers (suc (suc (suc (suc zero)))) u four most others = refl
-others_are numbers (suc (suc (suc (suc (suc n))))) u four most others = absurd (omega arith)
+others_are numbers _ u four most others = search rules
 
 -- a word whose parts are these numbers
 pub sizes_word : (byte unused : ℕ) (word numbers : List ℕ) (count : ℕ) → length numbers ≡ 4 → 1 ≤ count → count ≤ 4 → list_all is_number (take count numbers) ≡ true → cut_at byte word ≡ map decimal (take count numbers) → ((k : ℕ) → count ≤ k → k < 4 → get_or numbers k 0 ≡ unused) → IsSizesWord byte unused word count (pos_of numbers)

@@ -1,5 +1,5 @@
 -- The number before a byte.
-use Rattle.std.proofs.Common.{◌≡◌, ◌≢◌, ℕ, ◌+◌, ◌<◌, ◌≤◌, ◌^◌, List, [], ◌∷◌, ◌++◌, length, get_or, take, drop, ◌==◌, ⊎_elim, refl, ap, sym, ◌∙◌, arith, decimal, append-nil, false, length-append, get_or-take, length-take-le}
+use Rattle.std.proofs.Common.{◌≡◌, ◌≢◌, ℕ, ◌+◌, ◌<◌, ◌≤◌, ◌^◌, List, [], ◌∷◌, ◌++◌, length, get_or, take, drop, ◌==◌, ⊎_elim, refl, ap, sym, ◌∙◌, arith, decimal, false, length-append, get_or-take, length-take-le, rules}
 use Rattle.std.{specs.List.{join_with_byte}, specs.Str.Parse.{AllDigits, digits_value}}
 use Rattle.std.{proofs.Math.Nat.{eq-or-lt_of_le}, proofs.Math.Seq.{get_or-append_seam}}
 use Rattle.std.{proofs.lemmas.Bool.{cases_lt, eq-eqb, ne_eqb}, proofs.lemmas.List.Elements.{All-from_get_or}}
@@ -45,8 +45,7 @@ module _ (byte at : ℕ) (word : List ℕ) (no_digit : IsNoDigit byte) (digits :
 
 -- a word begins with its first part
 begins : (byte : ℕ) (word first : List ℕ) (rest : List (List ℕ)) → word ≡ join_with_byte byte (first ∷ rest) → (behind : List ℕ) × (word ≡ first ++ behind)
-begins byte word first [] is = ([], is ∙ sym (append-nil first))
-begins byte word first (next ∷ rest) is = (byte ∷ join_with_byte byte (next ∷ rest), is)
+begins byte word first _ is = search rules
 
 module _ (byte : ℕ) (word : List ℕ) (n : ℕ) (rest : List (List ℕ)) (small : n < 2 ^ 64) (cut : cut_at byte word ≡ decimal n ∷ rest) where
   pub whole : word ≡ join_with_byte byte (decimal n ∷ rest)

@@ -1,6 +1,6 @@
 -- Words of lines and the commands that they are.
-use Rattle.std.proofs.Common.{◌≡◌, ◌≢◌, ℕ, suc, ◌+◌, ◌<◌, ◌≤◌, ◌^◌, ℤ, pos, negsuc, List, [], ◌∷◌, length, get_or, drop, ◌⊎◌, inl, inr, false, bytes_eq, Option, Some, None, Result, Ok, Err, IsTrue, IfSome, IfNone, IfOk, IfErr, FitsSigned, refl, ap, sym, subst, ◌∙◌, arith, rules, codes, decimal}
-use Rattle.std.{specs.Int.{w128}, specs.Fmt.{signed_decimal}, specs.Option.{ok_or}, proofs.lemmas.Int.{ints}}
+use Rattle.std.proofs.Common.{◌≡◌, ◌≢◌, ℕ, ◌<◌, ◌≤◌, ◌^◌, ℤ, List, [], ◌∷◌, length, get_or, ◌⊎◌, inl, inr, false, bytes_eq, Option, Some, None, Result, Ok, Err, IsTrue, IfSome, IfNone, IfOk, IfErr, FitsSigned, refl, ap, sym, ◌∙◌, arith, rules, codes, decimal}
+use Rattle.std.{specs.Int.{w128}, specs.Fmt.{signed_decimal}, specs.Option.{ok_or}}
 use Rattle.std.proofs.lemmas.Bool.{lt-ltb, ltb-true, false≢true, and_parts, and_from}
 use Rattle.std.proofs.lemmas.Slice.Eq.{bytes_eq-Decides}
 use Rattle.zf_base.specs.declared.position.Pos.{Pos}
@@ -24,8 +24,7 @@ last_word word text is none = ap (cut_at space) is ∙ cut_at-one space text non
 
 -- a value is one of 128 bits
 pub value_fits : (v : ℤ) → IsTrue (is_value v) → FitsSigned w128 v
-value_fits (pos n) small = let lt : n < 2 ^ 64 = ltb-true n _ small in record { sfits = omega (arith, ints) }
-value_fits (negsuc n) small = let lt : n + 1 < 2 ^ 64 = omega (arith, ltb-true (suc n) _ small) in record { sfits = omega (arith, ints) }
+value_fits _ small = search rules
 
 -- ---- more words than one
 pub position_and_value_some : (d : ℕ) (words first second : List ℕ) (p : Pos) (v : ℤ) → cut_at space words ≡ first ∷ cut_at space second → IsAxesWord d comma 0 first p → IsTrue (is_value v) → second ≡ signed_decimal v → IsPositionAndValue d (cut_at space words) p v
@@ -94,22 +93,13 @@ no_vget d rest none (Command.vget p) ok same = none p ok (tail_word (codes "vget
 no_vget d rest none c ok same = other_verb (codes "vget") c (cut_at space rest) refl same
 
 pub no_set : (d : ℕ) (rest : List ℕ) → NoPositionAndValue d (cut_at space rest) → IsNoCommand d (codes "set" ∷ cut_at space rest)
-no_set d rest none (Command.set p v) ok same =
-    let parts = and_parts (has_axes d p) (is_value v) ok in
-    none p v parts.0 parts.1 (ap (drop 1) same)
-no_set d rest none c ok same = other_verb (codes "set") c (cut_at space rest) refl same
+no_set d rest none c ok same = search rules
 
 pub no_add : (d : ℕ) (rest : List ℕ) → NoPositionAndValue d (cut_at space rest) → IsNoCommand d (codes "add" ∷ cut_at space rest)
-no_add d rest none (Command.add p v) ok same =
-    let parts = and_parts (has_axes d p) (is_value v) ok in
-    none p v parts.0 parts.1 (ap (drop 1) same)
-no_add d rest none c ok same = other_verb (codes "add") c (cut_at space rest) refl same
+no_add d rest none c ok same = search rules
 
 pub no_vset : (d : ℕ) (rest : List ℕ) → NoPositionAndValue d (cut_at space rest) → IsNoCommand d (codes "vset" ∷ cut_at space rest)
-no_vset d rest none (Command.vset p v) ok same =
-    let parts = and_parts (has_axes d p) (is_value v) ok in
-    none p v parts.0 parts.1 (ap (drop 1) same)
-no_vset d rest none c ok same = other_verb (codes "vset") c (cut_at space rest) refl same
+no_vset d rest none c ok same = search rules
 
 pub no_fill : (d : ℕ) (rest : List ℕ) → ((v : ℤ) → IsTrue (is_value v) → rest ≢ signed_decimal v) → IsNoCommand d (codes "fill" ∷ cut_at space rest)
 no_fill d rest none (Command.fill v) ok same = none v ok (tail_word (codes "fill") rest (signed_decimal v) same)
@@ -177,13 +167,7 @@ other_view : (word : List ℕ) (c : Command) (rest : List (List ℕ)) → bytes_
 other_view word c rest differ same = other_verb (64 ∷ word) c rest differ same
 
 begins_on_view : (word verb : List ℕ) (rest : List (List ℕ)) (c : Command) → (64 ∷ word) ∷ verb ∷ rest ≡ words_of c → BeginsOnView verb rest c
-begins_on_view word verb rest (Command.pget i p) same = (ap (λ ws. get_or ws 1 []) same, ap (drop 2) same)
-begins_on_view word verb rest (Command.pset i p v) same = (ap (λ ws. get_or ws 1 []) same, ap (drop 2) same)
-begins_on_view word verb rest (Command.padd i p v) same = (ap (λ ws. get_or ws 1 []) same, ap (drop 2) same)
-begins_on_view word verb rest (Command.pflush i) same = (ap (λ ws. get_or ws 1 []) same, ap (drop 2) same)
-begins_on_view word verb rest (Command.pdiscard i) same = (ap (λ ws. get_or ws 1 []) same, ap (drop 2) same)
-begins_on_view word verb rest (Command.pstats i) same = (ap (λ ws. get_or ws 1 []) same, ap (drop 2) same)
-begins_on_view word verb rest c same = other_view word c (verb ∷ rest) refl same
+begins_on_view word verb rest c same = search rules
 
 -- words that differ
 differ : (a b : List ℕ) → bytes_eq a b ≡ false → a ≡ b → ⊥
@@ -223,13 +207,7 @@ pub record HasViewWord (c : Command) : Type 0 where
 
 first_word : (c : Command) → (get_or (words_of c) 0 [] ≡ verb_word (verb_of c)) ⊎ HasViewWord c
 unfolding verb_of
-first_word (Command.pget i p) = inr (record { at_sign = refl; more = omega arith; verb = refl })
-first_word (Command.pset i p v) = inr (record { at_sign = refl; more = omega arith; verb = refl })
-first_word (Command.padd i p v) = inr (record { at_sign = refl; more = omega arith; verb = refl })
-first_word (Command.pflush i) = inr (record { at_sign = refl; more = omega arith; verb = refl })
-first_word (Command.pdiscard i) = inr (record { at_sign = refl; more = omega arith; verb = refl })
-first_word (Command.pstats i) = inr (record { at_sign = refl; more = omega arith; verb = refl })
-first_word x = inl refl
+first_word x = search rules
 
 -- words whose first one is no verb, and does not begin with `@`, are no command
 pub no_verb : (d : ℕ) (word : List ℕ) (rest : List (List ℕ)) → get_or word 0 0 ≢ 64 → ((verb : Verb) → word ≢ verb_word verb) → IsNoCommand d (word ∷ rest)
@@ -322,9 +300,7 @@ module _ (d : ℕ) (line : List ℕ) (words : List (List ℕ)) (same : cut_at sp
 
 -- ---- a part of a line that is asked for
 pub given : {A : Type 0} (P : A → Type 0) (o : Option A) (r : Result A Refusal) (a : A) → r ≡ ok_or o refusals.Word → r ≡ Ok a → IfSome o P → P a
-given P None r a is ok some = search rules
-given P (Some x) r a is ok some = let same : x ≡ a = cc in subst P same some
+given _ _ r a is ok some = search rules
 
 pub lacking : {A N : Type 0} (o : Option A) (r : Result A Refusal) (why : Refusal) → r ≡ ok_or o refusals.Word → r ≡ Err why → IfNone o N → (why ≡ refusals.Word) × N
-lacking None r why is err none = let same : why ≡ refusals.Word = cc in (same, none)
-lacking (Some x) r why is err none = search rules
+lacking _ r why is err none = search rules

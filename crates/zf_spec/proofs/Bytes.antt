@@ -138,8 +138,7 @@ low_number_below (b ∷ bs) all =
     omega (arith, pow-suc 256 (length bs))
 
 byte_at-is : (i n : ℕ) → byte_at i n ≡ n / 256 ^ i % 256
-byte_at-is zero n = ap (λ m. m % 256) (sym (div-one n))
-byte_at-is (suc i) n = refl
+byte_at-is _ n = search rules
 
 bytes_low_first-is : (i k n : ℕ) → bytes_low_first i k n ≡ low_bytes k (n / 256 ^ i)
 unfolding low_bytes
@@ -160,14 +159,13 @@ low_number-push bs k l = absurd (omega arith)
 
 sum_through-is : (bs : List ℕ) (k : ℕ) → suc k ≤ length bs → sum_through (λ i. byte_worth i (get_or bs i 0)) k ≡ low_number (take (suc k) bs)
 unfolding low_number
-sum_through-is [] zero l = absurd (omega arith)
-sum_through-is (b ∷ bs) zero l = omega arith
 sum_through-is bs (suc k) l =
     let prefix = take (suc (suc k)) bs in
     let push = low_number-push prefix (suc k) (length-take (suc (suc k)) bs ∙ omega arith) in
     let less : take (suc k) prefix ≡ take (suc k) bs = take-take (suc k) (suc (suc k)) bs (omega arith) in
     let last : get_or prefix (suc k) 0 ≡ get_or bs (suc k) 0 = get_or-take (suc (suc k)) bs (suc k) 0 (omega arith) in
     let rest = sum_through-is bs k (omega arith) in search (rules, low_number)
+sum_through-is bs _ l = search rules
 
 byte_len-some : (w : Width) → suc (byte_len w - 1) ≡ byte_len w
 byte_len-some w = grind arith

@@ -1,5 +1,5 @@
 -- Planes and the coefficients that they are the digits of.
-use Rattle.std.proofs.Common.{rules, ◌≡◌, refl, sym, ap, ◌∙◌, ℕ, zero, suc, ◌-◌, ◌^◌, ◌<◌, ◌≤◌, max, Bool, false, ℤ, pos, FitsSigned, List, [], ◌∷◌, ◌++◌, map, reverse, length, get_or, take, replicate, All, ext_get_or, ⊎_elim, get_or-take, arith}
+use Rattle.std.proofs.Common.{rules, ◌≡◌, refl, sym, ap, ◌∙◌, ℕ, suc, ◌-◌, ◌^◌, ◌<◌, ◌≤◌, max, Bool, false, ℤ, pos, FitsSigned, List, [], ◌∷◌, ◌++◌, map, reverse, length, get_or, take, replicate, All, ext_get_or, ⊎_elim, get_or-take, arith}
 use Rattle.std.{proofs.lemmas.Bool.{cases_lt}, proofs.lemmas.Simd.{map-map}, specs.Int.{Width}}
 use Rattle.std.proofs.lemmas.List.{length-map, get_or-map, get_or_past, length-reverse, get_or-reverse, length-append, length-replicate, get_or-replicate, get_or_append_left, get_or-append_right, length-take}
 use Rattle.std.proofs.lemmas.List.Elements.{All-get_or, All-append, All-replicate}
@@ -48,9 +48,8 @@ planes_of-length w coefficients k d h = search (rules, length-planes_of, get_or-
 
 -- digit r of plane k is a digit of coefficient r
 pub get_or-plane : (k : ℕ) (coefficients : List (List Bool)) (r : ℕ) → get_or (plane k coefficients) r false ≡ get_or (get_or coefficients r []) k false
-get_or-plane k [] r = refl
-get_or-plane k (ds ∷ coefficients) zero = refl
 get_or-plane k (ds ∷ coefficients) (suc r) = get_or-plane k coefficients r
+get_or-plane k _ r = refl
 
 -- the digits of the coefficient of rank r, of w planes that are the greatest first
 abbrev pub digits_at : ℕ → List (List Bool) → ℕ → List Bool

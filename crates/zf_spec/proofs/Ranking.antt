@@ -1,5 +1,5 @@
 -- The place of each rank and the rank of each place, and a block by rank and by place.
-use Rattle.std.proofs.Common.{rules, ◌≡◌, refl, sym, ap, ◌∙◌, ℕ, zero, suc, ◌^◌, ◌<◌, ◌≤◌, eqb, eqb-true, ℤ, pos, List, [], ◌∷◌, length, get_or, Contains, ext_get_or, arith}
+use Rattle.std.proofs.Common.{rules, ◌≡◌, refl, sym, ap, ◌∙◌, ℕ, suc, ◌^◌, ◌<◌, ◌≤◌, eqb, eqb-true, ℤ, pos, List, [], ◌∷◌, length, get_or, Contains, ext_get_or, arith}
 use Rattle.std.{proofs.lemmas.Bool.{eqb-false}, proofs.lemmas.List.{length-map, get_or-map}}
 use Rattle.std.{proofs.lemmas.List.Elements.{Contains-get_or}, specs.List.{position_or_len}}
 use Rattle.std.proofs.lemmas.List.Sorted.{IsPermutation-sym, Contains-permutation, length_permutation}
@@ -14,9 +14,8 @@ position_of p (q ∷ ps) h = let next = position_of p ps in search (rules, eqb-t
 
 -- nothing before the first place is p
 pub position_first : (p : ℕ) (ps : List ℕ) (k : ℕ) → k < length ps → get_or ps k 0 ≡ p → position_or_len (λ q. eqb q p) ps ≤ k
-position_first p [] k h e = absurd (omega arith)
-position_first p (q ∷ ps) zero h e = search (rules, eqb-false)
 position_first p (q ∷ ps) (suc k) h e = let next = position_first p ps k (omega arith) e in search rules
+position_first p _ k h e = search rules
 
 -- ---- the order
 

@@ -1,5 +1,5 @@
 -- Positions of a window that stand side by side in one block of the array.
-use Rattle.std.proofs.Common.{◌≡◌, ℕ, suc, ◌+◌, ◌*◌, ◌/◌, ◌%◌, ◌^◌, ◌<◌, ◌≤◌, true, ltb, ltb-true, lt-ltb, eqb-true, List, [], ◌∷◌, length, refl, ap, sym, subst, ◌∙◌, div-add-mod', arith, rules}
+use Rattle.std.proofs.Common.{◌≡◌, ℕ, suc, ◌+◌, ◌*◌, ◌/◌, ◌%◌, ◌^◌, ◌<◌, ◌≤◌, true, ltb, ltb-true, lt-ltb, eqb-true, List, ◌∷◌, length, ap, sym, subst, ◌∙◌, div-add-mod', arith, rules}
 use Rattle.std.{proofs.Math.Nat.{add-mul}, proofs.lemmas.Bool.{and_parts, and_from}}
 use Rattle.zf_spec.{specs.Grid.{IsShape, product, coordinates, is_inside}, proofs.Raster.{length-coordinates}}
 use Rattle.zf_base.{specs.declared.position.Pos.{Pos}, specs.Positions.{used_axes, with_unused, IsPosition}}
@@ -14,8 +14,7 @@ use Rattle.zf_window.{proofs.Raster.{product_window}, proofs.Walks.{stays, posit
 -- ---- k further along x, within a block
 
 pub block_further : (ns : List ℕ) (x y k : ℕ) (rest : List ℕ) → y ≡ x + k → x % 4 + k < 4 → block_number ns (y ∷ rest) ≡ block_number ns (x ∷ rest)
-block_further [] x y k rest is within = refl
-block_further (n ∷ ns) x y k rest is within = search rules
+block_further _ x y k rest is within = search rules
 
 pub place_further : (x y k : ℕ) (rest : List ℕ) → y ≡ x + k → x % 4 + k < 4 → place_of (y ∷ rest) ≡ place_of (x ∷ rest) + k
 place_further x y k rest is within = search rules
@@ -82,9 +81,7 @@ module _ (ns : List ℕ) (o s t : ℕ) (os ss ts : List ℕ) (lies : LiesIn ns (
 pub sides : (ns os ss ts : List ℕ) → IsShape ns → (let w : Window = record { origin = os; size = ss; step = ts } in
     LiesIn ns w → (k : ℕ) → k < product ss → IsSide ns w k (side_count w (numbered w k)))
 sides ns (o ∷ os) (s ∷ ss) (t ∷ ts) sizes lies k below = side ns o s t os ss ts lies (omega (arith, lies.sizes, sizes.four_at_most)) k below
-sides ns [] ss ts sizes lies k below = absurd (omega (arith, lies.origins, sizes.some_dimension))
-sides ns (o ∷ os) [] ts sizes lies k below = absurd (omega (arith, lies.sizes, sizes.some_dimension))
-sides ns (o ∷ os) (s ∷ ss) [] sizes lies k below = absurd (omega (arith, lies.steps, sizes.some_dimension))
+sides ns _ ss ts sizes lies k below = search rules
 
 -- the place of the first of them
 pub first_there : (ns : List ℕ) (w : Window) (k : ℕ) (q : Pos) (b p : ℕ) → IsShape ns → LiesIn ns w → q ≡ raster_at w k → IsAt ns (used_axes (length ns) q) b p → IsThere ns w k b p

@@ -1,5 +1,5 @@
 -- Windows made of their parts.
-use Rattle.std.proofs.Common.{◌≡◌, ℕ, zero, suc, ◌-◌, ◌/◌, ◌^◌, ◌≤◌, true, false, ◌&&◌, ltb, ltb-true, lt-ltb, List, [], ◌∷◌, map, length, Some, None, refl, ◌∙◌, arith, lit≤, rules}
+use Rattle.std.proofs.Common.{◌≡◌, ℕ, ◌-◌, ◌/◌, ◌^◌, ◌≤◌, true, false, ◌&&◌, ltb, ltb-true, lt-ltb, List, [], ◌∷◌, map, length, Some, None, refl, ◌∙◌, arith, rules}
 use Rattle.std.{specs.List.{AllByRecursion}, proofs.lemmas.Bool.{and_parts, and_from}}
 use Rattle.std.proofs.lemmas.List.{length-map}
 use Rattle.zf_spec.specs.Grid.{IsShape, is_inside}
@@ -22,9 +22,7 @@ inside_largest x y ps small same inside = absurd (omega arith)
 
 -- what a field of the header holds is small
 field_small : (d : ℕ) → 1 ≤ d → d ≤ 4 → 2 ^ (48 / d) ≤ 2 ^ 48
-field_small zero a b = absurd (omega arith)
-field_small (suc (suc (suc (suc (suc d))))) a b = absurd (omega arith)
-field_small x a b = lit≤ tt
+field_small x a b = search rules
 
 all_small : (ns : List ℕ) (k : ℕ) → k ≤ 2 ^ 48 → AllByRecursion (λ n. n ≤ k) ns → AllByRecursion (λ n. n ≤ 2 ^ 48) ns
 all_small [] k small all = tt
@@ -46,14 +44,12 @@ IsWindowOf-lies ns o s t shape unused lies =
 -- ---- the whole array
 
 pub window_of-whole : (ns : List ℕ) → IsShape ns → window_of (length ns) (record { x = 0; y = 0; z = 0; w = 0 }) (with_unused 1 ns) (record { x = 1; y = 1; z = 1; w = 1 }) ≡ whole ns
-window_of-whole [] shape = absurd (omega (arith, shape.some_dimension))
 window_of-whole (a ∷ b ∷ c ∷ d ∷ e ∷ ns) shape = absurd (omega (arith, shape.four_at_most))
-window_of-whole x shape = refl
+window_of-whole x shape = search rules
 
 pub AreUnused-whole : (ns : List ℕ) → IsShape ns → AreUnused (length ns) (record { x = 0; y = 0; z = 0; w = 0 }) (with_unused 1 ns) (record { x = 1; y = 1; z = 1; w = 1 })
-AreUnused-whole [] shape = absurd (omega (arith, shape.some_dimension))
 AreUnused-whole (a ∷ b ∷ c ∷ d ∷ e ∷ ns) shape = absurd (omega (arith, shape.four_at_most))
-AreUnused-whole x shape = record { origins = refl; sizes = refl; steps = refl }
+AreUnused-whole x shape = search rules
 
 -- ---- tests
 

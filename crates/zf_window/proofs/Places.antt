@@ -53,29 +53,24 @@ module _ (d : ℕ) (o s t : Pos) (w : IsWindowOf d o s t) (p : Pos) (at : IsPosi
 -- ---- slices
 
 set-append : (xs ys : List ℕ) (k v : ℕ) → k < length xs → set (xs ++ ys) k v ≡ set xs k v ++ ys
-set-append [] ys k v lt = absurd (omega arith)
-set-append (x ∷ xs) ys zero v lt = refl
 set-append (x ∷ xs) ys (suc k) v lt = ap (λ rest. x ∷ rest) (set-append xs ys k v (omega arith))
+set-append _ ys k v lt = search rules
 
 get_or-prefix : (xs ys : List ℕ) (k : ℕ) → k < length xs → get_or (xs ++ ys) k 0 ≡ get_or xs k 0
-get_or-prefix [] ys k lt = absurd (omega arith)
-get_or-prefix (x ∷ xs) ys zero lt = refl
 get_or-prefix (x ∷ xs) ys (suc k) lt = get_or-prefix xs ys k (omega arith)
+get_or-prefix _ ys k lt = search rules
 
 get_or-stepped : (os ts ps : List ℕ) (k : ℕ) → k < length os → length ts ≡ length os → length ps ≡ length os → get_or (stepped os ts ps) k 0 ≡ get_or os k 0 + get_or ps k 0 * get_or ts k 0
-get_or-stepped (o ∷ os) (t ∷ ts) (p ∷ ps) zero lt a b = refl
 get_or-stepped (o ∷ os) (t ∷ ts) (p ∷ ps) (suc k) lt a b = get_or-stepped os ts ps k (omega arith) (omega arith) (omega arith)
-get_or-stepped x ts ps k lt a b = absurd (omega arith)
+get_or-stepped x ts ps k lt a b = search rules
 
 below_at : (ps : List ℕ) (k : ℕ) → k < length ps → AllByRecursion (λ c. c < 2 ^ 48) ps → get_or ps k 0 < 2 ^ 48
-below_at [] k lt all = absurd (omega arith)
-below_at (p ∷ ps) zero lt all = all.0
 below_at (p ∷ ps) (suc k) lt all = below_at ps k (omega arith) all.1
+below_at _ k lt all = search rules
 
 less_one_at : (ns : List ℕ) (k : ℕ) → k < length ns → get_or ns k 0 ≡ 1 → get_or (map (λ n. n - 1) ns) k 0 ≡ 0
-less_one_at [] k lt is = absurd (omega arith)
-less_one_at (n ∷ ns) zero lt is = omega arith
 less_one_at (n ∷ ns) (suc k) lt is = less_one_at ns k (omega arith) is
+less_one_at _ k lt is = search rules
 
 module _ (d : ℕ) (o s t : Pos) (w : IsWindowOf d o s t) (axis at : ℕ) (on : axis < d) (there : at < get_or (axes s) axis 0) where
   -- along a used axis

@@ -1,6 +1,6 @@
 -- The position of the array that a position of a window is, is one of the array's.
-use Rattle.std.proofs.Common.{◌≡◌, ℕ, suc, ◌≤◌, true, ltb, List, [], ◌∷◌, length, take, arith}
-use Rattle.std.proofs.lemmas.Bool.{and_parts, false≢true}
+use Rattle.std.proofs.Common.{◌≡◌, ℕ, suc, ◌≤◌, true, ltb, List, ◌∷◌, length, take, arith, rules}
+use Rattle.std.proofs.lemmas.Bool.{and_parts}
 use Rattle.zf_spec.specs.Grid.{is_inside}
 use Rattle.zf_base.{specs.declared.position.Pos.{Pos}, specs.Positions.{axes, used_axes, IsPosition}}
 use Rattle.zf_base.proofs.Extents.{length-used_axes, IsPosition-with_unused}
@@ -9,9 +9,8 @@ use Rattle.zf_window.specs.Positions.{position_at}
 
 -- a position that is inside has a coordinate for each axis
 inside_long : (ns ps : List ℕ) → is_inside ns ps ≡ true → length ns ≤ length ps
-inside_long [] ps inside = omega arith
-inside_long (n ∷ ns) [] inside = absurd (false≢true inside)
 inside_long (n ∷ ns) (p ∷ ps) inside = omega (arith, inside_long ns ps (and_parts (ltb p n) (is_inside ns ps) inside).1)
+inside_long _ ps inside = search rules
 
 take_at_most : (k : ℕ) (xs : List ℕ) → length (take k xs) ≤ length xs
 take_at_most (suc k) (x ∷ xs) = omega (arith, take_at_most k xs)

@@ -1,5 +1,5 @@
 -- The positions of a window in raster order.
-use Rattle.std.proofs.Common.{◌≡◌, ℕ, zero, suc, ◌+◌, ◌-◌, ◌*◌, ◌≤◌, ◌<◌, true, leb, ltb, ltb-true, List, [], ◌∷◌, ◌++◌, map, length, take, replicate, refl, ap, sym, subst, ◌∙◌, arith, rules}
+use Rattle.std.proofs.Common.{◌≡◌, ℕ, suc, ◌+◌, ◌-◌, ◌*◌, ◌≤◌, ◌<◌, true, leb, ltb, ltb-true, List, [], ◌∷◌, ◌++◌, map, length, take, replicate, ap, sym, subst, ◌∙◌, arith, rules}
 use Rattle.std.proofs.lemmas.Bool.{and_parts, leb-true}
 use Rattle.std.proofs.Math.Nat.{mul-le-mul_left, mul-le-mul_right, le-mul_of_pos_right}
 use Rattle.zf_spec.{specs.Grid.{product, coordinates, is_inside}, proofs.Raster.{length-coordinates}}
@@ -11,9 +11,8 @@ use Rattle.zf_cached.proofs.Windows.{mapped_inside, length-mapped}
 use Rattle.zf_window.{specs.Positions.{raster_at}, proofs.Axes.{sizes_four, IsPosition-inside}}
 
 take_prefix : (xs ys : List ℕ) (n : ℕ) → length xs ≡ n → take n (xs ++ ys) ≡ xs
-take_prefix [] ys zero long = refl
 take_prefix (x ∷ xs) ys (suc n) long = ap (λ rest. x ∷ rest) (take_prefix xs ys n (omega arith))
-take_prefix x ys y long = absurd (omega arith)
+take_prefix x ys y long = search rules
 
 -- a box has as many positions along four axes as along the used ones
 pub product_used : (d : ℕ) (size : Pos) → d ≤ 4 → size ≡ with_unused 1 (used_axes d size) → product (axes size) ≡ product (used_axes d size)

@@ -1,5 +1,5 @@
 -- Raster order by steps: from the first position of a box to the one behind it.
-use Rattle.std.proofs.Common.{◌≡◌, ℕ, zero, suc, ◌+◌, ◌-◌, ◌*◌, ◌/◌, ◌%◌, ◌<◌, ◌≤◌, Bool, true, false, ltb, ltb-true, ltb-false, List, [], ◌∷◌, ◌++◌, length, get_or, replicate, refl, ap, sym, subst, ◌∙◌, div-add-mod', arith, rules}
+use Rattle.std.proofs.Common.{◌≡◌, ℕ, suc, ◌+◌, ◌-◌, ◌*◌, ◌/◌, ◌%◌, ◌<◌, ◌≤◌, Bool, true, false, ltb, ltb-true, ltb-false, List, [], ◌∷◌, ◌++◌, length, get_or, replicate, refl, ap, sym, subst, ◌∙◌, div-add-mod', arith, rules}
 use Rattle.std.{proofs.lemmas.Bool.{and_parts}, proofs.lemmas.Nat.{div-mul-add, mod-mul-add}}
 use Rattle.zf_spec.{specs.Grid.{product, coordinates, is_inside}, proofs.Raster.{length-coordinates}}
 use Rattle.zf_base.{specs.declared.position.Pos.{Pos}, proofs.Sizes.{axes-with_unused}}
@@ -53,9 +53,8 @@ module _ (d : ℕ) (size p q : Pos) (four : d ≤ 4) (sizes : size ≡ with_unus
 
 -- the first position has zeros alone
 zero_at : (ns : List ℕ) (i : ℕ) → get_or (coordinates ns 0) i 0 ≡ 0
-zero_at [] i = refl
-zero_at (n ∷ ns) zero = let e : 0 % n ≡ 0 = omega arith in e
 zero_at (n ∷ ns) (suc i) = let none : 0 / n ≡ 0 = omega arith in ap (λ m. get_or (coordinates ns m) i 0) none ∙ zero_at ns i
+zero_at _ i = search rules
 
 pub numbered-zero : (w : Window) → (let p : Pos = record { x = 0; y = 0; z = 0; w = 0 } in p ≡ numbered w 0)
 numbered-zero w = search (rules, zero_at)

@@ -1,5 +1,5 @@
 -- Faults of a command and their causes.
-use Rattle.std.proofs.Common.{rules, ◌≡◌, ◌≢◌, ℕ, ◌≤◌, Bool, true, false, refl}
+use Rattle.std.proofs.Common.{rules, ◌≡◌, ◌≢◌, ℕ, ◌≤◌, Bool, true, refl}
 use Rattle.zfpi.{specs.declared.status.Status.{Status}, specs.declared.command.Command.{Command}}
 use Rattle.zfpi.{specs.declared.status.Status.TheVariants.{ReadFault, WriteFault}, specs.Answer.{meaning}}
 use Rattle.zfpi.{specs.Faults.{load_status, take_status}, specs.Scripts.{reads_script}}
@@ -15,13 +15,11 @@ HasCauses-sure c status before now causes = search rules
 
 -- no count rose of a device, used or not
 pub IsIdle-same : (used : Bool) (n : ℕ) → IsIdle used n n
-IsIdle-same true n = tt
-IsIdle-same false n = refl
+IsIdle-same _ n = search rules
 
 -- it may have been used
 pub IsIdle-used : (used : Bool) (m n : ℕ) → used ≡ true → IsIdle used m n
-IsIdle-used true m n is = tt
-IsIdle-used false m n is = absurd (cc)
+IsIdle-used _ m n is = search rules
 
 -- a command that came to no device but a shelf
 pub HasCauses-refused : (c : Command) (status : Status) (src out : ℕ) {Sure : Type 0} → status ≢ ReadFault → status ≢ WriteFault → HasCauses c status (counts src out) (counts src out) Sure Sure

@@ -11,7 +11,6 @@ use Rattle.zf_parse.specs.ReadStreams.{IsFault}
 use Rattle.zf_index.{specs.declared.fault.IndexFault.{IndexFault}, specs.Files.{HasHeader, stream_fault}}
 use Rattle.zf_bound.{specs.declared.certified.Certified.{Certified}, specs.Errors.{IsSmallEnough}}
 use Rattle.zf_bound.specs.Bounds.{plane_of, error_of, certified_of, bound_text}
-use Rattle.zf_bound.proofs.Certificates.{certified_is}
 use Rattle.zfpi.{specs.declared.status.Status.{Status}, specs.declared.command.Command.TheVariants.{Bound}}
 use Rattle.zfpi.{specs.Faults.{index_status}, specs.Opened.{array_in, opened}, specs.Calls.{Certifies}}
 use Rattle.zfpi.{specs.Certified.{certified_text, certified_status}, specs.Loaded.{HoldsFile, RefusesFile}}
@@ -24,15 +23,11 @@ use Rattle.zfpi.specs.declared.status.Status.TheVariants as statuses
 -- what is certified of whatever the stream says, where there was memory
 pub certified_all : (w : Width) (h : Header) (m : ℕ) (r : Result Certified IndexFault) (answer : Result Said StreamFault) → w ≡ width_of h.ty → IfOk r (λ c. IfOk answer (λ said. c.plane ≡ plane_of w (length h.shape) said.codes))
     → IfOk r (λ c. c.error ≡ error_of (length h.shape) c.plane) → IfOk r (λ c. IsTrue c.holds ↔ IsSmallEnough (bits w) m c.error) → IfOk r (λ c. IfOk answer (λ said. c ≡ certified_of h said.codes m))
-certified_all w h m (Ok c) (Ok said) same plane error holds =
-    certified_is h said.codes m c (plane ∙ ap (λ v. plane_of v (length h.shape) said.codes) same) error (subst (λ v. IsTrue c.holds ↔ IsSmallEnough (bits v) m c.error) same holds)
-certified_all w h m (Ok c) (Err e) same plane error holds = tt
-certified_all w h m (Err e) answer same plane error holds = tt
+certified_all w h m _ answer same plane error holds = search rules
 
 -- a good answer says something
 pub said_good : (answer : Result Said StreamFault) → IsOk answer → (said : Said) × (answer ≡ Ok said)
-said_good (Ok said) good = (said, refl)
-said_good (Err e) good = absurd (cc)
+said_good _ good = search rules
 
 module _ (name : List ℕ) (most : ℕ) where
   pub IsLoading-bound : IsLoading (Bound name most) name array_in

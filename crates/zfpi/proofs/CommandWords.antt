@@ -2,9 +2,9 @@
 use Rattle.std.proofs.Common.{rules, ◌≡◌, cond, ℕ, ◌+◌, ◌*◌, ◌<◌, ◌≤◌, ◌^◌, List, [], ◌∷◌, ◌++◌, map, length, get_or, take, drop, Option, Some, None, codes, eqb, decimal, refl, ap, sym, subst, ◌∙◌, arith, append_assoc}
 use Rattle.std.{specs.Str.{bytes_eq}, proofs.lemmas.Bool.{true≢false}, proofs.lemmas.Fmt.{decimal_injective}}
 use Rattle.std.proofs.lemmas.List.{take-append-drop, take-take, take_all, take-map, map_more}
-use Rattle.zf_base.{specs.declared.lane.Ty.{Ty}, specs.declared.lane.Ty.TheVariants.{I32, I64}}
+use Rattle.zf_base.{specs.declared.lane.Ty.{Ty}}
 use Rattle.zf_spec.specs.Grid.{IsShape}
-use Rattle.zf_narrow.{specs.declared.narrow.Narrow.{Narrow}, specs.declared.narrow.Narrow.TheVariants.{I8}}
+use Rattle.zf_narrow.{specs.declared.narrow.Narrow.{Narrow}}
 use Rattle.zf_header.{specs.declared.header.Header.{Header}, specs.declared.header.Mode.{Mode}}
 use Rattle.zf_header.specs.declared.header.Mode.TheVariants.{Reversible, Rate, Precision}
 use Rattle.zf_header.specs.HeaderBits.{IsMode}
@@ -22,20 +22,14 @@ use Rattle.zfpi.specs.declared.words.Stage.TheVariants as stages
 
 -- ---- different types, shapes and modes have different words
 pub type_word_injective : (s t : Ty) → type_word s ≡ type_word t → s ≡ t
-type_word_injective I32 I32 same = refl
-type_word_injective I32 I64 same = absurd (true≢false (ap (bytes_eq (codes "int32")) same))
-type_word_injective I64 I32 same = absurd (true≢false (ap (bytes_eq (codes "int64")) same))
-type_word_injective I64 I64 same = refl
+type_word_injective _ _ same = search rules
 
 -- the fourth letter tells the narrow types from the others, the length and the first letter tell them apart
 type_not_narrow : (ty : Ty) (n : Narrow) → type_word ty ≡ narrow_word n → ⊥
-type_not_narrow I32 I8 same = omega (arith, ap (λ word. get_or word 3 0) same)
-type_not_narrow I64 I8 same = omega (arith, ap (λ word. get_or word 3 0) same)
-type_not_narrow ty n same = omega (arith, ap (λ word. get_or word 3 0) same)
+type_not_narrow ty n same = search rules
 
 narrow_word_injective : (m n : Narrow) → narrow_word m ≡ narrow_word n → m ≡ n
-narrow_word_injective I8 I8 same = refl
-narrow_word_injective m n same = search (rules, ap length same, ap (λ word. get_or word 0 0) same)
+narrow_word_injective m n same = search rules
 
 pub shape_word_injective : (ms ns : List ℕ) → IsShape ms → IsShape ns → shape_word ms ≡ shape_word ns → ms ≡ ns
 shape_word_injective ms ns m n same =
@@ -60,16 +54,13 @@ lines_words_injective l m a b same = search (rules, decimal_injective)
 
 pub caching_words_injective : (k l : Caching) → IsCaching k → IsCaching l → caching_words k ≡ caching_words l → k ≡ l
 caching_words_injective (Direct k) (Direct l) a b same = ap Direct (lines_words_injective k l a b same)
-caching_words_injective (Direct None) (TwoWay l) a b same = absurd (omega (arith, ap length same))
 caching_words_injective (Direct (Some k)) (TwoWay l) a b same = absurd (omega (arith, ap length (heads_same same)))
-caching_words_injective (TwoWay k) (Direct None) a b same = absurd (omega (arith, ap length same))
 caching_words_injective (TwoWay k) (Direct (Some l)) a b same = absurd (omega (arith, ap length (heads_same same)))
 caching_words_injective (TwoWay k) (TwoWay l) a b same = search (rules, decimal_injective)
+caching_words_injective _ _ a b same = absurd (omega (arith, ap length same))
 
 -- ---- the first word tells a command from the others
 first_word : Command → List ℕ
-first_word (Compress h) = codes "compress"
-first_word (CompressNarrow n h) = codes "compress"
 first_word Restore = codes "restore"
 first_word (RestoreNarrow n) = codes "restore"
 first_word Info = codes "info"
@@ -78,6 +69,7 @@ first_word (Run name lines) = codes "run"
 first_word (Look name lines) = codes "look"
 first_word (Bound name most) = codes "bound"
 first_word (Sample h seed) = codes "sample"
+first_word _ = codes "compress"
 
 begins_with : (c : Command) (words : List (List ℕ)) → IsSpelled c words → (rest : List (List ℕ)) × (words ≡ first_word c ∷ rest)
 unfolding first_word
@@ -159,16 +151,13 @@ IsUsage-stopped words k stage lt leads stop = record {
 }
 
 behind_rate : (m : Mode) → codes "rate" ∷ [] ≡ mode_words m → ⊥
-behind_rate Reversible same = cc
-behind_rate m same = cc
+behind_rate m same = search rules
 
 behind_precision : (m : Mode) → codes "precision" ∷ [] ≡ mode_words m → ⊥
-behind_precision Reversible same = cc
-behind_precision m same = cc
+behind_precision m same = search rules
 
 no_mode : (m : Mode) → [] ≡ mode_words m → ⊥
-no_mode Reversible same = cc
-no_mode m same = cc
+no_mode m same = search rules
 
 -- what is asked for where the words begin a task
 record IsAsked (ty : Ty) (ns : List ℕ) (behind : List (List ℕ)) : Type 0 where
@@ -211,15 +200,11 @@ fewest word =
     (cond (bytes_eq word (codes "bound")) 3 (cond (bytes_eq word (codes "run")) 2 (cond (bytes_eq word (codes "look")) 2 0)))))
 
 four_words : (typed shaped : List ℕ) (words : List (List ℕ)) (m : Mode) → words ≡ codes "compress" ∷ typed ∷ shaped ∷ mode_words m → 4 ≤ length words
-four_words typed shaped words Reversible is = omega (arith, ap length is)
-four_words typed shaped words m is = omega (arith, ap length is)
+four_words typed shaped words m is = search rules
 
 enough_words : (c : Command) (words : List (List ℕ)) → IsSpelled c words
     → fewest (first_word c) ≤ length words
 unfolding first_word fewest
-enough_words (Compress h) words spelled = four_words (type_word h.ty) (shape_word h.shape) words h.mode spelled.1
-enough_words (CompressNarrow n h) words spelled = four_words (narrow_word n) (shape_word h.shape) words h.mode spelled.words_are
-enough_words Restore words spelled = omega (arith, ap length spelled)
 enough_words c words spelled = search rules
 
 too_few : (word : List ℕ) (rest words : List (List ℕ)) (c : Command) → words ≡ word ∷ rest → IsSpelled c words
@@ -261,9 +246,7 @@ IsLinesWord-number l n word is small text = decimal_injective l n (omega (arith,
 whole_at_end : (words : List (List ℕ)) (stage : Stage) (c : Command) → LeadsTo words stage → IsSpelled c words → (d : Command) × (stage ≡ stages.Whole d)
 unfolding fewest
 whole_at_end words (stages.Whole d) c leads spelled = (d, refl)
-whole_at_end words (stages.Scripting scripts.Run) c leads spelled = search (rules, too_few)
-whole_at_end words stage c leads spelled =
-    search (rules, no_words, too_few, no_asked, no_mode, behind_rate, behind_precision, HasCaching-begun)
+whole_at_end words stage c leads spelled = search rules
 
 pub IsUsage-ended : (words : List (List ℕ)) (n : ℕ) (stage : Stage) → n ≡ length words → LeadsTo words stage → ((d : Command) → stage ≡ stages.Whole d → ⊥) → IsUsage words n
 IsUsage-ended words n stage all leads not_whole = record {
@@ -279,9 +262,7 @@ word_more text xs i x word lt is same = search (rules, take-map, map_more)
 
 -- ---- rates
 rate_behind : (ty : Ty) (ns : List ℕ) (m : Mode) (word : List ℕ) (rest : List (List ℕ)) → IsAskable (header_with ty ns m) → codes "rate" ∷ word ∷ rest ≡ mode_words m → (b : ℕ) × IsRateWord ty ns b word
-rate_behind ty ns Reversible word rest askable same = absurd (omega (arith, ap length same))
-rate_behind ty ns (Precision p) word rest askable same = absurd (true≢false (ap (bytes_eq (codes "precision")) (heads_same (sym same))))
-rate_behind ty ns (Rate b) word rest askable same = search rules
+rate_behind ty ns _ word rest askable same = search rules
 
 -- a word at the place of a rate, where a command goes on, is a rate
 pub IsRateWord-begun : (task : Task) (words : List (List ℕ)) (ty : Ty) (ns : List ℕ) (word : List ℕ) → LeadsTo words (stages.AtRate task ty ns) → BeginsCommand (words ++ word ∷ []) → (b : ℕ) × IsRateWord ty ns b word

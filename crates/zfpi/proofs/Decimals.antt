@@ -1,5 +1,5 @@
 -- Numbers as words: `parse` against `decimal`.
-use Rattle.std.proofs.Common.{◌≡◌, ◌≢◌, ℕ, ◌<◌, ◌≤◌, ◌^◌, List, [], ◌∷◌, length, get_or, Result, Ok, Err, IfSome, IfNone, Option, Bool, true, false, ◌⊎◌, inl, inr, Decides, ap, sym, ◌∙◌, subst, arith, decimal}
+use Rattle.std.proofs.Common.{◌≡◌, ◌≢◌, ℕ, ◌<◌, ◌≤◌, ◌^◌, List, ◌∷◌, length, get_or, Result, Ok, Err, IfSome, IfNone, Option, Bool, true, false, ◌⊎◌, inl, Decides, ap, sym, ◌∙◌, subst, arith, decimal, rules}
 use Rattle.std.{specs.Int.{IsInRange}, specs.Result.{result_ok}}
 use Rattle.std.specs.Str.Parse.{ParsesUnsigned, AllDigits, digits_value}
 use Rattle.std.proofs.lemmas.Str.Parse.{IsNumeralModel, numerals_by_value, tells_digits, not_in_digits, parse_plain}
@@ -37,6 +37,5 @@ parsed_none {E} word (Err e) o parsed is = rw is (λ n small same. let found = p
 
 -- with a zero in front there is no more than the zero
 pub zero_alone : (word : List ℕ) (starts : Bool) → Decides starts (get_or word 0 0 ≡ 48) → ((starts ≡ true) × (length word ≤ 1)) ⊎ (starts ≡ false) → get_or word 0 0 ≡ 48 → length word ≡ 1
-zero_alone [] starts decides either begins = absurd (omega arith)
 zero_alone (b ∷ bs) starts decides (inl short) begins = omega (arith, short.1)
-zero_alone (b ∷ bs) starts decides (inr others) begins = let yes = decides.1 begins in absurd (cc)
+zero_alone _ starts decides either begins = search rules

@@ -1,6 +1,6 @@
 -- What a command wrote is handed on once it has ended: what stays of what is known of it, and what a fault makes of it.
-use Rattle.std.proofs.Common.{rules, ◌≡◌, ◌≢◌, ℕ, ◌≤◌, true, false, List, [], take, inl, inr, Option, None, Result, Ok, Err, IsOk, IsErr, refl, subst, append-nil, arith}
-use Rattle.std.{specs.Prelude.{OnOk}, proofs.lemmas.Bool.{false≢true, true≢false}}
+use Rattle.std.proofs.Common.{rules, ◌≡◌, ◌≢◌, ℕ, ◌≤◌, true, false, List, [], take, inl, inr, Option, None, Result, IsOk, IsErr, refl, subst, append-nil, arith}
+use Rattle.std.{specs.Prelude.{OnOk}, proofs.lemmas.Bool.{false≢true}}
 use Rattle.zf_dev.{specs.Faults.{IsQuiet, HasCause}, specs.declared.faults.Failed.{Failed}}
 use Rattle.zf_dev.{specs.declared.faults.LoadError.{LoadError}, specs.Shelf.{Files}}
 use Rattle.zf_dev.{specs.Sink.{Appends, AppendsPrefix}, specs.declared.source.Source.{Ghosts as Source}}
@@ -10,7 +10,7 @@ use Rattle.zf_dev.specs.declared.faults.LoadError.TheVariants as loading
 use Rattle.zf_parse.specs.Parsing.{Said}
 use Rattle.zfpi.{specs.declared.status.Status.{Status}, specs.declared.command.Command.{Command}}
 use Rattle.zfpi.specs.declared.status.Status.TheVariants.{Done, WriteFault, LoadFault, SaveFault}
-use Rattle.zfpi.specs.declared.command.Command.TheVariants.{Restore, New, Run, Look, Bound}
+use Rattle.zfpi.specs.declared.command.Command.TheVariants.{New, Run, Look, Bound}
 use Rattle.zfpi.{specs.Faults.{load_status}, specs.Opened.{array_in, opened}, specs.Answer.{meaning, OfUsed}}
 use Rattle.zfpi.{specs.Certified.{certified_status}, specs.World.{Seen, seen, counts}}
 use Rattle.zfpi.{proofs.Ends.{IsPossible}, specs.Sending.{IsDone, EndsSent, HandsOn}}
@@ -28,8 +28,7 @@ prefix_stays : (before mid now : Option (List ℕ)) (text : List ℕ) → Append
 prefix_stays before mid now text prefix stays = (prefix.0, prefix.1, Appends-stays before mid now (take prefix.0 text) prefix.2 stays)
 
 Writes-stays : (status : Status) (text draft : List ℕ) (before mid now : Option (List ℕ)) → Appends mid now [] → Writes status text draft before mid → Writes status text draft before now
-Writes-stays Done text draft before mid now stays written = Appends-stays before mid now text written stays
-Writes-stays status text draft before mid now stays written = search (rules, Appends-stays, prefix_stays)
+Writes-stays status text draft before mid now stays written = search rules
 
 pub Behaves-stays : (c : Command) (status : Status) (before : Seen) (src mid now : Option (List ℕ)) (shelf : Option Files) → Appends mid now [] → Behaves c status before (seen src mid shelf) → Behaves c status before (seen src now shelf)
 Behaves-stays c status before src mid now shelf stays b = search (rules, Writes-stays)
@@ -49,8 +48,7 @@ first_undone = by_first (λ s. IsDone s → ⊥) (λ no. no) (λ no. no) (λ no.
 
 certified_done : (file : Result Said Status) (status : Status) → IsRefusal ComesFirst file → IsDone status → status ≡ certified_status file → IsOk file
 unfolding IsRefusal
-certified_done (Ok said) status refusal done same = refl
-certified_done (Err e) status refusal done same = search (rules, first_undone)
+certified_done _ status refusal done same = search rules
 
 -- a write fault in the place of a status, with all that was written
 instead : (c : Command) (status : Status) (before now : Seen) (b : Behaves c status before now) → OfUsed (meaning c).writes ((meaning c).works b.world) → (meaning c).starved_are WriteFault b.world b.starved → (meaning c).extent WriteFault b.world.input b.taken
@@ -59,7 +57,6 @@ instead c status before now b may starved_are extent written saved = search (rul
 
 -- the status was stated, since no work that was done comes from outside
 stated_done : (c : Command) (status : Status) (before now : Seen) → IsDone status → (b : Behaves c status before now) → status ≡ (meaning c).status b.world b.starved
-stated_done c Done before now done b = search rules
 stated_done c status before now done b = search rules
 
 unsent : (c : Command) (status : Status) (before now : Seen) → IsSentAfter c → IsDone status → Behaves c status before now → Behaves c WriteFault before now
@@ -75,26 +72,21 @@ unsent c status before now unsaved done b = search (rules, IsPossible-behaves)
 
 -- a command that loads nothing ends with no fault of a load
 no_load : (c : Command) → (meaning c).loads ≡ false → IsPossible c LoadFault → ⊥
-no_load Restore none may = may
-no_load c none may = search (rules, true≢false)
+no_load c none may = search rules
 
 -- and they never end with a fault of a save
 no_save : (c : Command) → IsSentAfter c → IsPossible c SaveFault → ⊥
-no_save Restore unsaved may = may
 no_save c unsaved may = search rules
 
 done_work : (c : Command) (status : Status) → IsSentAfter c → IsPossible c status → is_work_done status ≡ true → IsDone status
-done_work c Done unsaved may work = tt
-done_work c status unsaved may work = search (rules, no_save, false≢true)
+done_work c status unsaved may work = search rules
 
 -- a sink that they write to may have had a fault
 writes_used : (c : Command) → IsSentAfter c → (before now : ℕ) → IsIdle (meaning c).writes before now
-writes_used Restore unsaved before now = tt
 writes_used c unsaved before now = search rules
 
 -- where they may have come to the source by a status, they may have by a write fault
 reads_cut : (c : Command) → IsSentAfter c → (status : Status) (m n : ℕ) → IsIdle ((meaning c).reads status) m n → IsIdle ((meaning c).reads WriteFault) m n
-reads_cut Restore unsaved status m n idle = tt
 reads_cut c unsaved status m n idle = search rules
 
 module _ (c : Command) (status ended : Status) (unsaved : IsSentAfter c) where
@@ -153,8 +145,7 @@ unloaded_status e none is = cc
 
 -- a flush that is quiet handed on
 pub flushed_quiet : (r : Result (Unit {0}) Failed) (first m n : ℕ) {Flushed : Type 0} → HasCause (IsErr r) m n → OnOk r Flushed → first ≤ m → IsQuiet first n → Flushed
-flushed_quiet (Ok done) first m n cause flushed kept quiet = flushed
-flushed_quiet (Err e) first m n cause flushed kept quiet = absurd (omega (arith, cause.1 refl, kept, quiet))
+flushed_quiet _ first m n cause flushed kept quiet = search rules
 
 pub IsSent-later : (status : Status) (first m n : ℕ) {Flushed : Type 0} → first ≤ m → IsSent status (IsQuiet m n) Flushed → IsSent status (IsQuiet first n) Flushed
 IsSent-later status first m n kept sent = λ why. sent (elim why [ inl work ↦ inl work | inr quiet ↦ inr (omega (arith, kept, quiet)) ])

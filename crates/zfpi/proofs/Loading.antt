@@ -8,7 +8,6 @@ use Rattle.zf_dev.specs.declared.faults.LoadError.TheVariants as loading
 use Rattle.zf_parse.{specs.declared.fault.StreamFault.{StreamFault}, specs.Parsing.{Said}}
 use Rattle.zf_parse.specs.declared.fault.StreamFault.TheVariants as faults
 use Rattle.zf_index.specs.declared.fault.IndexFault.{IndexFault}
-use Rattle.zf_index.specs.declared.fault.IndexFault.TheVariants as index
 use Rattle.zfpi.{specs.declared.status.Status.{Status}, specs.declared.command.Command.{Command}}
 use Rattle.zfpi.{specs.Faults.{fault_status, load_status, index_status}, specs.Opened.{opened}}
 use Rattle.zfpi.{specs.Loaded.{HoldsFile}, specs.World.{World, ExposesInput, ExposesFiles, seen}}
@@ -31,8 +30,7 @@ by_first P missing long load header truncated pad trailing memory no_rate status
 
 -- no fault of an index is one of a device, and each comes before anything is read
 pub ComesFirst-index : (e : IndexFault) → ComesFirst (index_status e)
-ComesFirst-index (index.Truncated b) = tt
-ComesFirst-index e = tt
+ComesFirst-index e = search rules
 
 IsOfCommand-first : (status : Status) → ComesFirst status → IsOfCommand status
 IsOfCommand-first = by_first IsOfCommand tt tt tt (λ f. tt) (λ b. tt) tt tt tt (λ m. tt)
@@ -49,9 +47,7 @@ Unsaved statuses.SaveFault = ⊥
 Unsaved status = Unit {0}
 
 pub Saves-unsaved : (file : Option (List ℕ × List ℕ)) (status : Status) (before now : Option Files) → Unsaved status → KeepsFiles before now → Saves file status before now
-Saves-unsaved None status before now un kept = kept
-Saves-unsaved (Some f) statuses.Done before now un kept = absurd un
-Saves-unsaved (Some f) status before now un kept = search rules
+Saves-unsaved _ status before now un kept = search rules
 
 Unsaved-first : (status : Status) → ComesFirst status → Unsaved status
 Unsaved-first = by_first Unsaved tt tt tt (λ f. tt) (λ b. tt) tt tt tt (λ m. tt)
@@ -59,25 +55,17 @@ Unsaved-first = by_first Unsaved tt tt tt (λ f. tt) (λ b. tt) tt tt tt (λ m. 
 -- ---- shelves
 
 KeepsFiles-kept : (before mid now : Option Files) → KeepsFiles before mid → KeepsFiles mid now → KeepsFiles before now
-KeepsFiles-kept None mid now a b = tt
-KeepsFiles-kept (Some x) None now a b = absurd a
-KeepsFiles-kept (Some x) (Some y) None a b = b
-KeepsFiles-kept (Some x) (Some y) (Some z) a b = λ name. b name ∙ a name
+KeepsFiles-kept _ mid now a b = search rules
 
 KeepsOthers-kept : (before mid now : Option Files) (name : List ℕ) → KeepsFiles before mid → KeepsOthers mid now name → KeepsOthers before now name
-KeepsOthers-kept None mid now name a b = tt
-KeepsOthers-kept (Some x) None now name a b = absurd a
-KeepsOthers-kept (Some x) (Some y) None name a b = b
-KeepsOthers-kept (Some x) (Some y) (Some z) name a b = λ other not. b other not ∙ a other
+KeepsOthers-kept _ mid now name a b = search rules
 
 SavesFile-kept : (before mid now : Option Files) (name bytes : List ℕ) → KeepsFiles before mid → SavesFile mid now name bytes → SavesFile before now name bytes
 SavesFile-kept before mid now name bytes kept saves = search (rules, KeepsOthers-kept)
 
 -- what is saved of files that were kept before is saved of those
 pub Saves-kept : (file : Option (List ℕ × List ℕ)) (status : Status) (before mid now : Option Files) → KeepsFiles before mid → Saves file status mid now → Saves file status before now
-Saves-kept None status before mid now kept saves = KeepsFiles-kept before mid now kept saves
-Saves-kept (Some f) statuses.SaveFault before mid now kept saves = KeepsOthers-kept before mid now f.0 kept saves
-Saves-kept (Some f) status before mid now kept saves = search (rules, SavesFile-kept, KeepsFiles-kept)
+Saves-kept _ status before mid now kept saves = search rules
 
 -- the files that are exposed, or else these bytes under each name
 pub files_with : Option Files → List ℕ → Files
@@ -90,13 +78,11 @@ world_with known bytes input = record { input = input; files = files_with known 
 
 pub ExposesFiles-with : (known : Option Files) (bytes : List ℕ) → ExposesFiles known (files_with known bytes)
 unfolding files_with
-ExposesFiles-with None bytes = tt
-ExposesFiles-with (Some files) bytes = λ name. refl
+ExposesFiles-with _ bytes = search rules
 
 found_with : (known : Option Files) (name bytes : List ℕ) → HasFile known name bytes → files_with known bytes name ≡ Some bytes
 unfolding files_with
-found_with None name bytes held = refl
-found_with (Some files) name bytes held = held
+found_with _ name bytes held = search rules
 
 -- a list of more bytes than these
 long_list : (n : ℕ) → (bytes : List ℕ) × (n < length bytes)

@@ -1,8 +1,8 @@
 -- What a file is opened as, by what is known of its header and of the stream.
-use Rattle.std.proofs.Common.{◌≡◌, ℕ, List, length, Some, None, Result, Ok, Err, refl, ap, sym, ◌∙◌}
+use Rattle.std.proofs.Common.{◌≡◌, ℕ, List, length, Some, None, Result, Ok, Err, ap, sym, ◌∙◌, rules}
 use Rattle.zf_spec.specs.Stream.{to_bits, mode_number}
 use Rattle.zf_header.{specs.declared.header.Header.{Header}, specs.declared.header.Mode.{Mode}}
-use Rattle.zf_header.specs.declared.header.Mode.TheVariants.{Reversible, Rate, Precision}
+use Rattle.zf_header.specs.declared.header.Mode.TheVariants.{Rate}
 use Rattle.zf_header.{specs.declared.header.HeaderFault.{HeaderFault}, specs.HeaderBits.{IsRate, coding}}
 use Rattle.zf_header.specs.HeaderFaults.{header_fault}
 use Rattle.zf_parse.{specs.declared.fault.StreamFault.{StreamFault}, proofs.Steps.{header_or}}
@@ -25,18 +25,14 @@ array_in-good bytes h good is =
     ap (λ fault. array_behind fault (said_at_rate (header_of bytes).mode (parse bytes))) good ∙ ap (λ g. said_at_rate g.mode (parse bytes)) (sym is)
 
 at_rate : (m : Mode) (answer : Result Said StreamFault) → IsRate m → said_at_rate m answer ≡ said_or_status answer
-at_rate Reversible answer rate = absurd rate
-at_rate (Rate b) answer rate = refl
-at_rate (Precision p) answer rate = absurd rate
+at_rate _ answer rate = search rules
 
 -- it has a fixed rate
 pub array_in-rate : (bytes : List ℕ) (h : Header) (answer : Result Said StreamFault) → header_fault bytes ≡ None → h ≡ header_of bytes → IsRate h.mode → parse bytes ≡ answer → array_in bytes ≡ said_or_status answer
 array_in-rate bytes h answer good header rate is = array_in-good bytes h good header ∙ (at_rate h.mode (parse bytes) rate ∙ ap said_or_status is)
 
 no_rate : (m : Mode) (answer : Result Said StreamFault) → ((b : ℕ) → m ≡ Rate b → ⊥) → said_at_rate m answer ≡ Err (statuses.NotRate (mode_number (coding m)))
-no_rate Reversible answer not = refl
-no_rate (Rate b) answer not = absurd (not b refl)
-no_rate (Precision p) answer not = refl
+no_rate _ answer not = search rules
 
 -- it is of another mode
 pub array_in-no_rate : (bytes : List ℕ) (h : Header) (number : ℕ) → header_fault bytes ≡ None → h ≡ header_of bytes → ((b : ℕ) → h.mode ≡ Rate b → ⊥) → number ≡ mode_number (coding h.mode) → array_in bytes ≡ Err (statuses.NotRate number)

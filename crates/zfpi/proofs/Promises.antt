@@ -1,6 +1,6 @@
 -- From the promises of a command to those of the program.
-use Rattle.std.proofs.Common.{rules, ◌≡◌, ◌≢◌, ℕ, zero, suc, ◌<◌, Bool, true, false, cond, ◌⊎◌, inl, inr, List, Option, Some, None, Result, Ok, Err, refl, ap, sym, subst, ◌∙◌, arith}
-use Rattle.std.proofs.lemmas.Bool.{ltb-true, true≢false}
+use Rattle.std.proofs.Common.{rules, ◌≡◌, ◌≢◌, ℕ, ◌<◌, Bool, true, false, cond, ◌⊎◌, inl, inr, List, Option, Some, None, Result, Ok, Err, refl, ap, subst, ◌∙◌}
+use Rattle.std.proofs.lemmas.Bool.{ltb-true}
 use Rattle.zf_base.{specs.declared.lane.Ty.{Ty}, specs.declared.lane.Ty.TheVariants.{I32}}
 use Rattle.zf_dev.{specs.Faults.{IsQuiet}, specs.Sink.{Appends}}
 use Rattle.zf_header.{specs.declared.header.HeaderFault.{HeaderFault}, specs.declared.header.Mode.{Mode}}
@@ -16,11 +16,11 @@ use Rattle.zf_narrow.specs.Texts.{narrow_text, answer_behind, restore_narrow_ans
 use Rattle.zfpi.{specs.Faults.{status_of, narrow_status_of, header_status}, specs.Words.{IsSpelled}}
 use Rattle.zfpi.{specs.declared.status.Status.{Status}, specs.declared.command.Command.{Command}}
 use Rattle.zfpi.specs.declared.status.Status.TheVariants.{Done, Usage, NotRate, Missing, ScriptLong, FileLong, ReadFault, WriteFault, LoadFault, SaveFault, Memory}
-use Rattle.zfpi.specs.declared.command.Command.TheVariants.{Compress, Restore, RestoreNarrow, Info, Run, Look, Bound}
+use Rattle.zfpi.specs.declared.command.Command.TheVariants.{Compress, Restore, RestoreNarrow, Run, Look, Bound}
 use Rattle.zfpi.{specs.World.{World, Seen, Counts, ExposesInput}, specs.Certified.{certified_status}}
 use Rattle.zfpi.specs.Opened.{array_in, stream_in, opened, said_or_status, said_at_rate, array_behind}
 use Rattle.zfpi.specs.Scripts.{Answering, run_answers, look_answers, lines_status, script_status}
-use Rattle.zfpi.{specs.Answer.{meaning, MayFail, OfUsed}, specs.Steps.{IsShelfless}}
+use Rattle.zfpi.{specs.Answer.{meaning, MayFail}, specs.Steps.{IsShelfless}}
 use Rattle.zfpi.proofs.Ends.{IsPossible, CompressEnds, RestoreEnds, RestoreNarrowEnds, InfoEnds, FileEnds, LookEnds, RunEnds, BoundEnds}
 use Rattle.zfpi.specs.Headline.{OfCommand, OnUsage, RefusesWords, IsOfCommand, Behaves, HasCauses, IsComplete, IsFromOutside, IsBack, GivesBack}
 use Rattle.zfpi.{proofs.CommandWords.{one_command}, proofs.Loading.{ComesFirst}}
@@ -32,18 +32,15 @@ OfCommand-one words c spelled P this = λ d other. subst P (one_command words c 
 
 -- a command that the words are does not refuse them
 pub RefusesWords-of : (words : List (List ℕ)) (status : Status) → (c : Command) × IsSpelled c words → IsOfCommand status → RefusesWords words status
-RefusesWords-of words (statuses.Usage k) spelled ends = absurd ends
-RefusesWords-of words status spelled ends = spelled
+RefusesWords-of words status spelled ends = search rules
 
 pub OnUsage-of : (status : Status) (P : Type 0) → IsOfCommand status → OnUsage status P
-OnUsage-of (statuses.Usage k) P ends = absurd ends
-OnUsage-of status P ends = tt
+OnUsage-of status _ ends = search rules
 
 -- ---- what follows from the two records of a command
 
 -- a status from outside that is no fault of a device is out of memory
 only_memory : (status : Status) (c : Command) (w : World) (starved : List ℕ) → MayFail status c w → (status ≢ ReadFault) × (status ≢ WriteFault) × (status ≢ LoadFault) × (status ≢ SaveFault) → (status ≡ Memory) × (meaning c).memory w
-only_memory Memory c w starved may none = (refl, may)
 only_memory status c w starved may none = search rules
 
 -- where no count rose, no fault is answered
@@ -52,18 +49,15 @@ IsComplete-quiet c status before now old new Sure Still behaves causes src out s
 
 -- the statuses from outside that a command may end with are among those that it can end with
 possible_fault : (status : Status) (c : Command) (w : World) (starved : List ℕ) → MayFail status c w → IsPossible c status
-possible_fault Memory Info w starved may = absurd may
 possible_fault status c w starved may = search rules
 
 -- and so are those that it states for an input
 compress_ends : (starved_are n : ℕ) (short long : Bool) → (short ≡ true → n < starved_are) → CompressEnds starved_are (status_of (cond short (Err (faults.RawShort n)) (cond long (Err faults.RawLong) (Ok tt))))
-compress_ends starved_are n true long less = less refl
 compress_ends starved_are n short long less = search rules
 
 restore_ends : (answer : Result (Unit {0}) StreamFault) → blames_foreign answer ≡ false → RestoreEnds (status_of answer)
 unfolding blames_foreign is_foreign
-restore_ends (Err faults.Read) own = absurd (cc)
-restore_ends answer own = search (rules, true≢false)
+restore_ends answer own = search rules
 
 -- whatever the header says
 RestoreEnds-narrow : (status : Status) → RestoreEnds status → RestoreNarrowEnds status
@@ -75,8 +69,7 @@ narrow_ends None I32 (Err e) own = search (rules, RestoreEnds-narrow, restore_en
 narrow_ends fault ty answer own = search rules
 
 info_ends : (fault : Option HeaderFault) → InfoEnds (header_status fault)
-info_ends None = tt
-info_ends (Some f) = tt
+info_ends _ = search rules
 
 -- a file that is not opened ends a command with one of these statuses
 unfoldable pub IsRefusal : (Status → Type 0) → Result Said Status → Type 0
@@ -85,26 +78,21 @@ IsRefusal Ends (Err status) = Ends status
 
 said_ends : (answer : Result Said StreamFault) → blames_foreign (without_said answer) ≡ false → IsRefusal FileEnds (said_or_status answer)
 unfolding blames_foreign is_foreign IsRefusal
-said_ends (Err faults.Read) own = absurd (cc)
-said_ends answer own = search (rules, true≢false)
+said_ends answer own = search rules
 
 -- what ends a file ends a look, and what ends a look ends a run
 FileEnds-look : (status : Status) → FileEnds status → LookEnds status
-FileEnds-look Done ends = absurd ends
 FileEnds-look status ends = search rules
 
 LookEnds-run : (status : Status) → LookEnds status → RunEnds status
-LookEnds-run SaveFault ends = tt
 LookEnds-run status ends = search rules
 
 FileEnds-bound : (status : Status) → FileEnds status → BoundEnds status
-FileEnds-bound Done ends = absurd ends
 FileEnds-bound status ends = search rules
 
 refusal_of : (Ends Others : Status → Type 0) → ((status : Status) → Ends status → Others status) → (file : Result Said Status) → IsRefusal Ends file → IsRefusal Others file
 unfolding IsRefusal
-refusal_of Ends Others more (Ok said) ends = tt
-refusal_of Ends Others more (Err status) ends = more status ends
+refusal_of _ _ more _ ends = search rules
 
 -- it is no array's for one of these reasons
 array_ends : (Ends : Status → Type 0) → ((f : HeaderFault) → Ends (statuses.Header f)) → ((m : ℕ) → Ends (NotRate m)) → ((status : Status) → FileEnds status → Ends status) → (fault : Option HeaderFault) (mode : Mode) (answer : Result Said StreamFault) → blames_foreign (without_said answer) ≡ false
@@ -126,8 +114,7 @@ array_in-certified bytes = array_ends BoundEnds (λ f. tt) (λ m. tt) FileEnds-b
 
 certified_ends : (file : Result Said Status) → IsRefusal BoundEnds file → BoundEnds (certified_status file)
 unfolding IsRefusal
-certified_ends (Ok said) refusal = tt
-certified_ends (Err status) refusal = refusal
+certified_ends _ refusal = search rules
 
 stream_in-ends : (bytes : List ℕ) → IsRefusal LookEnds (stream_in bytes)
 unfolding stream_in
@@ -135,13 +122,11 @@ stream_in-ends bytes = refusal_of FileEnds LookEnds FileEnds-look (said_or_statu
 
 opened_ends : (Ends : Status → Type 0) (reading : List ℕ → Result Said Status) → Ends Missing → Ends FileLong → ((bytes : List ℕ) → IsRefusal Ends (reading bytes)) → (file : Option (List ℕ)) → IsRefusal Ends (opened reading file)
 unfolding IsRefusal
-opened_ends Ends reading missing long ends None = missing
-opened_ends Ends reading missing long ends (Some bytes) = search rules
+opened_ends _ reading missing long ends _ = search rules
 
 -- whatever the file holds, it is refused before anything is read of a script
 FileEnds-first : (status : Status) → FileEnds status → ComesFirst status
-FileEnds-first (NotRate m) ends = tt
-FileEnds-first status ends = ends
+FileEnds-first status ends = search rules
 
 array_in-first : (bytes : List ℕ) → IsRefusal ComesFirst (array_in bytes)
 unfolding array_in
@@ -152,13 +137,11 @@ opened_first_array file = opened_ends ComesFirst array_in tt tt array_in-first f
 
 script_ends : (Ends : Status → Type 0) (answers : Answering) → Ends ScriptLong → ((n : ℕ) → Ends (lines_status n)) → (file : Result Said Status) → IsRefusal Ends file → (starved script : List ℕ) → Ends (script_status answers file starved script)
 unfolding IsRefusal
-script_ends Ends answers long ends (Err status) refusal starved script = refusal
-script_ends Ends answers long ends (Ok said) refusal starved script = search rules
+script_ends _ answers long ends _ refusal starved script = search rules
 
 -- some lines are refused, or none
 lines_end : (n : ℕ) → LookEnds (lines_status n)
-lines_end zero = tt
-lines_end (suc n) = omega arith
+lines_end _ = search rules
 
 possible_status : (c : Command) (w : World) (starved : List ℕ) → IsPossible c ((meaning c).status w starved)
 possible_status (Compress h) w starved = search (rules, compress_ends, ltb-true)
@@ -175,14 +158,11 @@ pub IsPossible-behaves : (c : Command) (status : Status) (before now : Seen) →
 IsPossible-behaves c status before now behaves = search (rules, possible_status, possible_fault)
 
 from_outside : (status : Status) (c : Command) (w : World) → (meaning c).loads ≡ false → (meaning c).saves ≡ false → MayFail status c w → IsFromOutside status
-from_outside LoadFault c w no_load no_save may = absurd (subst (λ b. OfUsed b (Unit {0})) no_load may)
-from_outside SaveFault c w no_load no_save may = absurd (subst (λ b. OfUsed b ((meaning c).works w)) no_save may)
 from_outside status c w no_load no_save may = search rules
 
 -- a source that exposes these bytes exposes no other
 the_input : (known : Option (List ℕ)) (bytes input : List ℕ) → known ≡ Some bytes → ExposesInput known input → input ≡ bytes
-the_input None bytes input is exposed = absurd (cc)
-the_input (Some all) bytes input is exposed = let same : all ≡ bytes = cc in sym exposed ∙ same
+the_input _ bytes input is exposed = search rules
 
 -- these bytes are written by a command that is done over what the source holds, and reads all of it
 comes_back : (c : Command) (status : Status) (before now : Seen) (held bytes : List ℕ) → before.src ≡ Some held → (meaning c).loads ≡ false → (meaning c).saves ≡ false

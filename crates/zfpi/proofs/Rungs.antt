@@ -15,7 +15,7 @@ use Rattle.zf_cached.{specs.Runs.{ended, replies_text}, specs.Steps.{Session}}
 use Rattle.zf_commands.{specs.Steps.{is_refusal}, specs.Runs.{RunsAll}}
 use Rattle.zf_run.specs.declared.end.RunEnd.TheVariants as ends
 use Rattle.zfpi.{specs.declared.status.Status.{Status}, specs.declared.command.Access.{Access}}
-use Rattle.zfpi.specs.declared.status.Status.TheVariants.{Header as NoHeader, NotRate, Pad, ReadFault, WriteFault, LoadFault}
+use Rattle.zfpi.specs.declared.status.Status.TheVariants.{Header as NoHeader, NotRate, ReadFault, WriteFault, LoadFault}
 use Rattle.zfpi.{specs.declared.command.Access.TheVariants.{Run, Look}, specs.Faults.{take_status}}
 use Rattle.zfpi.{specs.World.{seen}, specs.Answer.{meaning}, specs.Scripts.{reads_script, lines_status}}
 use Rattle.zfpi.specs.Accesses.{command_on, admits, reading_of, answers_of, file_of, named}
@@ -51,7 +51,6 @@ pub record Refuses (status : Status) : Type 0 where
   pub undone : is_work_done status ≡ false
 
 pub refuses : (status : Status) → RefusesFile status → Refuses status
-refuses Pad why = record { first = tt; no_read = λ is. cc; no_write = λ is. cc; no_load = λ is. cc; undone = refl }
 refuses status why = search rules
 
 -- ---- the rungs

@@ -1,6 +1,6 @@
 -- What a command does that works on a script, once its file is opened.
-use Rattle.std.proofs.Common.{rules, ◌≡◌, ℕ, zero, suc, ◌+◌, ◌≤◌, ◌<◌, List, [], ◌∷◌, ◌++◌, length, take, drop, true, Option, Some, None, Result, Ok, IsOk, is_some, ◌⊎◌, inl, inr, refl, ap, sym, subst, ◌∙◌, arith, append-nil, length-append}
-use Rattle.std.{specs.Prelude.{count_by}, proofs.lemmas.Bool.{lt-ltb, le-ltb, false≢true}}
+use Rattle.std.proofs.Common.{rules, ◌≡◌, ℕ, zero, suc, ◌+◌, ◌≤◌, ◌<◌, List, [], ◌∷◌, ◌++◌, length, take, drop, true, Option, Some, Result, Ok, IsOk, is_some, ◌⊎◌, inl, inr, refl, ap, sym, subst, ◌∙◌, arith, append-nil, length-append}
+use Rattle.std.{specs.Prelude.{count_by}, proofs.lemmas.Bool.{lt-ltb, le-ltb}}
 use Rattle.std.{proofs.lemmas.Grind.{flat_map-append}, proofs.lemmas.List.{take-append-drop}}
 use Rattle.std.proofs.Math.Seq.{take-append-add}
 use Rattle.zf_dev.{specs.Shelf.{Files, KeepsFiles}, specs.Source.{Takes, IsAtEnd, TakesMoreThan, TakesSome}}
@@ -12,7 +12,7 @@ use Rattle.zf_cached.{specs.Replies.{reply_text}, specs.Steps.{Setting, Session}
 use Rattle.zf_cached.{specs.Runs.{lines_of, run_lines, replies_text}, proofs.Runs.{run_lines-append}}
 use Rattle.zf_commands.{specs.Steps.{is_refusal}, specs.Runs.{StopsAt}}
 use Rattle.zfpi.{specs.declared.status.Status.{Status}, specs.declared.command.Access.{Access}}
-use Rattle.zfpi.{specs.declared.command.Access.TheVariants.{Run, Look}, specs.Faults.{take_status}}
+use Rattle.zfpi.{specs.Faults.{take_status}}
 use Rattle.zfpi.{specs.declared.command.Command.{Command}, specs.Opened.{opened}, specs.Loaded.{HoldsFile}}
 use Rattle.zfpi.specs.Scripts.{Answering, lines_status, script_status, script_text, reads_script, AreStarved, OnWholeScript, TakesScript, IsRunnable}
 use Rattle.zfpi.specs.Accesses.{command_on, reading_of, answers_of, file_of, named}
@@ -25,13 +25,11 @@ use Rattle.zfpi.specs.declared.status.Status.TheVariants as statuses
 
 -- some lines are refused
 pub lines_status-some : (n : ℕ) → 1 ≤ n → lines_status n ≡ statuses.Lines n
-lines_status-some zero some = absurd (omega arith)
-lines_status-some (suc n) some = refl
+lines_status-some _ some = search rules
 
 -- statuses where a whole script was run
 pub by_lines : (P : Status → Type 0) → P statuses.Done → ((m : ℕ) → P (statuses.Lines m)) → (n : ℕ) → P (lines_status n)
-by_lines P done lines zero = done
-by_lines P done lines (suc n) = lines (suc n)
+by_lines _ done lines _ = search rules
 
 -- how it ends once the replies were to be handed on, and a file to be saved
 pub by_end : {Saving Unsent : Type 0} (P : Status → Type 0) (status end : Status) → (end ≡ status) ⊎ ((end ≡ statuses.SaveFault) × Saving) ⊎ ((end ≡ statuses.WriteFault) × Unsent) → P status → (Saving → P statuses.SaveFault) → (Unsent → P statuses.WriteFault) → P end
@@ -54,18 +52,15 @@ pub record IsScripted (c : Command) (name : List ℕ) (reading : List ℕ → Re
   pub saves : (w : World) → (meaning c).saves ≡ true → IsRunnable (opened reading (w.files name)) w → OfUsed (meaning c).saves ((meaning c).works w)
 
 pub IsScripted-on : (access : Access) (name : List ℕ) → IsScripted (command_on access name) name (reading_of access) (answers_of access) (file_of access)
-IsScripted-on (Run caching) name = search rules
-IsScripted-on (Look lines) name = search (rules, false≢true)
+IsScripted-on _ name = search rules
 
 pub loads-on : (access : Access) (name : List ℕ) → (meaning (command_on access name)).loads ≡ true
-loads-on (Run caching) name = refl
-loads-on (Look lines) name = refl
+loads-on _ name = search rules
 
 -- a script of more bytes than a script may have
 long_input : (src src_now : Option (List ℕ)) (bytes : List ℕ) → 16777216 < length bytes → Takes src src_now bytes → (input : List ℕ) × ExposesInput src input × (16777216 < length input)
-long_input None src_now bytes long takes = (bytes, tt, long)
-long_input (Some all) None bytes long takes = absurd takes
 long_input (Some all) (Some left) bytes long takes = (all, refl, omega (arith, ap length takes, length-append bytes left, long))
+long_input _ src_now bytes long takes = search rules
 
 module _ (c : Command) (name : List ℕ) (reading : List ℕ → Result Said Status) (answers : Answering) (filed : Said → List ℕ → List ℕ → Option (List ℕ)) (is : IsScripted c name reading answers filed) (known mid : Option Files) (bytes : List ℕ) (said : Said)
     (holds : HoldsFile known name bytes) (opens : reading bytes ≡ Ok said) (kept : KeepsFiles known mid) where

@@ -1,5 +1,5 @@
 -- Shapes as words: `split` against sizes joined by the letter x.
-use Rattle.std.proofs.Common.{rules, ◌≡◌, ◌≢◌, ℕ, zero, suc, ◌+◌, ◌/◌, ◌^◌, ◌<◌, ◌≤◌, Bool, true, false, eqb, List, [], ◌∷◌, map, length, get_or, set, take, ◌++◌, ◌↔◌, Option, Result, Ok, Err, IsOk, IfOk, IfSome, IfNone, refl, ap, sym, ◌∙◌, subst, arith, lit<, append_assoc, add-one, decimal}
+use Rattle.std.proofs.Common.{rules, ◌≡◌, ◌≢◌, ℕ, suc, ◌+◌, ◌/◌, ◌^◌, ◌<◌, ◌≤◌, Bool, true, false, eqb, List, [], ◌∷◌, map, length, get_or, set, take, ◌++◌, ◌↔◌, Option, Result, Ok, Err, IsOk, IfOk, IfSome, IfNone, refl, ap, sym, ◌∙◌, subst, arith, lit<, append_assoc, add-one, decimal}
 use Rattle.std.{specs.List.{All, AllByRecursion, slice_split, join_with_byte}, proofs.Math.Nat.{div-le_self}}
 use Rattle.std.{proofs.Math.Pow.{pow_mono}, proofs.lemmas.Bool.{ne_eqb}, specs.Result.{result_ok}}
 use Rattle.std.{proofs.lemmas.Fmt.{decimal_injective}, proofs.lemmas.List.Elements.{All-from_get_or}}
@@ -49,9 +49,8 @@ pub sizes_small : (ns : List ℕ) → IsShape ns → AllByRecursion (λ n. n < 2
 sizes_small ns shape = fields_small (length ns) ns shape.some_dimension shape.fields
 
 size_small : (ns : List ℕ) (k : ℕ) → AllByRecursion (λ n. n < 2 ^ 64) ns → k < length ns → get_or ns k 0 < 2 ^ 64
-size_small [] k all lt = absurd (omega arith)
-size_small (n ∷ ns) zero all lt = all.0
 size_small (n ∷ ns) (suc k) all lt = size_small ns k all.1 (omega arith)
+size_small _ k all lt = search rules
 
 -- the word of a shape is cut into its sizes
 pub parts_of-shape : (word ns : List ℕ) → IsShape ns → word ≡ shape_word ns → parts_of word ≡ map decimal ns
@@ -60,14 +59,13 @@ parts_of-shape word ns shape is = ap parts_of is ∙ parts_of-joined ns shape.so
 -- numbers with the same texts are the same
 pub decimals_injective : (ms ns : List ℕ) → AllByRecursion (λ n. n < 2 ^ 64) ms → AllByRecursion (λ n. n < 2 ^ 64) ns → map decimal ms ≡ map decimal ns → ms ≡ ns
 decimals_injective [] [] a b same = refl
-decimals_injective [] (n ∷ ns) a b same = absurd (cc)
-decimals_injective (m ∷ ms) [] a b same = absurd (cc)
 decimals_injective (m ∷ ms) (n ∷ ns) a b same =
     let head : decimal m ≡ decimal n = cc in
     let tail : map decimal ms ≡ map decimal ns = cc in
     let first = decimal_injective m n a.0 b.0 head in
     let rest = decimals_injective ms ns a.1 b.1 tail in
     cc
+decimals_injective _ _ a b same = absurd (cc)
 
 -- a part that a shape's word is cut into is a number
 pub part_is_number : (word ns part : List ℕ) (k : ℕ) → IsShape ns → word ≡ shape_word ns → k < length (parts_of word) → part ≡ get_or (parts_of word) k part → (n : ℕ) × (n < 2 ^ 64) × (part ≡ decimal n)
@@ -118,13 +116,10 @@ shape_none word sizes (Err e) o small cut iff is = rw is (λ ns shape spelled. l
 
 -- ---- a shape's word, size by size
 joined_more : (ns : List ℕ) (k : ℕ) → k < length ns → 1 ≤ k → shape_word (take (suc k) ns) ≡ shape_word (take k ns) ++ 120 ∷ decimal (get_or ns k 1)
-joined_more [] k lt some = absurd (omega arith)
-joined_more (n ∷ []) k lt some = absurd (omega arith)
-joined_more (n ∷ m ∷ ns) zero lt some = absurd (omega arith)
-joined_more (n ∷ m ∷ ns) (suc zero) lt some = refl
 joined_more (n ∷ m ∷ ns) (suc (suc j)) lt some =
     ap (λ rest. decimal n ++ 120 ∷ rest) (joined_more (m ∷ ns) (suc j) (omega arith) (omega arith))
     ∙ sym (append_assoc (decimal n) (120 ∷ shape_word (take (suc j) (m ∷ ns))) (120 ∷ decimal (get_or ns j 1)))
+joined_more _ k lt some = search rules
 
 pub shape_word_more : (ns text start : List ℕ) (k : ℕ) → k < length ns → 1 ≤ k → text ≡ (start ++ shape_word (take k ns)) ++ 120 ∷ decimal (get_or ns k 1) → text ≡ start ++ shape_word (take (k + 1) ns)
 shape_word_more ns text start k lt some is =

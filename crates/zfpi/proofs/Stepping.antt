@@ -1,5 +1,5 @@
 -- The steps of a call on the shelf.
-use Rattle.std.proofs.Common.{rules, ◌≡◌, ◌≢◌, ℕ, ◌≤◌, ◌&&◌, Bool, true, false, refl, ap, sym, subst, arith}
+use Rattle.std.proofs.Common.{rules, ◌≡◌, ◌≢◌, ℕ, ◌≤◌, ◌&&◌, Bool, true, false, refl, ap, sym, subst}
 use Rattle.std.proofs.lemmas.Bool.{true≢false}
 use Rattle.zf_dev.{specs.Faults.{IsQuiet, HasCause}, specs.declared.faults.LoadError.{LoadError}}
 use Rattle.zf_dev.specs.declared.faults.TakeError.{TakeError}
@@ -11,8 +11,7 @@ use Rattle.zfpi.{specs.Faults.{load_status, take_status}, specs.Sending.{EndsSen
 use Rattle.zfpi.specs.Steps.{is_work_done, Makes, SavesOnce, Steps, IsShelfless}
 
 and_false : (b : Bool) → b && false ≡ false
-and_false true = refl
-and_false false = refl
+and_false _ = search rules
 
 -- ---- one step, or none
 
@@ -22,18 +21,15 @@ module _ {F : Type 0} (step : F → F → Type 0) (faults : F → ℕ) where
 
   -- no count falls
   Makes-kept : (b : Bool) (fault : Type 0) (before now : F) → Makes b step faults fault before now → faults before ≤ faults now
-  Makes-kept true fault before now makes = makes.1.0
-  Makes-kept false fault before now makes = subst (λ s. faults before ≤ faults s) (sym makes.0) (omega arith)
+  Makes-kept _ fault before now makes = search rules
 
   -- where the count did not rise there is no fault
   Makes-quiet : (b : Bool) (fault : Type 0) (before now : F) (first last : ℕ) → first ≤ faults before → faults now ≤ last → IsQuiet first last → Makes b step faults fault before now → fault → ⊥
-  Makes-quiet true fault before now first last low high quiet makes is = omega (arith, makes.1.1 is, low, high, quiet)
-  Makes-quiet false fault before now first last low high quiet makes is = makes.1 is
+  Makes-quiet _ fault before now first last low high quiet makes is = search rules
 
   -- the same steps without this fault
   Makes-other : (b : Bool) (fault other : Type 0) (before now : F) → (other → ⊥) → Makes b step faults fault before now → Makes b step faults other before now
-  Makes-other true fault other before now none makes = (makes.0, (makes.1.0, λ is. absurd (none is)))
-  Makes-other false fault other before now none makes = (makes.0, none)
+  Makes-other _ fault other before now none makes = search rules
 
 -- ---- at most one save, behind a load
 

@@ -6,7 +6,7 @@ use Rattle.zf_dev.{specs.declared.source.Source.{Ghosts as Source}, specs.Source
 use Rattle.zf_dev.{specs.Sink.{Appends, AppendsPrefix}, proofs.Appending.{AppendsPrefix-none}}
 use Rattle.zf_header.{specs.declared.header.Header.{Header}, specs.HeaderFaults.{header_fault}}
 use Rattle.zf_header.specs.declared.header.Mode.TheVariants.{Reversible}
-use Rattle.zf_base.{specs.declared.lane.Ty.{Ty}, specs.declared.lane.Ty.TheVariants.{I32, I64}}
+use Rattle.zf_base.{specs.declared.lane.Ty.{Ty}, specs.declared.lane.Ty.TheVariants.{I32}}
 use Rattle.zf_parse.{specs.declared.fault.StreamFault.{StreamFault}, specs.Raw.{stream_text}}
 use Rattle.zf_parse.{specs.Parsing.{header_of}, proofs.Parsed.{good_header}}
 use Rattle.zf_parse.proofs.StreamsBack.{answer-stream_text}
@@ -37,8 +37,7 @@ IsCut status = Unit {0}
 
 IsOfCommand-cut : (status : Status) → IsCut status → IsOfCommand status
 unfolding IsCut
-IsOfCommand-cut (statuses.Usage k) cut = absurd cut
-IsOfCommand-cut status cut = tt
+IsOfCommand-cut status cut = search rules
 
 Writes-cut : (status : Status) (text draft : List ℕ) (before now : Option (List ℕ)) → IsCut status → AppendsPrefix before now draft → Writes status text draft before now
 unfolding IsCut
@@ -49,12 +48,10 @@ Writes-cut status text draft before now cut prefix = prefix
 
 IsCut-fault : (e : StreamFault) → IsCut (fault_status e)
 unfolding IsCut
-IsCut-fault (faults.RawShort m) = tt
-IsCut-fault e = tt
+IsCut-fault e = search rules
 
 TakesStream-fault : (e : StreamFault) (input taken : List ℕ) → TakesStream (fault_status e) input taken
-TakesStream-fault (faults.RawShort m) input taken = tt
-TakesStream-fault e input taken = tt
+TakesStream-fault e input taken = search rules
 
 -- a command that reads a stream to its end and saves nothing
 pub record IsStreaming (c : Command) : Type 0 where
@@ -94,12 +91,10 @@ write_named faults.Write is = refl
 write_named e is = absurd (cc)
 
 pub narrow_read_named : (e : NarrowFault) → narrow_status e ≡ statuses.ReadFault → e ≡ Stream faults.Read
-narrow_read_named NotNarrow is = absurd (cc)
-narrow_read_named (Stream e) is = ap Stream (read_named e is)
+narrow_read_named _ is = search rules
 
 pub narrow_write_named : (e : NarrowFault) → narrow_status e ≡ statuses.WriteFault → e ≡ Stream faults.Write
-narrow_write_named NotNarrow is = absurd (cc)
-narrow_write_named (Stream e) is = ap Stream (write_named e is)
+narrow_write_named _ is = search rules
 
 -- ---- after Ok
 
@@ -198,16 +193,13 @@ one_stream-good = good_header (stream_text one_header []) (answer-stream_text on
 
 IsCut-narrow : (e : NarrowFault) → IsCut (narrow_status e)
 unfolding IsCut
-IsCut-narrow NotNarrow = tt
-IsCut-narrow (Stream e) = IsCut-fault e
+IsCut-narrow _ = search rules
 
 pub narrow_prefix : (e : NarrowFault) (text : List ℕ) (before now : Option (List ℕ)) → AppendsPrefix before now text → (IsBeforeWriting e → AppendsPrefix before now []) → AppendsPrefix before now (restore_draft (narrow_status e) text)
-narrow_prefix NotNarrow text before now prefix none = none tt
-narrow_prefix (Stream e) text before now prefix none = restore_prefix e text before now prefix none
+narrow_prefix _ text before now prefix none = search rules
 
 may_outside_narrow : (n : Narrow) (e : NarrowFault) (w : World) → (e ≡ Stream faults.Memory → (meaning (RestoreNarrow n)).memory w) → IsFromOutside e → MayFail (narrow_status e) (RestoreNarrow n) w
-may_outside_narrow n NotNarrow w takes outside = absurd outside
-may_outside_narrow n (Stream e) w takes outside = may_outside (RestoreNarrow n) e w (IsStreaming-restore_narrow n) (λ memory. takes (ap Stream memory)) outside
+may_outside_narrow n _ w takes outside = search rules
 
 -- the status is the one that is stated for the input, or for some input where none is exposed
 narrow_why : (n : Narrow) (e : NarrowFault) (src_before : Option (List ℕ)) (shelf : Option Files)
@@ -227,8 +219,7 @@ narrow_why n e src_before shelf answers refuses takes = explain (RestoreNarrow n
     ]
 
 wide_type : (ty : Ty) (answer : Result (Unit {0}) StreamFault) → ty ≢ I32 → answer_of_type ty answer ≡ Err NotNarrow
-wide_type I32 answer other = absurd (other refl)
-wide_type I64 answer other = refl
+wide_type _ answer other = search rules
 
 wide_answer : (bytes : List ℕ) → header_fault bytes ≡ None → (header_of bytes).ty ≢ I32 → restore_narrow_answer bytes ≡ Err NotNarrow
 wide_answer bytes good other = search (rules, wide_type)

@@ -10,7 +10,6 @@ use Rattle.zf_cached.specs.Runs.{lines_of, run_lines, run_script, run, look, end
 use Rattle.zf_store.specs.Files as store
 use Rattle.zf_store.specs.Stored.{Stored}
 use Rattle.zf_index.specs.declared.fault.IndexFault.{IndexFault}
-use Rattle.zf_index.specs.declared.fault.IndexFault.TheVariants as index
 use Rattle.zf_index.specs.Files as stream
 use Rattle.zf_array.specs.Standing as arrays
 use Rattle.zf_const.specs.Standing as streams
@@ -149,8 +148,7 @@ module _ (lines : Option ℕ) (w : Width) (bytes : List ℕ) (h : Header) (a : s
 -- ---- a file that is not opened
 
 pub RefusesFile-index : (e : IndexFault) → RefusesFile (index_status e)
-RefusesFile-index (index.Truncated b) = tt
-RefusesFile-index e = tt
+RefusesFile-index e = search rules
 
 -- what a run loads is a store's file
 pub HasHeader-run : (access : Access) (caching : Caching) (loaded : Loaded) → access ≡ Run caching → IsAccessed access loaded → store.HasHeader loaded.file.items loaded.header
