@@ -9,8 +9,5 @@ block_sizes (suc (suc (suc (suc zero)))) n some four e = inr (inr (inr e))
 block_sizes d n some four e = absurd (omega arith)
 
 -- a block has whole rows of four
-fours_whole : (n k : ℕ) → n ≡ 4 * k → n % 4 ≡ 0
-fours_whole n k e = omega arith
-
 pub rows_whole : (d n : ℕ) → 1 ≤ d → d ≤ 4 → n ≡ 4 ^ d → n % 4 ≡ 0
 rows_whole d n some four e = omega (arith, block_sizes d n some four e)

@@ -1,7 +1,6 @@
 -- Scripts cut at their first line feed.
 use Rattle.std.proofs.Common.{◌≡◌, refl, ap, ◌∙◌, ℕ, suc, ◌+◌, ◌<◌, Bool, true, false, eqb, List, [], ◌∷◌, length, take, drop, get_or, arith, rules}
-use Rattle.std.specs.List.{onto_first}
-use Rattle.std.proofs.lemmas.List.Splits.{slice_split-cons_no}
+use Rattle.std.{specs.List.{onto_first}, proofs.lemmas.List.Splits.{slice_split-cons_no}}
 use Rattle.zf_cached.specs.Runs.{lines_of}
 
 is_false : (b : Bool) → (b ≡ true → ⊥) → b ≡ false

@@ -67,9 +67,6 @@ others_more numbers count n unused others k above below = search (rules, get_or-
 abbrev pub pos_of : List ℕ → Pos
 pos_of xs = record { x = get_or xs 0 0; y = get_or xs 1 0; z = get_or xs 2 0; w = get_or xs 3 0 }
 
-same_pos : (xs ys : List ℕ) → get_or xs 0 0 ≡ get_or ys 0 0 → get_or xs 1 0 ≡ get_or ys 1 0 → get_or xs 2 0 ≡ get_or ys 2 0 → get_or xs 3 0 ≡ get_or ys 3 0 → pos_of xs ≡ pos_of ys
-same_pos xs ys x y z w = cc
-
 -- the others are as they were
 others_are : (numbers : List ℕ) (count unused : ℕ) → length numbers ≡ 4 → count ≤ 4 → ((k : ℕ) → count ≤ k → k < 4 → get_or numbers k 0 ≡ unused) → pos_of numbers ≡ with_unused unused (used_axes count (pos_of numbers))
 others_are numbers _ u four most others = search rules

@@ -163,9 +163,6 @@ BeginsOnView verb rest (Command.pdiscard i) = (verb ≡ codes "discard") × (res
 BeginsOnView verb rest (Command.pstats i) = (verb ≡ codes "stats") × (rest ≡ [])
 BeginsOnView verb rest _ = ⊥
 
-other_view : (word : List ℕ) (c : Command) (rest : List (List ℕ)) → bytes_eq (64 ∷ word) (get_or (words_of c) 0 []) ≡ false → (64 ∷ word) ∷ rest ≡ words_of c → ⊥
-other_view word c rest differ same = other_verb (64 ∷ word) c rest differ same
-
 begins_on_view : (word verb : List ℕ) (rest : List (List ℕ)) (c : Command) → (64 ∷ word) ∷ verb ∷ rest ≡ words_of c → BeginsOnView verb rest c
 begins_on_view word verb rest c same = search rules
 

@@ -7,9 +7,6 @@ use Rattle.zf_spec.specs.Numbers.{floor_half, is_odd, is_odd_int, digit_value}
 pub digit_value-is_odd : (n : ℕ) → digit_value (is_odd n) ≡ n % 2
 digit_value-is_odd n = search (rules, eqb-true, eqb-false)
 
-digit_value-not : (b : Bool) → digit_value (not b) + digit_value b ≡ 1
-digit_value-not b = grind arith
-
 -- a number is its lowest digit and twice its half
 pub half_split : (v : ℤ) → v ≡ pos (digit_value (is_odd_int v)) +ℤ pos 2 *ℤ floor_half v
 half_split _ = search rules

@@ -1,6 +1,5 @@
 -- The laws of products of whole numbers that std lacks.
-use Rattle.std.proofs.Common.{◌≡◌, ◌*◌, ℤ, ◌+ℤ◌, ◌*ℤ◌, neg_ℤ, ap, arith, rules}
-use Rattle.std.{proofs.lemmas.Int.{ints}}
+use Rattle.std.{proofs.Common.{◌≡◌, ◌*◌, ℤ, ◌+ℤ◌, ◌*ℤ◌, neg_ℤ, ap, arith, rules}, proofs.lemmas.Int.{ints}}
 use borrow.Author.Differences.{up, down, sum_is_lem, product_is}
 
 pub add-*ℤ : (a b c : ℤ) → (a +ℤ b) *ℤ c ≡ a *ℤ c +ℤ b *ℤ c

@@ -33,10 +33,6 @@ sum_found-unwritten {Code} format ns s w (suc n) h =
     let value_by : (ℕ → List ℤ) → ℤ = λ vs. value_in ns (record s { values = vs }) (raster_at w n) in
     (λ i. sum_found-unwritten format ns s w n h i +ℤ value_by (there.values i))
 
--- so does one
-pub value_unwritten : {Code : Type 0} (format : Format Code) (ns : List ℕ) (s : State Code) (b : ℕ) (p : Pos) → IsUnwritten s.codes s.values s → value_in ns (touch format s b) p ≡ value_in ns s p
-value_unwritten format ns s b p h = search (rules, touch-unwritten)
-
 pub clean_unwritten : {Code : Type 0} (s : State Code) → ((b : ℕ) → s.dirty b ≡ false) → IsUnwritten s.codes s.values s
 clean_unwritten s clean = record { codes = refl; values = refl; clean = clean }
 

@@ -150,15 +150,6 @@ IsUsage-stopped words k stage lt leads stop = record {
   longest = λ n above within begins. stop (BeginsCommand-shorter words (k + 1) n (omega arith) begins);
 }
 
-behind_rate : (m : Mode) → codes "rate" ∷ [] ≡ mode_words m → ⊥
-behind_rate m same = search rules
-
-behind_precision : (m : Mode) → codes "precision" ∷ [] ≡ mode_words m → ⊥
-behind_precision m same = search rules
-
-no_mode : (m : Mode) → [] ≡ mode_words m → ⊥
-no_mode m same = search rules
-
 -- what is asked for where the words begin a task
 record IsAsked (ty : Ty) (ns : List ℕ) (behind : List (List ℕ)) : Type 0 where
   mode : Mode
@@ -185,11 +176,7 @@ IsAsked-begun task ty ns behind words c begun spelled =
 IsBegun-more : (task : Task) (ty : Ty) (ns : List ℕ) (behind words : List (List ℕ)) (word : List ℕ) (rest : List (List ℕ)) → IsBegun task ty ns behind words → IsBegun task ty ns (behind ++ word ∷ rest) ((words ++ word ∷ []) ++ rest)
 IsBegun-more task ty ns behind words word rest begun = search (rules, append_assoc)
 
--- words on the way to a mode are no whole command
-no_asked : (task : Task) (ty : Ty) (ns : List ℕ) (behind words : List (List ℕ)) (c : Command) → IsBegun task ty ns behind words → ((m : Mode) → behind ≡ mode_words m → ⊥) → IsSpelled c words → ⊥
-no_asked task ty ns behind words c begun none spelled = let is = IsAsked-begun task ty ns behind words c begun spelled in none is.mode is.behind_is
-
--- nor are none
+-- no words are no command
 no_words : (words : List (List ℕ)) (c : Command) → words ≡ [] → IsSpelled c words → ⊥
 no_words words c is spelled = let whole = begins_with c words spelled in let same = sym is ∙ whole.1 in cc
 
@@ -198,9 +185,6 @@ fewest : List ℕ → ℕ
 fewest word =
     cond (bytes_eq word (codes "compress")) 4 (cond (bytes_eq word (codes "sample")) 5 (cond (bytes_eq word (codes "new")) 5
     (cond (bytes_eq word (codes "bound")) 3 (cond (bytes_eq word (codes "run")) 2 (cond (bytes_eq word (codes "look")) 2 0)))))
-
-four_words : (typed shaped : List ℕ) (words : List (List ℕ)) (m : Mode) → words ≡ codes "compress" ∷ typed ∷ shaped ∷ mode_words m → 4 ≤ length words
-four_words typed shaped words m is = search rules
 
 enough_words : (c : Command) (words : List (List ℕ)) → IsSpelled c words
     → fewest (first_word c) ≤ length words
@@ -225,18 +209,6 @@ record HasCaching (script : Script) (behind : List (List ℕ)) : Type 0 where
   caching_is : IsCaching caching
   behind_is : behind ≡ caching_words caching
   has : Has script caching
-
-behind_name : (first name : List ℕ) (behind words : List (List ℕ)) (n : List ℕ) (caching : Caching) → words ≡ first ∷ name ∷ behind → IsOnScript first n caching words → behind ≡ caching_words caching
-behind_name first name behind words n caching is spelled = search rules
-
-HasCaching-begun : (script : Script) (name : List ℕ) (behind words : List (List ℕ)) (c : Command) → words ≡ script_word script ∷ name ∷ behind → IsSpelled c words → HasCaching script behind
-unfolding first_word mark Has
-HasCaching-begun scripts.Run name behind words (Run n k) is spelled =
-    record { caching = k; caching_is = spelled.caching_is; behind_is = behind_name (codes "run") name behind words n k is spelled; has = tt }
-HasCaching-begun scripts.Look name behind words (Look n l) is spelled =
-    record { caching = Direct l; caching_is = spelled.caching_is; behind_is = behind_name (codes "look") name behind words n (Direct l) is spelled; has = tt }
-HasCaching-begun scripts.Run name behind words c is spelled = absurd (omega (arith, mark_of c words (codes "run") (name ∷ behind) is spelled))
-HasCaching-begun scripts.Look name behind words c is spelled = absurd (omega (arith, mark_of c words (codes "look") (name ∷ behind) is spelled))
 
 -- the number of such a word
 pub IsLinesWord-number : (l n : ℕ) (word : List ℕ) → IsLinesWord l word → n < 2 ^ 64 → word ≡ decimal n → l ≡ n

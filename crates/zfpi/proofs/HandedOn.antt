@@ -43,9 +43,6 @@ IsSentAfter (Look name lines) = ⊥
 IsSentAfter c = Unit {0}
 
 -- a file that was opened so is open where the work was done
-first_undone : (status : Status) → ComesFirst status → IsDone status → ⊥
-first_undone = by_first (λ s. IsDone s → ⊥) (λ no. no) (λ no. no) (λ no. no) (λ f no. no) (λ b no. no) (λ no. no) (λ no. no) (λ no. no) (λ m no. no)
-
 certified_done : (file : Result Said Status) (status : Status) → IsRefusal ComesFirst file → IsDone status → status ≡ certified_status file → IsOk file
 unfolding IsRefusal
 certified_done _ status refusal done same = search rules

@@ -54,15 +54,6 @@ Unsaved-first = by_first Unsaved tt tt tt (λ f. tt) (λ b. tt) tt tt tt (λ m. 
 
 -- ---- shelves
 
-KeepsFiles-kept : (before mid now : Option Files) → KeepsFiles before mid → KeepsFiles mid now → KeepsFiles before now
-KeepsFiles-kept _ mid now a b = search rules
-
-KeepsOthers-kept : (before mid now : Option Files) (name : List ℕ) → KeepsFiles before mid → KeepsOthers mid now name → KeepsOthers before now name
-KeepsOthers-kept _ mid now name a b = search rules
-
-SavesFile-kept : (before mid now : Option Files) (name bytes : List ℕ) → KeepsFiles before mid → SavesFile mid now name bytes → SavesFile before now name bytes
-SavesFile-kept before mid now name bytes kept saves = search (rules, KeepsOthers-kept)
-
 -- what is saved of files that were kept before is saved of those
 pub Saves-kept : (file : Option (List ℕ × List ℕ)) (status : Status) (before mid now : Option Files) → KeepsFiles before mid → Saves file status mid now → Saves file status before now
 Saves-kept _ status before mid now kept saves = search rules

@@ -2,9 +2,8 @@
 use Rattle.std.proofs.Common.{◌≡◌, ℕ, List, length, Some, None, Result, Ok, Err, ap, sym, ◌∙◌, rules}
 use Rattle.zf_spec.specs.Stream.{to_bits, mode_number}
 use Rattle.zf_header.{specs.declared.header.Header.{Header}, specs.declared.header.Mode.{Mode}}
-use Rattle.zf_header.specs.declared.header.Mode.TheVariants.{Rate}
-use Rattle.zf_header.{specs.declared.header.HeaderFault.{HeaderFault}, specs.HeaderBits.{IsRate, coding}}
-use Rattle.zf_header.specs.HeaderFaults.{header_fault}
+use Rattle.zf_header.{specs.declared.header.Mode.TheVariants.{Rate}, specs.HeaderBits.{IsRate, coding}}
+use Rattle.zf_header.{specs.declared.header.HeaderFault.{HeaderFault}, specs.HeaderFaults.{header_fault}}
 use Rattle.zf_parse.{specs.declared.fault.StreamFault.{StreamFault}, proofs.Steps.{header_or}}
 use Rattle.zf_parse.{specs.Parsing.{Said, header_of, code_bits, said_behind, parse}, proofs.Parts.{parts_of}}
 use Rattle.zfpi.specs.declared.status.Status.TheVariants as statuses

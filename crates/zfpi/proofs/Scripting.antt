@@ -12,12 +12,11 @@ use Rattle.zf_cached.{specs.Replies.{reply_text}, specs.Steps.{Setting, Session}
 use Rattle.zf_cached.{specs.Runs.{lines_of, run_lines, replies_text}, proofs.Runs.{run_lines-append}}
 use Rattle.zf_commands.{specs.Steps.{is_refusal}, specs.Runs.{StopsAt}}
 use Rattle.zfpi.{specs.declared.status.Status.{Status}, specs.declared.command.Access.{Access}}
-use Rattle.zfpi.{specs.Faults.{take_status}}
-use Rattle.zfpi.{specs.declared.command.Command.{Command}, specs.Opened.{opened}, specs.Loaded.{HoldsFile}}
+use Rattle.zfpi.{specs.Faults.{take_status}, specs.declared.command.Command.{Command}, specs.Opened.{opened}}
+use Rattle.zfpi.{specs.Loaded.{HoldsFile}, specs.World.{World, ExposesInput, IsExposed, seen}}
 use Rattle.zfpi.specs.Scripts.{Answering, lines_status, script_status, script_text, reads_script, AreStarved, OnWholeScript, TakesScript, IsRunnable}
 use Rattle.zfpi.specs.Accesses.{command_on, reading_of, answers_of, file_of, named}
-use Rattle.zfpi.{specs.World.{World, ExposesInput, IsExposed, seen}, proofs.HandedOn.{Appends-stays}}
-use Rattle.zfpi.specs.Answer.{meaning, cut_draft, MayFail, OfUsed}
+use Rattle.zfpi.{proofs.HandedOn.{Appends-stays}, specs.Answer.{meaning, cut_draft, MayFail, OfUsed}}
 use Rattle.zfpi.specs.Headline.{IsOfCommand, Writes, Saves, Behaves}
 use Rattle.zfpi.proofs.Exposed.{some_input, ExposesInput-taken}
 use Rattle.zfpi.proofs.Loading.{Unsaved, Saves-unsaved, Saves-kept, files_with, world_with, ExposesFiles-with, opened-held, IsLoading}

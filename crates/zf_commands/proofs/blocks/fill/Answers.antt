@@ -1,5 +1,4 @@
-use Rattle.std.proofs.Common.{rules}
-use Rattle.std.proofs.lemmas.Int.{to_z-of_z}
+use Rattle.std.{proofs.Common.{rules}, proofs.lemmas.Int.{to_z-of_z}}
 use Rattle.zf_commands.proofs.Commanding.{no_value, filled}
 use Rattle.zf_commands.proofs.blocks.fill.Goals as goal
 

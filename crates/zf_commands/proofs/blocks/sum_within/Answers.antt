@@ -1,5 +1,4 @@
-use Rattle.std.proofs.Common.{◌≡◌, ◌∙◌, ap, map, length, arith, rules}
-use Rattle.std.{proofs.lemmas.List.{length-map}}
+use Rattle.std.{proofs.Common.{◌≡◌, ◌∙◌, ap, map, length, arith, rules}, proofs.lemmas.List.{length-map}}
 use Rattle.zf_spec.specs.Grid.{upto}
 use Rattle.zf_cached.specs.Steps.{total}
 use Rattle.zf_commands.specs.Sums.{value_within}

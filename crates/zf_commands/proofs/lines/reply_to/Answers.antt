@@ -1,5 +1,4 @@
-use Rattle.std.proofs.Common.{rules}
-use Rattle.std.{proofs.Common.{◌<◌, sym, ap, ◌∙◌, Some, length}}
+use Rattle.std.proofs.Common.{rules, ◌<◌, sym, ap, ◌∙◌, Some, length}
 use Rattle.zf_script.specs.Seen.{command_of}
 use Rattle.zf_commands.proofs.Lining.{line_empty, line_read, line_not_read, some_bytes, unmoved}
 use Rattle.zf_commands.proofs.lines.reply_to.Goals as goal

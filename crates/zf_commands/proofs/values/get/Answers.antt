@@ -1,8 +1,6 @@
-use Rattle.std.proofs.Common.{rules}
-use Rattle.std.{proofs.Common.{◌∙◌, subst, ◌^◌, arith}}
+use Rattle.std.proofs.Common.{rules, ◌∙◌, subst, ◌^◌, arith}
 use Rattle.zf_base.specs.Positions.{IsPosition}
-use Rattle.zf_commands.{proofs.Passing.{up_to_less, small_is}}
-use Rattle.zf_commands.proofs.Commanding.{outside, no_range, got}
+use Rattle.zf_commands.{proofs.Passing.{up_to_less, small_is}, proofs.Commanding.{outside, no_range, got}}
 use Rattle.zf_commands.proofs.values.get.Goals as goal
 
 pub returns-then-not-contains : goal.returns-then-not-contains

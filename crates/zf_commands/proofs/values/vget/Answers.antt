@@ -1,5 +1,4 @@
-use Rattle.std.proofs.Common.{rules}
-use Rattle.std.{proofs.Common.{◌∙◌, sym, ap, subst, ◌^◌, arith}}
+use Rattle.std.proofs.Common.{rules, ◌∙◌, sym, ap, subst, ◌^◌, arith}
 use Rattle.zf_spec.specs.Grid.{IsShape}
 use Rattle.zf_base.specs.Positions.{IsPosition}
 use Rattle.zf_cached.{specs.Windows.{Window as Part}}

@@ -1,5 +1,4 @@
-use Rattle.std.proofs.Common.{rules}
-use Rattle.std.{proofs.Common.{◌≡◌, ◌∙◌, refl, sym, ap, subst, true}}
+use Rattle.std.proofs.Common.{rules, ◌≡◌, ◌∙◌, refl, sym, ap, subst, true}
 use Rattle.zf_cached.{specs.Windows.{Window as Part, LiesIn, has_place, sliced}}
 use Rattle.zf_cached.proofs.Windows.{LiesIn-sliced}
 use Rattle.zf_commands.proofs.Commanding.{is_not, no_range, cut}

@@ -2,8 +2,7 @@ use Rattle.std.proofs.Common.{◌≡◌, ◌∙◌, sym, ap, subst, ℕ, ◌+◌
 use Rattle.std.{specs.Int.{w128}}
 use Rattle.zf_spec.{specs.Grid.{count_from, product, coordinates}, proofs.Counting.{count_from-below}}
 use Rattle.zf_base.{specs.Places.{block_number}, proofs.Places.{IsAt-block, IsAt-place}}
-use Rattle.zf_cached.specs.Windows.{Window as Part, mapped}
-use Rattle.zf_cached.specs.Steps.{touched, value_there}
+use Rattle.zf_cached.{specs.Windows.{Window as Part, mapped}, specs.Steps.{touched, value_there}}
 use Rattle.zf_window.{specs.Places.{WalkingIn, IsThere}, proofs.Raster.{product_window}}
 use Rattle.zf_window.specs.Bounds.{IsUpTo}
 use Rattle.zf_commands.proofs.Passing.{stays_touched, touched_on, sum_from, sum_on, sum_starts, sum_ends, summed_fits, summed_is, up_to_more, up_to_less}

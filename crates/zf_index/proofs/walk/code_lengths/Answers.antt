@@ -1,5 +1,4 @@
-use Rattle.std.proofs.Common.{refl, ◌^◌, ◌<◌, length, arith, rules}
-use Rattle.std.proofs.lemmas.Result.{IfErr-weaker}
+use Rattle.std.{proofs.Common.{refl, ◌^◌, ◌<◌, length, arith, rules}, proofs.lemmas.Result.{IfErr-weaker}}
 use Rattle.zf_spec.{specs.Stream.{to_bits}, proofs.Bytes.{length-to_bits}}
 use Rattle.zf_index.proofs.Read.{has_header, is_header, index_is, fault_is}
 use Rattle.zf_index.proofs.walk.code_lengths.Goals as goal

@@ -1,5 +1,4 @@
-use Rattle.std.proofs.Common.{decimal, refl, sym, ◌∙◌, arith, rules}
-use Rattle.std.{proofs.lemmas.Int.Digits.{digits_more}}
+use Rattle.std.{proofs.Common.{decimal, refl, sym, ◌∙◌, arith, rules}, proofs.lemmas.Int.Digits.{digits_more}}
 use Rattle.std.proofs.lemmas.List.{take_all, take_rest}
 use Rattle.std.proofs.lemmas.Option.{slice_get_within, get_or_from_slice_get}
 use Rattle.zf_script.proofs.Digits.{number_more, no_first}

@@ -1,5 +1,4 @@
-use Rattle.std.proofs.Common.{sym, rules}
-use Rattle.std.proofs.lemmas.Option.{slice_get_within, get_or_from_slice_get}
+use Rattle.std.{proofs.Common.{sym, rules}, proofs.lemmas.Option.{slice_get_within, get_or_from_slice_get}}
 use Rattle.zf_script.proofs.Digits.{number_some, number_none, no_first, empty_none, zero_none}
 use Rattle.zf_script.proofs.numbers.number_in.Goals as goal
 

@@ -1,6 +1,5 @@
-use Rattle.std.proofs.Common.{rules}
-use Rattle.std.{proofs.Common.{◌≡◌, ℕ, List, ◌∷◌, refl, ap, ◌∙◌}, specs.Int.{w128}}
-use Rattle.std.{proofs.lemmas.Int.{to_z-of_z}}
+use Rattle.std.{proofs.Common.{rules, ◌≡◌, ℕ, List, ◌∷◌, refl, ap, ◌∙◌}, specs.Int.{w128}}
+use Rattle.std.proofs.lemmas.Int.{to_z-of_z}
 use Rattle.zf_cached.specs.Grammar.{space, comma, cut_at}
 use Rattle.zf_script.specs.declared.command.Cmd.TheVariants as cmds
 use Rattle.zf_script.{specs.declared.verb.ValueVerb.{ValueVerb}, specs.NumberWords.{IsAxesWord}}

@@ -1,5 +1,4 @@
-use Rattle.std.proofs.Common.{rules}
-use Rattle.std.{proofs.Common.{arith}, specs.Int.{w128}, proofs.lemmas.Int.{to_z-of_z}}
+use Rattle.std.{proofs.Common.{rules, arith}, specs.Int.{w128}, proofs.lemmas.Int.{to_z-of_z}}
 use Rattle.zf_script.proofs.Lines.{value_fits, fill_command, lines_command, resize_command, no_fill, no_lines, no_resize, no_words}
 use Rattle.zf_script.proofs.parse.with_words.Goals as goal
 

@@ -1,6 +1,4 @@
-use Rattle.std.proofs.Common.{rules}
-use Rattle.std.{proofs.Common.{◌<◌, ◌^◌, refl, sym, ap, subst, ◌∙◌, arith}}
-use Rattle.std.proofs.lemmas.Int.{ints}
+use Rattle.std.{proofs.Common.{rules, ◌<◌, ◌^◌, refl, sym, ap, subst, ◌∙◌, arith}, proofs.lemmas.Int.{ints}}
 use Rattle.zf_spec.specs.Grid.{product}
 use Rattle.zf_base.specs.Positions.{IsPosition}
 use Rattle.zf_window.{specs.Positions.{Walking, raster_at}, proofs.Raster.{product_window, raster_at-inside}}

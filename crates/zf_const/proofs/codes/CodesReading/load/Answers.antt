@@ -1,8 +1,7 @@
 use Rattle.std.proofs.Common.{◌≡◌, sym, ap, subst, ◌∙◌, ℕ, ◌-◌, ◌*◌, ◌%◌, ◌^◌, ◌<◌, ◌≤◌, ℤ, List, Option, Some, None, map, length, take, drop, arith, rules}
 use Rattle.std.specs.Int.{Width}
 use Rattle.zf_spec.{specs.Grid.{blocks, extent_of}, specs.Stream.{to_bits}}
-use Rattle.zf_base.{specs.Formats.{existing_of, meant}}
-use Rattle.zf_base.proofs.Extents.{length-extent_of}
+use Rattle.zf_base.{specs.Formats.{existing_of, meant}, proofs.Extents.{length-extent_of}}
 use Rattle.zf_bits.specs.Reader.{Reader, rest}
 use Rattle.zf_header.specs.declared.header.Header.{Header}
 use Rattle.zf_cached.{specs.Arrays.{array_format}, proofs.Arrays.{existing_of-array}}

@@ -1,5 +1,4 @@
-use Rattle.std.proofs.Common.{rules}
-use Rattle.std.proofs.lemmas.List.{take-take, length-take-le}
+use Rattle.std.{proofs.Common.{rules}, proofs.lemmas.List.{take-take, length-take-le}}
 use Rattle.zf_dev.proofs.Held.{held_more}
 use Rattle.zf_dev.proofs.buffer.Buffer.append.Goals as goal
 

@@ -1,7 +1,6 @@
 use Rattle.std.proofs.Common.{◌∙◌, lit<, rules}
 use Rattle.zf_cached.specs.Acts.{Act}
-use Rattle.zf_private.{proofs.Others.{acted-get}}
-use Rattle.zf_private.proofs.Calls.{backed_at, exists_there, answer_is, does_at}
+use Rattle.zf_private.{proofs.Others.{acted-get}, proofs.Calls.{backed_at, exists_there, answer_is, does_at}}
 use Rattle.zf_private.proofs.private.Private.get.Goals as goal
 
 pub get-requires : goal.get-requires
