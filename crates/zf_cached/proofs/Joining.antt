@@ -89,13 +89,9 @@ module _ (line : Line) (may_hold : ℕ → ℕ → ℕ → Type 0) (placing : Is
   unfolding joined
   joined-values split b = search (rules, flushed_views-sound, same_shape, still_split)
 
-  joined-code : (i b : ℕ) → i < n → (seen i).dirty b ≡ true → (joined setting s).state.codes b ≡ encoded f b ((seen i).values b)
-  unfolding joined
-  joined-code i b lt dirty = written n (omega arith) i b lt dirty
-
   pub joined-rounded : (i b : ℕ) → i < n → (state_of_view s i).dirty b ≡ true → IsRounded f (state_of_view s i) (joined setting s).state b
-  unfolding rounded
-  joined-rounded i b lt dirty = search (rules, no_views, joined-empty, joined-values, joined-code)
+  unfolding rounded joined
+  joined-rounded i b lt dirty = let code = written n (omega arith) i b lt dirty in search (rules, no_views, joined-empty, joined-values)
 
   pub joined-kept : (b : ℕ) → ((i : ℕ) → i < n → (state_of_view s i).dirty b ≡ false) → (joined setting s).state.codes b ≡ s.state.codes b
   unfolding joined

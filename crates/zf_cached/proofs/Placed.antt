@@ -55,23 +55,19 @@ module _ (line : Line) (may_hold : ℕ → ℕ → ℕ → Type 0) (placing : Is
 
     pub write_back-consistent : (format : Format Code) (s : State Code) (b : ℕ) → IsConsistent line owned format s → IsConsistent line owned format (write_back format s b)
     unfolding write_back
-    write_back-consistent format s b h = record {
-      some_line = h.some_line;
-      in_its_line = found;
-      held_is_owned = h.held_is_owned;
-      dirty_is_here = λ n. at_change (λ m d. d ≡ true → s.held (line_in line (write_back format s b) m) ≡ Some m) s.dirty b false n (λ e. absurd (cc))
-          (λ ne dirty. here_again s (write_back format s b) refl found n (h.dirty_is_here n dirty));
-      clean_is_coded = λ n own. at_change (λ m d. d ≡ false → with_at s.values b (meant format b code) m ≡ meant format m (with_at s.codes b code m)) s.dirty b false n
-          (λ clean. with_at-same s.values b _ ∙ ap (meant format b) (sym (with_at-same s.codes b code)))
-          (λ ne clean. with_at-other s.values b _ n ne ∙ h.clean_is_coded n own clean ∙ ap (meant format n) (sym (with_at-other s.codes b code n ne)));
-      whole = λ n own. at_change (λ m values. existing_of format m values ≡ values) s.values b (meant format b code) n (existing_of-meant format b code) (λ ne. h.whole n own);
-    }
-      where
-        code : Code
-        code = encoded format b (s.values b)
-
-        found : IsFound (write_back format s b)
-        found = found_again s (write_back format s b) refl refl h.in_its_line
+    write_back-consistent format s b h =
+        let code = encoded format b (s.values b) in
+        let found : IsFound (write_back format s b) = found_again s (write_back format s b) refl refl h.in_its_line in
+        let at_home : (n : ℕ) → with_at s.dirty b false n ≡ true → s.held (line_in line (write_back format s b) n) ≡ Some n =
+        λ n. at_change (λ m d. d ≡ true → s.held (line_in line (write_back format s b) m) ≡ Some m) s.dirty b false n (λ e. absurd (cc))
+        (λ ne dirty. here_again s (write_back format s b) refl found n (h.dirty_is_here n dirty)) in
+        let coded : (n : ℕ) → owned n ≡ true → with_at s.dirty b false n ≡ false → with_at s.values b (meant format b code) n ≡ meant format n (with_at s.codes b code n) =
+        λ n own. at_change (λ m d. d ≡ false → with_at s.values b (meant format b code) m ≡ meant format m (with_at s.codes b code m)) s.dirty b false n
+        (λ clean. with_at-same s.values b _ ∙ ap (meant format b) (sym (with_at-same s.codes b code)))
+        (λ ne clean. with_at-other s.values b _ n ne ∙ h.clean_is_coded n own clean ∙ ap (meant format n) (sym (with_at-other s.codes b code n ne))) in
+        let all : (n : ℕ) → owned n ≡ true → existing_of format n (with_at s.values b (meant format b code) n) ≡ with_at s.values b (meant format b code) n =
+        λ n own. at_change (λ m values. existing_of format m values ≡ values) s.values b (meant format b code) n (existing_of-meant format b code) (λ ne. h.whole n own) in
+        search rules
 
     pub write_back_line-consistent : (format : Format Code) (s : State Code) (m : ℕ) → IsConsistent line owned format s → IsConsistent line owned format (write_back_line format s m)
     write_back_line-consistent format s m h =

@@ -6,12 +6,12 @@ use Rattle.zf_spec.specs.Grid.{upto}
 use Rattle.zf_cached.{specs.State.{State}, specs.Touch.{write_back_line, hit, miss, touch_at}}
 use Rattle.zf_cached.{specs.Changes.{write_back_lines, emptied, flush, relined}, specs.Windows.{mapped}}
 use Rattle.zf_cached.{specs.Placing.{Line}, specs.Arrays.{codes_of, saved_file}, specs.Commands.{Command}}
-use Rattle.zf_cached.{specs.Replies.{Refusal, Reply}, specs.Grammar.{read_line}, specs.Views.{View}}
+use Rattle.zf_cached.{specs.Grammar.{read_line}, specs.Views.{View}}
 use Rattle.zf_cached.specs.Steps.{Setting, Session, format_of, touched, summed, is_split, views_in, flushed_views, joined, done, step}
-use Rattle.zf_cached.specs.Runs.{lines_of, only_reads, read_step, line_step, run_lines, run_script, ended, run, look, array_setting}
+use Rattle.zf_cached.specs.Runs.{lines_of, only_reads, line_step, run_lines, run_script, ended, run, look, array_setting}
 use Rattle.zf_cached.{specs.Consistency.{IsCached}, specs.Unwritten.{IsUnwritten, ReadAlone}}
 use Rattle.zf_cached.{proofs.Caching.{true_is_not_false, write_back_line_by}, proofs.Placed.{touch_at_by}}
-use Rattle.zf_cached.{proofs.Sessions.{step_by}, proofs.Runs.{array_setting-cached}}
+use Rattle.zf_cached.{proofs.Sessions.{step_by}, proofs.Runs.{array_setting-cached, line_step_by}}
 
 -- ---- states
 
@@ -73,19 +73,9 @@ module _ (line : Line) {Code : Type 0} (setting : Setting Code) (cached : IsCach
   done-stays s c reads h = absurd (cc)
 
   line-stays : (s : Session Code) (l : List ℕ) (starving : Bool) → ((c : Command) → read_line (length shape) l ≡ Some c → setting.allows c ≡ true → only_reads c ≡ true) → Stays s → Stays (line_step setting s l starving).0
-  unfolding line_step read_step
-  line-stays s [] starving reads h = h
-  line-stays s (b ∷ bs) starving reads h = by (read_line (length s.shape) (b ∷ bs)) refl
-    where
-      by : (o : Option Command) → read_line (length s.shape) (b ∷ bs) ≡ o → Stays (read_step setting s o starving).0
-      by None e = h
-      by (Some c) e = allowed (setting.allows c) refl
-        where
-          allowed : (t : Bool) → setting.allows c ≡ t → Stays (elim t as (λ x. Session Code × Option Reply) [ true ↦ step setting s c starving | false ↦ (s, Some (Reply.refused Refusal.word)) ]).0
-          allowed true may =
-              let only = reads c (subst (λ ns. read_line (length ns) (b ∷ bs) ≡ Some c) h.sizes e) may in
-              step_by setting s c starving (λ r. Stays r.0) (λ why refused. h) (λ taken. done-stays s c only h)
-          allowed false may = h
+  line-stays s l starving reads h = line_step_by setting s l starving Stays h
+      (λ c read may. let only = reads c (subst (λ ns. read_line (length ns) l ≡ Some c) h.sizes read) may in
+      step_by setting s c starving (λ r. Stays r.0) (λ why refused. h) (λ taken. done-stays s c only h))
 
   lines-stay : (starved : List ℕ) (k : ℕ) (lines : List (List ℕ)) (s : Session Code) → ReadAlone setting (length shape) lines → Stays s → Stays (run_lines setting starved k lines s).0
   unfolding run_lines

@@ -44,21 +44,27 @@ pub array_setting-cached : (w : Width) (budget : ℕ) → IsCached direct (array
 unfolding array_setting
 array_setting-cached w budget = record { touches = refl; zero = meant-zeros w budget }
 
+-- what holds before a line, and after each command that may be read off it, holds after the line
+pub line_step_by : {Code : Type 0} (setting : Setting Code) (s : Session Code) (line : List ℕ) (starving : Bool) (P : Session Code → Type 0) → P s
+    → ((c : Command) → read_line (length s.shape) line ≡ Some c → setting.allows c ≡ true → P (step setting s c starving).0) → P (line_step setting s line starving).0
+unfolding line_step read_step
+line_step_by setting s [] starving P before after = before
+line_step_by {Code} setting s (b ∷ bs) starving P before after = by (read_line (length s.shape) (b ∷ bs)) refl
+  where
+    by : (o : Option Command) → read_line (length s.shape) (b ∷ bs) ≡ o → P (read_step setting s o starving).0
+    by None e = before
+    by (Some c) e = allowed (setting.allows c) refl
+      where
+        allowed : (t : Bool) → setting.allows c ≡ t → P (elim t as (λ x. Session Code × Option Reply) [ true ↦ step setting s c starving | false ↦ (s, Some (Reply.refused Refusal.word)) ]).0
+        allowed true may = after c e may
+        allowed false may = before
+
 module _ (at : Line) (may_hold : ℕ → ℕ → ℕ → Type 0) (placing : IsPlacing at may_hold) where
   -- ---- lines
 
   line_step-sound : {Code : Type 0} (setting : Setting Code) (s : Session Code) (line : List ℕ) (starving : Bool) → IsCached at setting → IsSound at setting s → IsSound at setting (line_step setting s line starving).0
-  unfolding line_step read_step
-  line_step-sound setting s [] starving cached h = h
-  line_step-sound {Code} setting s (b ∷ bs) starving cached h = by (read_line (length s.shape) (b ∷ bs)) refl
-    where
-      by : (o : Option Command) → read_line (length s.shape) (b ∷ bs) ≡ o → IsSound at setting (read_step setting s o starving).0
-      by None e = h
-      by (Some c) e = allowed (setting.allows c)
-        where
-          allowed : (t : Bool) → IsSound at setting (elim t as (λ x. Session Code × Option Reply) [ true ↦ step setting s c starving | false ↦ (s, Some (Reply.refused Refusal.word)) ]).0
-          allowed true = step-sound at may_hold placing setting s c starving (read_line-Some (length s.shape) (b ∷ bs) c e).0 cached h
-          allowed false = h
+  line_step-sound setting s line starving cached h = line_step_by setting s line starving (IsSound at setting) h
+      (λ c read may. step-sound at may_hold placing setting s c starving (read_line-Some (length s.shape) line c read).0 cached h)
 
   pub run_lines-sound : {Code : Type 0} (setting : Setting Code) (starved : List ℕ) (k : ℕ) (lines : List (List ℕ)) (s : Session Code) → IsCached at setting → IsSound at setting s → IsSound at setting (run_lines setting starved k lines s).0
   unfolding run_lines
