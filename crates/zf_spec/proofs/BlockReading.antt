@@ -69,9 +69,8 @@ read_prec-prec w p es block more =
     let k = min p (bits w) in
     let qs = take k (planes w d c) in
     let count : length qs ≡ k = omega (arith, length-take k (planes w d c), length-planes w d c) in
-    let only = full_only (4 ^ d) qs (code qs ++ more)
-    (All-take (λ ds. length ds ≡ 4 ^ d) k (planes w d c) (planes-length w d c))
-    (begins_itself (code qs) more) in
+    let sizes = All-take (λ ds. length ds ≡ 4 ^ d) k (planes w d c) (planes-length w d c) in
+    let only = full_only (4 ^ d) qs (code qs ++ more) sizes (begins_itself (code qs) more) in
     cc (le-ltb (length (code qs ++ more)) (length (code qs)) (omega (arith, length-append (code qs) more)))
 
 -- ---- how long the codes of a block are
@@ -81,10 +80,8 @@ unfolding prec
 length-prec-le w p es block =
     let ps = planes w (length es) (lift w (length es) (pad es block)) in
     let few : length (take (min p (bits w)) ps) ≤ bits w = omega (arith, length-take (min p (bits w)) ps) in
-    let sizes = All-take (λ ds. length ds ≡ 4 ^ length es) (min p (bits w)) ps
-    (planes-length w (length es) _) in
-    let bound = length-code-le (4 ^ length es) (take (min p (bits w)) ps) sizes in
-    omega (arith, mul-le-mul_left (4 ^ length es) few)
+    let sizes = All-take (λ ds. length ds ≡ 4 ^ length es) (min p (bits w)) ps (planes-length w (length es) _) in
+    omega (arith, length-code-le (4 ^ length es) (take (min p (bits w)) ps) sizes, mul-le-mul_left (4 ^ length es) few)
 
 pub length-rate : (w : Width) (budget : ℕ) (es : List ℕ) (block : List ℤ) → length (rate w budget es block) ≡ budget
 unfolding rate
