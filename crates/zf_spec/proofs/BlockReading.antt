@@ -33,21 +33,17 @@ pub read_rev-rev : (w : Width) (es : List ℕ) (block : List ℤ) (more : List B
 unfolding rev rev_of_planes
 read_rev-rev w es block more narrow ok fits =
     let d = length es in
-    let n = count_bits w in
     let c = lorenzo w d (pad es block) in
     let ps = planes w d c in
     let p = max 1 (needed_planes ps) in
     let qs = take p ps in
     let few : p ≤ bits w = omega (arith, needed_planes-le ps, length-planes w d c, bits_some w) in
     let count : length qs ≡ p = omega (arith, length-take p ps, length-planes w d c, few) in
-    let read = read_rev-planes w es qs more (omega (arith, count))
-    (omega (arith, count, few, count_bits_hold w narrow))
-    (All-take (λ ds. length ds ≡ 4 ^ length es) p ps (planes-length w d c)) in
-    let padded = pad es block in
-    let back = coefficients_of-needed_planes w d c (length-lorenzo w d padded) (lorenzo_fits w d padded) in
-    let undone = unlorenzo-lorenzo w d padded (length-pad es block) (pad_fits w es block fits) in
-    let long = length-append (field n (p - 1)) (code qs) in
-    cc (existing_values-pad es block ok, length-field n (p - 1))
+    let sizes = All-take (λ ds. length ds ≡ 4 ^ length es) p ps (planes-length w d c) in
+    let read = read_rev-planes w es qs more (omega (arith, count)) (omega (arith, count, few, count_bits_hold w narrow)) sizes in
+    let back = coefficients_of-needed_planes w d c (length-lorenzo w d (pad es block)) (lorenzo_fits w d (pad es block)) in
+    let undone = unlorenzo-lorenzo w d (pad es block) (length-pad es block) (pad_fits w es block fits) in
+    search (rules, length-append, existing_values-pad, length-field)
 
 -- reading a rate code gives what the rate makes of the block
 pub read_rate-rate : (w : Width) (budget : ℕ) (es : List ℕ) (block : List ℤ) → read_rate w es (rate w budget es block) ≡ round w budget es block

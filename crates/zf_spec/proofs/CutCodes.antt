@@ -43,10 +43,8 @@ cut_tail_of r [] run more = absurd (omega arith)
 cut_tail_of zero (d ∷ ds) run more = let one = ap length (tail-zeros (length ds)) in omega arith
 cut_tail_of (suc r) (d ∷ ds) run more =
     let left : suc r - 1 ≡ r = omega arith in
-    let kept = kept_tail-one (suc r) (d ∷ ds) (omega arith) in
     let next = run r in
-    let some = kept_run-has_one r (d ∷ ds) in
-    let code = tail-some (kept_run r (d ∷ ds)) in grind arith
+    let kept = kept_tail-one (suc r) (d ∷ ds) (omega arith) in grind (arith, kept_run-has_one, tail-some)
 
 cut_run : (ds : List Bool) → RunIsCut ds
 cut_run (d ∷ e ∷ ds) zero more = let code = ap length (code_from_run-true (zeros (e ∷ ds)) (omega (arith, length-zeros (e ∷ ds)))) in omega arith

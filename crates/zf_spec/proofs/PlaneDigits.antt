@@ -70,9 +70,7 @@ digits_at-planes_of w coefficients r l =
     (λ i s.
     let h : i < w = omega (arith, s, e) in
     let back : w - 1 - (w - 1 - i) ≡ i = omega arith in
-    let at = get_or-planes_of w coefficients (w - 1 - i) (omega arith) in
-    let there = get_or-plane (w - 1 - (w - 1 - i)) coefficients r in
-    cc (get_or-digits_at w (planes_of w coefficients) r i h))
+    cc (get_or-planes_of w coefficients (w - 1 - i) (omega arith), get_or-plane (w - 1 - (w - 1 - i)) coefficients r, get_or-digits_at w (planes_of w coefficients) r i h))
 
 -- planes that have no one may be missing at the end
 pub digits_at-take : (w n : ℕ) (planes : List (List Bool)) (r : ℕ) → needed_planes planes ≤ n → digits_at w (take n planes) r ≡ digits_at w planes r
