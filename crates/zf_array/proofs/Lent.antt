@@ -6,7 +6,7 @@ use Rattle.std.proofs.Math.Seq.{take-add}
 use Rattle.zf_spec.{specs.Grid.{blocks}, proofs.Counting.{map-get_or-upto, map-upto_same}}
 use Rattle.zf_base.{specs.Formats.{Format, existing_of}, specs.declared.position.Pos.{Pos}}
 use Rattle.zf_base.proofs.Formats.{existing_of_same, length-existing_of, get_or-existing_of, get_or-existing_of_exists, existing_of-existing_of, with_at-other}
-use Rattle.zf_header.{specs.declared.header.Header.{Header}}
+use Rattle.zf_header.specs.declared.header.Header.{Header}
 use Rattle.zf_cached.{specs.State.{State}, specs.Touch.{touch_for_writing, with_values}}
 use Rattle.zf_lines.{specs.Rows.{line_at, part, over, over_part}, proofs.Sizes.{length-over}}
 use Rattle.zf_lines.specs.Rows as rows

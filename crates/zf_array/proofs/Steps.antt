@@ -1,9 +1,10 @@
--- What the calls of an array do to its state.
-use Rattle.std.proofs.Common.{◌≡◌, sym, ap, subst, ◌∙◌, ◌⊎◌, inl, inr, ℕ, ◌<◌, ◌≤◌, ℤ, Bool, false, List, length, get_or, replicate, arith, rules}
+-- An array as it is made, and what is saved of it.
+use Rattle.std.proofs.Common.{◌≡◌, sym, ap, subst, ◌∙◌, ℕ, ℤ, Bool, false, List, length, get_or, replicate, rules}
 use Rattle.std.{specs.Int.{Width}, proofs.lemmas.Bool.{cases_lt}}
 use Rattle.std.proofs.lemmas.List.{get_or_past, length-replicate, get_or-replicate}
-use Rattle.zf_spec.{specs.Grid.{blocks}, specs.Stream.{fixed_rate}, proofs.Counting.{map-get_or-upto}}
-use Rattle.zf_base.{specs.declared.lane.Ty.{Ty}, specs.declared.lane.Ty.TheVariants.{I32}}
+use Rattle.zf_spec.{specs.Grid.{blocks}, specs.Stream.{fixed_rate}}
+use Rattle.zf_spec.proofs.Counting.{map-get_or-upto}
+use Rattle.zf_base.{specs.declared.lane.Ty.{Ty}}
 use Rattle.zf_base.{specs.Widths.{width_of}, specs.Formats.{meant}}
 use Rattle.zf_header.{specs.declared.header.Header.{Header}, specs.declared.header.Mode.{Mode}}
 use Rattle.zf_header.specs.declared.header.Mode.TheVariants.{Rate}
@@ -16,12 +17,13 @@ use Rattle.zf_cache.{specs.Standing.{state_of, Fits, HasRoom, state_at}, proofs.
 use Rattle.zf_cache.proofs.Touches.{state_is, no_tag, all_meant}
 use Rattle.zf_store.specs.Stored as store
 use Rattle.zf_store.{specs.Stored.{Stored, code_at, format_of, frame_of, rate_of}, proofs.Kept.{blocks_is}}
-use Rattle.zf_array.{specs.Standing.{Held, stored, format, state}, specs.Parts.{held_by}}
+use Rattle.zf_array.specs.Standing.{Held, stored, format, state}
+use Rattle.zf_array.specs.Parts.{held_by}
 use Rattle.zf_array.proofs.Standing.{zero_meant, stored_held, state_held}
 
 -- a type is known by its width
 pub same_ty : (s t : Ty) → width_of s ≡ width_of t → s ≡ t
-same_ty s t e = elim s [ I32 ↦ search rules | _ ↦ search rules ]
+same_ty s t e = search rules
 
 -- ---- an array as it is made
 
@@ -45,15 +47,14 @@ module _ {X : Type 0} (value : X → ℤ) where
       let f = format_of t in
       let none : ℕ = 0 in
       let long : length e.tags ≡ length c.tags = ap length empty ∙ length-replicate (length c.tags) none in
-      let code : (b : ℕ) → code_at t b ≡ replicate budget false = λ b. ap (λ (u : Stored). code_at u b) is ∙ zero_code ns budget b (cases_lt b (blocks ns)) in
+      let code : (b : ℕ) → code_at t b ≡ replicate budget false = λ b. ap (λ (u : Stored). code_at u b) is ∙ zero_code ns budget b in
       let rate : rate_of t ≡ budget = ap rate_of is in
       let zero : (b : ℕ) → meant f b (code_at t b) ≡ zeros f = λ b. ap (meant f b) (code b ∙ ap (λ m. replicate m false) (sym rate)) ∙ zero_meant t b in
       let count : length t.codes ≡ blocks t.header.shape = subst (λ (u : Stored). length u.codes ≡ blocks u.header.shape) (sym is) (length-replicate (blocks ns) (replicate budget false)) in
       search (rules, same_state, standing, no_tag, all_meant, state_held, state_is, stored_held)
     where
-      zero_code : (ns : List ℕ) (budget b : ℕ) → (b < blocks ns) ⊎ (blocks ns ≤ b) → get_or (replicate (blocks ns) (replicate budget false)) b (replicate budget false) ≡ replicate budget false
-      zero_code ns budget b (inl h) = get_or-replicate (blocks ns) b (replicate budget false) (replicate budget false) h
-      zero_code ns budget b (inr h) = get_or_past (replicate (blocks ns) (replicate budget false)) b (replicate budget false) (omega (arith, length-replicate (blocks ns) (replicate budget false)))
+      zero_code : (ns : List ℕ) (budget b : ℕ) → get_or (replicate (blocks ns) (replicate budget false)) b (replicate budget false) ≡ replicate budget false
+      zero_code ns budget b = search (rules, cases_lt, get_or-replicate, get_or_past, length-replicate)
 
 -- ---- an array and what is saved of it, in the words of the definitions
 

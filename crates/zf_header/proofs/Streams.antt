@@ -5,7 +5,7 @@ use Rattle.zf_base.specs.Widths.{width_of}
 use Rattle.zf_spec.{specs.Codes.{rate}, specs.Grid.{upto, blocks, extent_of, block_of}}
 use Rattle.zf_spec.{specs.Stream.{fixed_rate, header, stream}, proofs.BlockReading.{length-rate}}
 use Rattle.zf_spec.{proofs.Counting.{length-upto}, proofs.Files.{length-file}}
-use Rattle.zf_header.{specs.declared.header.Header.{Header}}
+use Rattle.zf_header.specs.declared.header.Header.{Header}
 use Rattle.zf_header.specs.HeaderBits.{coding, block_bits, IsRate, header_bits, rate_bytes_of}
 
 length-stream_rate : (w : Width) (ns : List ℕ) (b : ℕ) (values : List ℤ) → length (stream w ns (fixed_rate b) values) ≡ 8 * div_ceil (length (header w ns (fixed_rate b)) + blocks ns * b) 64

@@ -63,11 +63,9 @@ kept_planes_from-apart r n (ds ∷ ps) =
     let first : max n 0 ≡ n = omega arith in
     let all : r - 0 ≡ r = omega arith in
     let more = r - length (plane_code n ds) in
+    let left : (cs : List Bool) → r - length (plane_code n ds ++ cs) ≡ more - length cs = λ cs. omega (arith, length-append (plane_code n ds) cs) in
     let behind = map-shift (kept_after r n (ds ∷ ps)) (kept_after more (max n (reach ds)) ps)
-    (λ k.
-    let above = code_from (max n (reach ds)) (take k ps) in
-    let left : r - length (plane_code n ds ++ above) ≡ more - length above = omega (arith, length-append (plane_code n ds) above) in
-    cc (max-max n (reach ds) (reach_of_all (take k ps)))) 0 (length ps) in
+    (λ k. cc (left (code_from (max n (reach ds)) (take k ps)), max-max n (reach ds) (reach_of_all (take k ps)))) 0 (length ps) in
     cc (kept_planes_from-apart more (max n (reach ds)) ps)
 
 -- ---- from the greatest plane on
@@ -75,16 +73,10 @@ kept_planes_from-apart r n (ds ∷ ps) =
 none_above : (n : ℕ) → max 0 n ≡ n
 none_above n = omega arith
 
-flat_map_same : (f g : ℕ → List Bool) (ks : List ℕ) → ((k : ℕ) → f k ≡ g k) → flat_map f ks ≡ flat_map g ks
-flat_map_same f g ks same = search (rules, same)
-
-map_same : (f g : ℕ → List Bool) (ks : List ℕ) → ((k : ℕ) → f k ≡ g k) → map f ks ≡ map g ks
-map_same f g ks same = search (rules, same)
-
 pub code-apart : (ps : List (List Bool)) → code ps ≡ flat_map (code_at ps) (upto (length ps))
 unfolding code_after
-code-apart ps = search (rules, code_from-apart, flat_map_same, code_after, none_above)
+code-apart ps = search (rules, code_from-apart, code_after, none_above)
 
 pub kept_planes-apart : (budget : ℕ) (ps : List (List Bool)) → kept_planes budget ps ≡ map (kept_at budget ps) (upto (length ps))
 unfolding kept_after
-kept_planes-apart budget ps = search (rules, kept_planes_from-apart, map_same, kept_after, none_above)
+kept_planes-apart budget ps = search (rules, kept_planes_from-apart, kept_after, none_above)

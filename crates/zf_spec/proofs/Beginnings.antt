@@ -1,5 +1,5 @@
 -- Lists of bits that begin a list continued with zeros.
-use Rattle.std.proofs.Common.{◌≡◌, refl, sym, ap, subst, ℕ, zero, suc, ◌-◌, ◌≤◌, Bool, List, [], ◌∷◌, ◌++◌, length, take, drop, arith, rules}
+use Rattle.std.proofs.Common.{◌≡◌, refl, sym, ap, subst, ℕ, zero, suc, ◌-◌, ◌≤◌, Bool, List, [], ◌∷◌, ◌++◌, length, take, drop, arith, rules, append-nil, take_all}
 use Rattle.std.proofs.Math.Seq.{drop-nil}
 use Rattle.zf_spec.specs.ReadPlanes.{Begins, first_bits}
 
@@ -44,19 +44,20 @@ first_bits-first_bits (suc m) zero s h = absurd (omega arith)
 first_bits-first_bits (suc m) (suc n) s h = let rest = first_bits-first_bits m n in search rules
 
 pub first_bits-append : (a b : List Bool) (n : ℕ) → n ≤ length a → first_bits n (a ++ b) ≡ take n a
+first_bits-append a b zero h = refl
+first_bits-append [] b (suc n) h = absurd (omega arith)
 first_bits-append (x ∷ a) b (suc n) h = ap (λ bs. x ∷ bs) (first_bits-append a b n (omega arith))
-first_bits-append a b _ h = search rules
 
 -- lists that agree in their first n bits agree past a prefix of both
 pub first_bits-rest : (a b c : List Bool) (n : ℕ) → length a ≤ n → first_bits n (a ++ b) ≡ first_bits n (a ++ c) → first_bits (n - length a) b ≡ first_bits (n - length a) c
+first_bits-rest [] b c n h e = let z : n - 0 ≡ n = omega arith in rw z e
+first_bits-rest (x ∷ a) b c zero h e = absurd (omega arith)
 first_bits-rest (x ∷ a) b c (suc n) h e =
     let z : suc n - suc (length a) ≡ n - length a = omega arith in rw z (first_bits-rest a b c n (omega arith) cc)
 
 -- past the first n bits a list does not count
 pub first_bits-prefix : (a b : List Bool) (n : ℕ) → n ≤ length a → first_bits n (a ++ b) ≡ first_bits n a
-first_bits-prefix (x ∷ a) b (suc n) h = ap (λ bs. x ∷ bs) (first_bits-prefix a b n (omega arith))
-first_bits-prefix a b _ h = search rules
+first_bits-prefix a b n h = cc (first_bits-append a b n h, first_bits-append a [] n h, append-nil a)
 
 pub first_bits-all : (a b : List Bool) → first_bits (length a) (a ++ b) ≡ a
-first_bits-all [] b = refl
-first_bits-all (x ∷ a) b = ap (λ bs. x ∷ bs) (first_bits-all a b)
+first_bits-all a b = search (rules, first_bits-append, take_all)

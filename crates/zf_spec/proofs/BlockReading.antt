@@ -33,21 +33,17 @@ pub read_rev-rev : (w : Width) (es : List ℕ) (block : List ℤ) (more : List B
 unfolding rev rev_of_planes
 read_rev-rev w es block more narrow ok fits =
     let d = length es in
-    let n = count_bits w in
     let c = lorenzo w d (pad es block) in
     let ps = planes w d c in
     let p = max 1 (needed_planes ps) in
     let qs = take p ps in
     let few : p ≤ bits w = omega (arith, needed_planes-le ps, length-planes w d c, bits_some w) in
     let count : length qs ≡ p = omega (arith, length-take p ps, length-planes w d c, few) in
-    let read = read_rev-planes w es qs more (omega (arith, count))
-    (omega (arith, count, few, count_bits_hold w narrow))
-    (All-take (λ ds. length ds ≡ 4 ^ length es) p ps (planes-length w d c)) in
-    let padded = pad es block in
-    let back = coefficients_of-needed_planes w d c (length-lorenzo w d padded) (lorenzo_fits w d padded) in
-    let undone = unlorenzo-lorenzo w d padded (length-pad es block) (pad_fits w es block fits) in
-    let long = length-append (field n (p - 1)) (code qs) in
-    cc (existing_values-pad es block ok, length-field n (p - 1))
+    let sizes = All-take (λ ds. length ds ≡ 4 ^ length es) p ps (planes-length w d c) in
+    let read = read_rev-planes w es qs more (omega (arith, count)) (omega (arith, count, few, count_bits_hold w narrow)) sizes in
+    let back = coefficients_of-needed_planes w d c (length-lorenzo w d (pad es block)) (lorenzo_fits w d (pad es block)) in
+    let undone = unlorenzo-lorenzo w d (pad es block) (length-pad es block) (pad_fits w es block fits) in
+    search (rules, length-append, existing_values-pad, length-field)
 
 -- reading a rate code gives what the rate makes of the block
 pub read_rate-rate : (w : Width) (budget : ℕ) (es : List ℕ) (block : List ℤ) → read_rate w es (rate w budget es block) ≡ round w budget es block
@@ -69,9 +65,8 @@ read_prec-prec w p es block more =
     let k = min p (bits w) in
     let qs = take k (planes w d c) in
     let count : length qs ≡ k = omega (arith, length-take k (planes w d c), length-planes w d c) in
-    let only = full_only (4 ^ d) qs (code qs ++ more)
-    (All-take (λ ds. length ds ≡ 4 ^ d) k (planes w d c) (planes-length w d c))
-    (begins_itself (code qs) more) in
+    let sizes = All-take (λ ds. length ds ≡ 4 ^ d) k (planes w d c) (planes-length w d c) in
+    let only = full_only (4 ^ d) qs (code qs ++ more) sizes (begins_itself (code qs) more) in
     cc (le-ltb (length (code qs ++ more)) (length (code qs)) (omega (arith, length-append (code qs) more)))
 
 -- ---- how long the codes of a block are
@@ -81,10 +76,8 @@ unfolding prec
 length-prec-le w p es block =
     let ps = planes w (length es) (lift w (length es) (pad es block)) in
     let few : length (take (min p (bits w)) ps) ≤ bits w = omega (arith, length-take (min p (bits w)) ps) in
-    let sizes = All-take (λ ds. length ds ≡ 4 ^ length es) (min p (bits w)) ps
-    (planes-length w (length es) _) in
-    let bound = length-code-le (4 ^ length es) (take (min p (bits w)) ps) sizes in
-    omega (arith, mul-le-mul_left (4 ^ length es) few)
+    let sizes = All-take (λ ds. length ds ≡ 4 ^ length es) (min p (bits w)) ps (planes-length w (length es) _) in
+    omega (arith, length-code-le (4 ^ length es) (take (min p (bits w)) ps) sizes, mul-le-mul_left (4 ^ length es) few)
 
 pub length-rate : (w : Width) (budget : ℕ) (es : List ℕ) (block : List ℤ) → length (rate w budget es block) ≡ budget
 unfolding rate

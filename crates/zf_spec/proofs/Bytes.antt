@@ -125,20 +125,18 @@ unfolding low_bytes low_number
 low_bytes-low_number [] all = refl
 low_bytes-low_number (b ∷ bs) all =
     let small : b < 256 = All-head (λ b. b < 256) b bs all in
-    let first : (b + 256 * low_number bs) % 256 ≡ b = omega arith in
-    let others : (b + 256 * low_number bs) / 256 ≡ low_number bs = omega arith in
-    let rest = low_bytes-low_number bs (All-tail (λ b. b < 256) b bs all) in cc
+    let rest = low_bytes-low_number bs (All-tail (λ b. b < 256) b bs all) in search rules
 
 low_number_below : (bs : List ℕ) → All (λ b. b < 256) bs → low_number bs < 256 ^ length bs
 unfolding low_number
 low_number_below [] all = omega arith
 low_number_below (b ∷ bs) all =
     let small : b < 256 = All-head (λ b. b < 256) b bs all in
-    let rest = low_number_below bs (All-tail (λ b. b < 256) b bs all) in
-    omega (arith, pow-suc 256 (length bs))
+    omega (arith, pow-suc 256 (length bs), low_number_below bs (All-tail (λ b. b < 256) b bs all))
 
 byte_at-is : (i n : ℕ) → byte_at i n ≡ n / 256 ^ i % 256
-byte_at-is _ n = search rules
+byte_at-is zero n = ap (λ m. m % 256) (sym (div-one n))
+byte_at-is (suc i) n = refl
 
 bytes_low_first-is : (i k n : ℕ) → bytes_low_first i k n ≡ low_bytes k (n / 256 ^ i)
 unfolding low_bytes
@@ -159,13 +157,11 @@ low_number-push bs k l = absurd (omega arith)
 
 sum_through-is : (bs : List ℕ) (k : ℕ) → suc k ≤ length bs → sum_through (λ i. byte_worth i (get_or bs i 0)) k ≡ low_number (take (suc k) bs)
 unfolding low_number
+sum_through-is [] zero l = absurd (omega arith)
+sum_through-is (b ∷ bs) zero l = omega arith
 sum_through-is bs (suc k) l =
-    let prefix = take (suc (suc k)) bs in
-    let push = low_number-push prefix (suc k) (length-take (suc (suc k)) bs ∙ omega arith) in
-    let less : take (suc k) prefix ≡ take (suc k) bs = take-take (suc k) (suc (suc k)) bs (omega arith) in
-    let last : get_or prefix (suc k) 0 ≡ get_or bs (suc k) 0 = get_or-take (suc (suc k)) bs (suc k) 0 (omega arith) in
-    let rest = sum_through-is bs k (omega arith) in search (rules, low_number)
-sum_through-is bs _ l = search rules
+    let push = low_number-push (take (suc (suc k)) bs) (suc k) (length-take (suc (suc k)) bs ∙ omega arith) in
+    let rest = sum_through-is bs k (omega arith) in search (rules, low_number, take-take, get_or-take)
 
 byte_len-some : (w : Width) → suc (byte_len w - 1) ≡ byte_len w
 byte_len-some w = grind arith

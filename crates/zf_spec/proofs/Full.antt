@@ -38,8 +38,7 @@ abbrev pub FullRun : ℕ → List Bool → Type 0
 FullRun m s = (has_one (run_in m s) ≡ true) × Begins (code_from_run (run_in m s)) s
 
 tail_of_zeros : (m : ℕ) (s : List Bool) → Begins (false ∷ []) s → Begins (tail (replicate m false)) s
-tail_of_zeros zero s h = tt
-tail_of_zeros (suc m) s h = subst (λ c. Begins c s) (sym (tail-zeros m)) h
+tail_of_zeros m s h = search (rules, tail-zeros)
 
 full_group_begins : (m : ℕ) (s : List Bool) → 1 ≤ m → ((t : List Bool) → FullRun m t) → Begins (tail (group_in m s (run_in m))) s
 full_group_begins m s h run = search (rules, tail_of_zeros, tail-some, run)
@@ -80,11 +79,7 @@ pub length-plane_in : (size n : ℕ) (s : List Bool) → n ≤ size → length (
 length-plane_in size n s h = omega (arith, length-append (first_bits n s) (tail_in (size - n) (drop n s)), length-first_bits n s, length-tail_in (size - n) (drop n s))
 
 pub full_plane_begins : (size n : ℕ) (s : List Bool) → Begins (plane_code n (plane_in size n s)) s
-full_plane_begins size n s =
-    let prefix = first_bits n s in
-    let rest = tail_in (size - n) (drop n s) in
-    let a = take_at prefix rest n (length-first_bits n s) in
-    let b = drop_at prefix rest n (length-first_bits n s) in search (rules, length-first_bits, begins_append, first_begins, full_tail_begins)
+full_plane_begins size n s = search (rules, take_at, drop_at, length-first_bits, begins_append, first_begins, full_tail_begins)
 
 pub full_plane_only : (n : ℕ) (ds s : List Bool) → n ≤ length ds → Begins (plane_code n ds) s → ds ≡ plane_in (length ds) n s
 full_plane_only n ds s h b =
@@ -110,11 +105,8 @@ full_from_only : (size n : ℕ) (ps : List (List Bool)) (s : List Bool) → n �
 full_from_only size n [] s h all b = refl
 full_from_only size n (ds ∷ ps) s h all b =
     let l : length ds ≡ size = All-head (λ ds. length ds ≡ size) ds ps all in
-    let c = plane_code n ds in
-    let others = code_from (max n (reach ds)) ps in
-    let plane = full_plane_only n ds s (omega arith) (begins_prefix c others s b) in
-    let rest = full_from_only size (max n (reach ds)) ps (drop (length c) s) (reach_within size n ds h l) (All-tail (λ ds. length ds ≡ size) ds ps all) (begins_rest c others s b) in
-    cc
+    let next = full_from_only size (max n (reach ds)) ps (drop (length (plane_code n ds)) s) (reach_within size n ds h l) (All-tail (λ ds. length ds ≡ size) ds ps all) in
+    search (rules, full_plane_only, begins_prefix, begins_rest)
 
 pub length-planes_in : (p size : ℕ) (s : List Bool) → length (planes_in p size s) ≡ p
 length-planes_in p size s = length-planes_in_from p size 0 s

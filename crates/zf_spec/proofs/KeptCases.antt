@@ -25,7 +25,7 @@ kept_run-whole : (s j : ℕ) (e : Bool) (rest : List Bool) → kept_run (suc j +
 kept_run-whole s (suc (suc j)) e rest =
     let n : suc (suc (suc j)) + s ≡ suc (suc (suc j) + s) = omega arith in
     rw n (ap (λ ds. false ∷ ds) (kept_run-whole s (suc j) e rest))
-kept_run-whole s _ e rest = search rules
+kept_run-whole s j e rest = search rules
 
 kept_run-cut : (s j : ℕ) (e : Bool) (rest : List Bool) → s ≤ j → kept_run s (replicate j false ++ true ∷ e ∷ rest) ≡ replicate s false ++ true ∷ replicate (suc (j - s) + length rest) false
 kept_run-cut zero zero e rest h = ap (λ n. true ∷ replicate n false) (let n : suc (length rest) ≡ suc (zero - zero) + length rest = omega arith in n)
@@ -47,10 +47,11 @@ kept_tail-cut r j e rest f g = search (rules, kept_tail-some, kept_run-cut)
 -- ---- the run of the last rank
 
 kept_run-last : (s j : ℕ) → kept_run (j + s) (replicate j false ++ true ∷ []) ≡ replicate j false ++ true ∷ []
+kept_run-last zero zero = refl
 kept_run-last s (suc (suc j)) =
     let n : suc (suc j) + s ≡ suc (suc j + s) = omega arith in
     rw n (ap (λ ds. false ∷ ds) (kept_run-last s (suc j)))
-kept_run-last s _ = search rules
+kept_run-last s j = search rules
 
 kept_run-last_cut : (s j : ℕ) → s < j → kept_run s (replicate j false ++ true ∷ []) ≡ replicate s false ++ true ∷ replicate (j - s) false
 kept_run-last_cut zero (suc j) h = search (rules, length-append, length-replicate)

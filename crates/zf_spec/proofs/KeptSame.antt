@@ -47,10 +47,8 @@ plane_same : (n r : ℕ) (a b rest more : List Bool) → length a ≡ length b �
 plane_same n r a b rest more l h fits e =
     let c = plane_code n a in
     let s = plane_code n b ++ more in
-    let k = length c in
-    let begins : c ≡ first_bits k s =
-    let same = first_bits-first_bits k r (c ++ rest) fits in
-    cc (first_bits-all c rest, first_bits-first_bits k r s fits) in
+    let same = first_bits-first_bits (length c) r (c ++ rest) fits in
+    let begins : c ≡ first_bits (length c) s = cc (first_bits-all c rest, first_bits-first_bits (length c) r s fits) in
     let only = full_plane_only n b s (omega arith) (begins_itself (plane_code n b) more) in
     cc (full_plane_only n a s h (begins_from_first c s begins))
 
@@ -113,8 +111,7 @@ kept_planes_from-none size n (ds ∷ ps) some all =
     let none : 0 - length (plane_code n ds) ≡ 0 = omega arith in
     let q : min n 0 ≡ 0 = omega arith in
     let whole : length (take n ds) + length (drop n ds) ≡ size = omega (arith, length-take n ds, length-drop n ds) in
-    let plane : kept_plane 0 n ds ≡ replicate size false = search (rules, kept_cut, replicate-append-replicate) in
-    cc (kept_planes_from-none size (max n (reach ds)) ps some (All-tail (λ ds. length ds ≡ size) ds ps all))
+    let next = kept_planes_from-none size (max n (reach ds)) ps some (All-tail (λ ds. length ds ≡ size) ds ps all) in search (rules, kept_cut, replicate-append-replicate)
 
 -- of planes whose codes agree in r bits, r bits keep the same
 kept_from_same : (size n r : ℕ) (ps qs : List (List Bool)) → 1 ≤ size → n ≤ size → length ps ≡ length qs → All (λ ds. length ds ≡ size) ps → All (λ ds. length ds ≡ size) qs

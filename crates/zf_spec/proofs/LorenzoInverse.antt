@@ -75,9 +75,8 @@ sum_of_sums f g d m b undoes h =
     ∙ total_swap both 0 n 0 n
     ∙ total_same (λ k. total (λ i. both i k) 0 n) (λ k. same_number m k *ℤ b k) 0 n
     (λ k _ q.
-    total_same (λ i. both i k) (λ i. (weight f d m i *ℤ weight g d i k) *ℤ b k) 0 n (λ i _ _. sym (*ℤ_assoc (weight f d m i) (weight g d i k) (b k)))
-    ∙ total-scale_right (b k) (λ i. weight f d m i *ℤ weight g d i k) 0 n
-    ∙ ap (λ x. x *ℤ b k) (weights_undo f g d m k undoes h (omega arith)))
+    let parts = total_same (λ i. both i k) (λ i. (weight f d m i *ℤ weight g d i k) *ℤ b k) 0 n (λ i _ _. sym (*ℤ_assoc (weight f d m i) (weight g d i k) (b k))) in
+    cc (total-scale_right (b k) (λ i. weight f d m i *ℤ weight g d i k) 0 n, weights_undo f g d m k undoes h (omega arith)))
     ∙ one_term m b 0 n (omega arith) (omega arith)
 
 -- what is wrapped on the way changes nothing modulo 2^w
@@ -88,9 +87,7 @@ undone f g w d block undoes l fits =
     let inner = transformed g w d block in
     let length-inner = length-map-upto (λ m. wrap w (weighted_sum (weight g d m) 0 block)) n in
     let exact : ℕ → ℤ = λ i. total (λ k. weight g d i k *ℤ get_or block k (pos 0)) 0 n in
-    let inner_at : (i : ℕ) → i < n → get_or inner i (pos 0) ≡ wrap w (exact i) =
-    λ i h. get_or-map-upto (λ m. wrap w (weighted_sum (weight g d m) 0 block)) n i (pos 0) h
-    ∙ ap (wrap w) (sum_by_place g d i block l) in
+    let inner_at : (i : ℕ) → i < n → get_or inner i (pos 0) ≡ wrap w (exact i) = λ i h. search (rules, get_or-map-upto, sum_by_place) in
     from_places (λ m. wrap w (weighted_sum (weight f d m) 0 inner)) n (pos 0) block l
     (λ m h.
     let value = get_or block m (pos 0) in
@@ -98,13 +95,10 @@ undone f g w d block undoes l fits =
     let same : IsSameModulo (bits w) sums value =
     rw (sum_of_sums f g d m (λ i. get_or block i (pos 0)) undoes h) at
     (total_same_modulo (bits w) (λ i. weight f d m i *ℤ wrap w (exact i)) (λ i. weight f d m i *ℤ exact i) 0 n
-    (λ i.
-    same_modulo_mul (bits w) (weight f d m i) (wrap w (exact i)) (exact i) (wrap_is_same w (exact i)))) in
-    wrap_only w sums value (All-get_or (λ v. FitsSigned w v) block m (pos 0) (omega (arith, h, l)) fits)
-    (same_modulo_sym (bits w) sums value same)
-    ∙ ap (wrap w) (sym (sum_by_place f d m inner length-inner
-    ∙ total_same (λ i. weight f d m i *ℤ get_or inner i (pos 0)) (λ i. weight f d m i *ℤ wrap w (exact i)) 0 n
-    (λ i _ q. ap (λ x. weight f d m i *ℤ x) (inner_at i (omega arith))))))
+    (λ i. same_modulo_mul (bits w) (weight f d m i) (wrap w (exact i)) (exact i) (wrap_is_same w (exact i)))) in
+    let fit = All-get_or (λ v. FitsSigned w v) block m (pos 0) (omega (arith, h, l)) fits in
+    let parts = total_same (λ i. weight f d m i *ℤ get_or inner i (pos 0)) (λ i. weight f d m i *ℤ wrap w (exact i)) 0 n (λ i _ q. ap (λ x. weight f d m i *ℤ x) (inner_at i (omega arith))) in
+    cc (wrap_only w sums value fit (same_modulo_sym (bits w) sums value same), sum_by_place f d m inner length-inner))
 
 pub unlorenzo-lorenzo : (w : Width) (d : ℕ) (block : List ℤ) → length block ≡ 4 ^ d → All (λ v. FitsSigned w v) block → unlorenzo w d (lorenzo w d block) ≡ block
 unfolding lorenzo unlorenzo

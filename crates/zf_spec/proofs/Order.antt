@@ -45,9 +45,7 @@ place_from_indices : (d p q : ℕ) → p < 4 ^ d → q < 4 ^ d → map (λ i. 3 
 place_from_indices zero p q f g e = omega arith
 place_from_indices (suc d) p q f g e =
     let first : 3 - p % 4 ≡ 3 - q % 4 = cc in
-    let others : map (λ i. 3 - i) (indices d (p / 4)) ≡ map (λ i. 3 - i) (indices d (q / 4)) = cc in
-    let rest = place_from_indices d (p / 4) (q / 4) (omega arith) (omega arith) others in
-    omega arith
+    let rest = place_from_indices d (p / 4) (q / 4) (omega arith) (omega arith) cc in omega arith
 
 pub place_from_key : (d p q : ℕ) → p < 4 ^ d → q < 4 ^ d → key d p ≡ key d q → p ≡ q
 place_from_key d p q f g e = place_from_indices d p q f g (cc)

@@ -48,9 +48,7 @@ source_place_existing [] p h l i = omega arith
 source_place_existing (e ∷ es) p h l i =
     let parts = and_parts (ltb (p % 4) e) (is_inside es (indices (length es) (p / 4))) i in
     let first = sources_inside e (p % 4) (All-head IsExtent e es h) (ltb-true (p % 4) e parts.0) in
-    let power = pow-suc 4 (length es) in
-    let rest = source_place_existing es (p / 4) (All-tail IsExtent e es h) (omega arith) parts.1 in
-    omega (arith, first, rest)
+    omega (arith, pow-suc 4 (length es), source_place_existing es (p / 4) (All-tail IsExtent e es h) (omega (arith, pow-suc 4 (length es))) parts.1)
 
 -- ---- the padded block
 

@@ -64,10 +64,8 @@ length-code_from-le size n [] h all = omega arith
 length-code_from-le size n (ds ∷ planes) h all =
     let l : length ds ≡ size = All-head (λ ds. length ds ≡ size) ds planes all in
     let wide = reach-le ds in
-    let rest = length-code_from-le size (max n (reach ds)) planes (omega arith)
-    (All-tail (λ ds. length ds ≡ size) ds planes all) in
-    let long = length-append (plane_code n ds) (code_from (max n (reach ds)) planes) in
-    omega (arith, length-plane_code-le size n ds l h)
+    let rest = length-code_from-le size (max n (reach ds)) planes (omega arith) (All-tail (λ ds. length ds ≡ size) ds planes all) in
+    omega (arith, length-append (plane_code n ds) (code_from (max n (reach ds)) planes), length-plane_code-le size n ds l h)
 
 -- the code of p planes of this size has at most size * p + size bits
 pub length-code-le : (size : ℕ) (planes : List (List Bool)) → All (λ ds. length ds ≡ size) planes → length (code planes) ≤ size * length planes + size

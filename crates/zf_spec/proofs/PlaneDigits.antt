@@ -1,5 +1,5 @@
 -- Planes and the coefficients that they are the digits of.
-use Rattle.std.proofs.Common.{rules, ◌≡◌, refl, sym, ap, ◌∙◌, ℕ, suc, ◌-◌, ◌^◌, ◌<◌, ◌≤◌, max, Bool, false, ℤ, pos, FitsSigned, List, [], ◌∷◌, ◌++◌, map, reverse, length, get_or, take, replicate, All, ext_get_or, ⊎_elim, get_or-take, arith}
+use Rattle.std.proofs.Common.{rules, ◌≡◌, refl, sym, ap, ◌∙◌, ℕ, zero, suc, ◌-◌, ◌^◌, ◌<◌, ◌≤◌, max, Bool, false, ℤ, pos, FitsSigned, List, [], ◌∷◌, ◌++◌, map, reverse, length, get_or, take, replicate, All, ext_get_or, get_or-take, arith}
 use Rattle.std.{proofs.lemmas.Bool.{cases_lt}, proofs.lemmas.Simd.{map-map}, specs.Int.{Width}}
 use Rattle.std.proofs.lemmas.List.{length-map, get_or-map, get_or_past, length-reverse, get_or-reverse, length-append, length-replicate, get_or-replicate, get_or_append_left, get_or-append_right, length-take}
 use Rattle.std.proofs.lemmas.List.Elements.{All-get_or, All-append, All-replicate}
@@ -48,8 +48,9 @@ planes_of-length w coefficients k d h = search (rules, length-planes_of, get_or-
 
 -- digit r of plane k is a digit of coefficient r
 pub get_or-plane : (k : ℕ) (coefficients : List (List Bool)) (r : ℕ) → get_or (plane k coefficients) r false ≡ get_or (get_or coefficients r []) k false
+get_or-plane k [] r = refl
+get_or-plane k (ds ∷ coefficients) zero = refl
 get_or-plane k (ds ∷ coefficients) (suc r) = get_or-plane k coefficients r
-get_or-plane k _ r = refl
 
 -- the digits of the coefficient of rank r, of w planes that are the greatest first
 abbrev pub digits_at : ℕ → List (List Bool) → ℕ → List Bool
@@ -69,9 +70,7 @@ digits_at-planes_of w coefficients r l =
     (λ i s.
     let h : i < w = omega (arith, s, e) in
     let back : w - 1 - (w - 1 - i) ≡ i = omega arith in
-    let at = get_or-planes_of w coefficients (w - 1 - i) (omega arith) in
-    let there = get_or-plane (w - 1 - (w - 1 - i)) coefficients r in
-    cc (get_or-digits_at w (planes_of w coefficients) r i h))
+    cc (get_or-planes_of w coefficients (w - 1 - i) (omega arith), get_or-plane (w - 1 - (w - 1 - i)) coefficients r, get_or-digits_at w (planes_of w coefficients) r i h))
 
 -- planes that have no one may be missing at the end
 pub digits_at-take : (w n : ℕ) (planes : List (List Bool)) (r : ℕ) → needed_planes planes ≤ n → digits_at w (take n planes) r ≡ digits_at w planes r
@@ -111,11 +110,9 @@ digits_at-planes w vs r h =
 -- values of the type come back from their planes
 pub coefficients_of-planes : (w : Width) (d : ℕ) (c : List ℤ) → length c ≡ 4 ^ d → All (λ v. FitsSigned w v) c → coefficients_of w d (planes w d c) ≡ c
 coefficients_of-planes w d c l fits =
-    let vs = by_rank d c in
-    let same : values_by_rank w d (planes w d c) ≡ vs =
-    from_places (λ r. value_of w (digits_at (bits w) (planes w d c) r)) (4 ^ d) (pos 0) vs (length-by_rank d c)
+    let same = from_places (λ r. value_of w (digits_at (bits w) (planes w d c) r)) (4 ^ d) (pos 0) (by_rank d c) (length-by_rank d c)
     (search (rules, order_below, get_or-by_rank, digits_at-planes, length-by_rank, value_of-digits)) in
-    coefficients_of-is w d (planes w d c) ∙ ap (by_place d) same ∙ by_place-by_rank d c l
+    cc (coefficients_of-is w d (planes w d c), by_place-by_rank d c l)
 
 -- planes that have no one may be missing below
 pub coefficients_of-take : (w : Width) (d n : ℕ) (ps : List (List Bool)) → needed_planes ps ≤ n → coefficients_of w d (take n ps) ≡ coefficients_of w d ps
@@ -143,17 +140,10 @@ planes-coefficients_of w d ps few all =
     let value = digits-value_of w (digits_at (bits w) ps r) (length-digits_at (bits w) ps r) in
     let digit = get_or-digits_at (bits w) ps r (bits w - 1 - k) (omega arith) in
     cc (get_or-plane (bits w - 1 - k) cs r, get_or-values_by_rank w d ps r g) in
-    let there : (k r : ℕ) → k < bits w → r < 4 ^ d
-    → get_or (get_or (ps ++ missing) k []) r false ≡ get_or (get_or ps k []) r false =
-    λ k r h g. ⊎_elim
-    (λ l. ap (λ ds. get_or ds r false) (get_or_append_left ps missing [] k l))
-    (search (rules, get_or-append_right, get_or-replicate, get_or_past))
-    (cases_lt k (length ps)) in
+    let there : (k r : ℕ) → k < bits w → r < 4 ^ d → get_or (get_or (ps ++ missing) k []) r false ≡ get_or (get_or ps k []) r false =
+    λ k r h g. search (rules, cases_lt, get_or_append_left, get_or-append_right, get_or-replicate, get_or_past) in
     let plane_length : (k : ℕ) → k < bits w → length (get_or (ps ++ missing) k []) ≡ 4 ^ d =
-    λ k h. All-get_or (λ ds. length ds ≡ 4 ^ d) (ps ++ missing) k [] (omega (arith, h, whole))
-    (All-append (λ ds. length ds ≡ 4 ^ d) ps missing all
-    (All-replicate (λ ds. length ds ≡ 4 ^ d) (bits w - length ps) (replicate (4 ^ d) false)
-    (length-replicate (4 ^ d) false))) in
+    λ k h. All-get_or (λ ds. length ds ≡ 4 ^ d) (ps ++ missing) k [] (omega (arith, h, whole)) (search (rules, All-append, All-replicate, length-replicate)) in
     ap (λ vs. planes w d vs) (coefficients_of-is w d ps)
     ∙ ap (λ vs. planes_of (bits w) (map (digits (bits w)) vs)) (by_rank-by_place d vs (length-values_by_rank w d ps))
     ∙ ext_get_or [] (planes_of (bits w) cs) (ps ++ missing) (length-planes_of (bits w) cs ∙ sym whole)

@@ -1,5 +1,5 @@
 -- The place of each rank and the rank of each place, and a block by rank and by place.
-use Rattle.std.proofs.Common.{rules, ◌≡◌, refl, sym, ap, ◌∙◌, ℕ, suc, ◌^◌, ◌<◌, ◌≤◌, eqb, eqb-true, ℤ, pos, List, [], ◌∷◌, length, get_or, Contains, ext_get_or, arith}
+use Rattle.std.proofs.Common.{rules, ◌≡◌, refl, sym, ◌∙◌, ℕ, zero, suc, ◌^◌, ◌<◌, ◌≤◌, eqb, eqb-true, ℤ, pos, List, [], ◌∷◌, length, get_or, Contains, ext_get_or, arith}
 use Rattle.std.{proofs.lemmas.Bool.{eqb-false}, proofs.lemmas.List.{length-map, get_or-map}}
 use Rattle.std.{proofs.lemmas.List.Elements.{Contains-get_or}, specs.List.{position_or_len}}
 use Rattle.std.proofs.lemmas.List.Sorted.{IsPermutation-sym, Contains-permutation, length_permutation}
@@ -14,8 +14,9 @@ position_of p (q ∷ ps) h = let next = position_of p ps in search (rules, eqb-t
 
 -- nothing before the first place is p
 pub position_first : (p : ℕ) (ps : List ℕ) (k : ℕ) → k < length ps → get_or ps k 0 ≡ p → position_or_len (λ q. eqb q p) ps ≤ k
+position_first p [] k h e = absurd (omega arith)
+position_first p (q ∷ ps) zero h e = search (rules, eqb-false)
 position_first p (q ∷ ps) (suc k) h e = let next = position_first p ps k (omega arith) e in search rules
-position_first p _ k h e = search rules
 
 -- ---- the order
 
@@ -65,15 +66,10 @@ get_or-by_place d values p h = get_or-map-upto (λ p. get_or values (rank_of d p
 
 pub by_place-by_rank : (d : ℕ) (block : List ℤ) → length block ≡ 4 ^ d → by_place d (by_rank d block) ≡ block
 by_place-by_rank d block l =
-    from_places (λ p. get_or (by_rank d block) (rank_of d p) (pos 0)) (4 ^ d) (pos 0) block l
-    (λ p h. sym (get_or-by_rank d block (rank_of d p) (rank_of_below d p h) ∙ ap (λ q. get_or block q (pos 0)) (order-rank_of d p h)))
+    from_places (λ p. get_or (by_rank d block) (rank_of d p) (pos 0)) (4 ^ d) (pos 0) block l (λ p h. search (rules, get_or-by_rank, rank_of_below, order-rank_of))
 
 pub by_rank-by_place : (d : ℕ) (values : List ℤ) → length values ≡ 4 ^ d → by_rank d (by_place d values) ≡ values
 by_rank-by_place d values l =
     let e = length-by_rank d (by_place d values) in
     ext_get_or (pos 0) (by_rank d (by_place d values)) values (e ∙ sym l)
-    (λ k s.
-    let h : k < 4 ^ d = omega (arith, s, e) in
-    get_or-by_rank d (by_place d values) k h
-    ∙ get_or-by_place d values (get_or (order d) k 0) (order_below d k h)
-    ∙ ap (λ r. get_or values r (pos 0)) (rank_of-order d k h))
+    (λ k s. let h : k < 4 ^ d = omega (arith, s, e) in cc (get_or-by_rank d (by_place d values) k h, get_or-by_place d values (get_or (order d) k 0) (order_below d k h), rank_of-order d k h))

@@ -47,13 +47,10 @@ raw_small w (v ∷ values) = All-append (λ b. b < 256) (to_le_bytes w (cast_uns
 pub values_from-raw : (w : Width) (values : List ℤ) → All (λ v. FitsSigned w v) values → values_from w (length values) (raw w values) ≡ values
 values_from-raw w [] all = refl
 values_from-raw w (v ∷ values) all =
-    let bs = to_le_bytes w (cast_unsigned w v) in
     let l = length-to_le_bytes w (cast_unsigned w v) in
-    let prefix : first_bytes (byte_len w) (bs ++ raw w values) ≡ bs =
-    cc (l, first_bytes-append bs (raw w values)) in
-    let rest : drop (byte_len w) (bs ++ raw w values) ≡ raw w values = drop_at bs (raw w values) (byte_len w) l in
+    let prefix = first_bytes-append (to_le_bytes w (cast_unsigned w v)) (raw w values) in
     let value = value_from_bytes w v (All-head (λ v. FitsSigned w v) v values all) in
-    cc (values_from-raw w values (All-tail (λ v. FitsSigned w v) v values all))
+    let rest = values_from-raw w values (All-tail (λ v. FitsSigned w v) v values all) in search (rules, drop_at)
 
 -- bytes come back from the values whose raw bytes they are, continued with zeros or cut
 pub raw-values_from : (w : Width) (n : ℕ) (s : List ℕ) → All (λ b. b < 256) s → raw w (values_from w n s) ≡ first_bytes (n * byte_len w) s

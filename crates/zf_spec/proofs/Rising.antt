@@ -1,6 +1,6 @@
 -- Places whose keys rise: the order of the places rises, and no other arrangement of them does.
-use Rattle.std.proofs.Common.{◌≡◌, refl, sym, subst, ◌∙◌, ℕ, zero, suc, ◌+◌, ◌^◌, ◌<◌, ◌≤◌, Bool, true, false, cond, List, [], ◌∷◌, length, get_or, ◌⊎◌, ⊎_elim, Contains, IsPermutation, arith, rules}
-use Rattle.std.{proofs.lemmas.List.Elements.{Contains-get_or}, proofs.lemmas.Bool.{cases_lt}}
+use Rattle.std.proofs.Common.{◌≡◌, refl, sym, ℕ, zero, suc, ◌+◌, ◌^◌, ◌<◌, ◌≤◌, true, false, List, [], ◌∷◌, length, get_or, ◌⊎◌, ⊎_elim, Contains, IsPermutation, arith, rules}
+use Rattle.std.{proofs.lemmas.List.Elements.{Contains-get_or}, proofs.lemmas.Bool.{cases_lt, cases_Bool}}
 use Rattle.std.proofs.lemmas.List.Sorted.{IsPermutation-refl, IsPermutation-sym, IsPermutation-cons, IsPermutation-trans, IsPermutation-append_left, IsPermutation-append_comm, Contains-permutation}
 use Rattle.zf_spec.{specs.Grid.{count_from, places}, proofs.Counting.{count_from_bounds}}
 use Rattle.zf_spec.specs.Ranks.{key, comes_before, put_in_order, in_order, order, Rises}
@@ -54,20 +54,15 @@ same_place d ps i j r h l e =
 
 -- what is among one rest is among the other, where the heads are equal: no head is among its rest
 among_rest : (d p q : ℕ) (ps qs : List ℕ) → Rises d (p ∷ ps) → p ≡ q → ((z : ℕ) → Contains (p ∷ ps) z → Contains (q ∷ qs) z) → (z : ℕ) → Contains ps z → Contains qs z
-among_rest d p q ps qs r e h z c = ⊎_elim
-    (λ same. absurd (not_before_itself d p (subst (λ x. IsBefore d p x) (sym (e ∙ same)) (first_is_before d p ps z r c))))
-    (λ k. k)
-    (contains_cases q z qs (h z (contains_tail p z ps c)))
+among_rest d p q ps qs r e h z c =
+    let among = contains_cases q z qs (h z (contains_tail p z ps c)) in
+    let before = first_is_before d p ps z r c in search (rules, not_before_itself)
 
 -- the first places of two rising lists of the same places are equal
 same_first : (d p q : ℕ) (ps qs : List ℕ) → Rises d (p ∷ ps) → Rises d (q ∷ qs) → Contains (q ∷ qs) p → Contains (p ∷ ps) q → p ≡ q
-same_first d p q ps qs r s f g = ⊎_elim
-    (λ e. sym e)
-    (λ c. ⊎_elim
-    (λ e. e)
-    (λ k. absurd (not_before_itself d q (before_trans d q p q (first_is_before d q qs p s c) (first_is_before d p ps q r k))))
-    (contains_cases p q ps g))
-    (contains_cases q p qs f)
+same_first d p q ps qs r s f g =
+    let never : Contains qs p → Contains ps q → p ≡ q = λ c k. absurd (not_before_itself d q (before_trans d q p q (first_is_before d q qs p s c) (first_is_before d p ps q r k))) in
+    ⊎_elim sym (λ c. ⊎_elim (λ e. e) (never c) (contains_cases p q ps g)) (contains_cases q p qs f)
 
 -- two rising lists of the same places are equal
 pub same_rising : (d : ℕ) (ps qs : List ℕ) → Rises d ps → Rises d qs → ((z : ℕ) → Contains ps z → Contains qs z) → ((z : ℕ) → Contains qs z → Contains ps z) → ps ≡ qs
@@ -92,25 +87,22 @@ put_in_order_moves d p (q ∷ qs) =
 pub in_order_moves : (d : ℕ) (ps : List ℕ) → IsPermutation ps (in_order d ps)
 in_order_moves d [] = IsPermutation-refl []
 in_order_moves d (p ∷ ps) =
-    IsPermutation-trans (p ∷ ps) (p ∷ in_order d ps) (put_in_order d p (in_order d ps))
-    (IsPermutation-cons p ps (in_order d ps) (in_order_moves d ps)) (put_in_order_moves d p (in_order d ps))
+    let rest = IsPermutation-cons p ps (in_order d ps) (in_order_moves d ps) in IsPermutation-trans _ _ _ rest (put_in_order_moves d p (in_order d ps))
 
 -- to put in order behind a place that comes before
 put_behind : (d p q : ℕ) (qs : List ℕ) → Rises d (q ∷ qs) → IsBefore d q p → ((s : ℕ) → Contains qs s → comes_before (key d p) (key d s) ≡ false → IsBefore d s p) → Rises d (q ∷ put_in_order d p qs)
 put_behind d p q [] r h total = (h, tt)
-put_behind d p q (s ∷ qs) r h total = by (comes_before (key d p) (key d s)) refl (λ b. put_behind d p s qs r.1 b (λ x c. total x (contains_tail s x qs c)))
-  where
-    by : (t : Bool) → comes_before (key d p) (key d s) ≡ t → (IsBefore d s p → Rises d (s ∷ put_in_order d p qs)) → Rises d (q ∷ cond t (p ∷ s ∷ qs) (s ∷ put_in_order d p qs))
-    by true e next = (h, (e, r.1))
-    by false e next = (r.0, next (total s (contains_head s qs) e))
+put_behind d p q (s ∷ qs) r h total = ⊎_elim
+    (λ e. rw e (h, (e, r.1)))
+    (λ e. rw e (r.0, put_behind d p s qs r.1 (total s (contains_head s qs) e) (λ x c. total x (contains_tail s x qs c))))
+    (cases_Bool (comes_before (key d p) (key d s)))
 
 put_in_order_rises : (d p : ℕ) (qs : List ℕ) → Rises d qs → ((s : ℕ) → Contains qs s → comes_before (key d p) (key d s) ≡ false → IsBefore d s p) → Rises d (put_in_order d p qs)
 put_in_order_rises d p [] r total = tt
-put_in_order_rises d p (q ∷ qs) r total = by (comes_before (key d p) (key d q)) refl
-  where
-    by : (t : Bool) → comes_before (key d p) (key d q) ≡ t → Rises d (cond t (p ∷ q ∷ qs) (q ∷ put_in_order d p qs))
-    by true e = (e, r)
-    by false e = put_behind d p q qs r (total q (contains_head q qs) e) (λ x c. total x (contains_tail q x qs c))
+put_in_order_rises d p (q ∷ qs) r total = ⊎_elim
+    (λ e. rw e (e, r))
+    (λ e. rw e (put_behind d p q qs r (total q (contains_head q qs) e) (λ x c. total x (contains_tail q x qs c))))
+    (cases_Bool (comes_before (key d p) (key d q)))
 
 in_order_rises : (d k n : ℕ) → k + n ≤ 4 ^ d → Rises d (in_order d (count_from k n))
 in_order_rises d k zero h = tt
@@ -130,6 +122,5 @@ order_rises d = in_order_rises d 0 (4 ^ d) (omega arith)
 -- the order is the only arrangement of the places that rises
 pub order_only : (d : ℕ) (ps : List ℕ) → IsPermutation (places d) ps → Rises d ps → ps ≡ order d
 order_only d ps m r =
-    same_rising d ps (order d) r (order_rises d)
-    (λ z c. Contains-permutation (places d) (order d) z (order_moves d) (Contains-permutation ps (places d) z (IsPermutation-sym (places d) ps m) c))
-    (λ z c. Contains-permutation (places d) ps z m (Contains-permutation (order d) (places d) z (IsPermutation-sym (places d) (order d) (order_moves d)) c))
+    let there = IsPermutation-trans ps (places d) (order d) (IsPermutation-sym (places d) ps m) (order_moves d) in
+    same_rising d ps (order d) r (order_rises d) (λ z c. Contains-permutation ps (order d) z there c) (λ z c. Contains-permutation (order d) ps z (IsPermutation-sym ps (order d) there) c)

@@ -1,5 +1,5 @@
 -- The bits of words of any width, end to end, and a word of 64 in which a bit is set.
-use Rattle.std.proofs.Common.{rules, ◌≡◌, ℕ, ◌+◌, ◌*◌, ◌/◌, ◌%◌, ◌^◌, ◌<◌, Bool, false, List, [], ◌∷◌, length, get_or, take, ap, ◌∙◌, arith, length-append}
+use Rattle.std.proofs.Common.{rules, ◌≡◌, ℕ, ◌+◌, ◌*◌, ◌/◌, ◌%◌, ◌^◌, ◌<◌, Bool, false, List, [], ◌∷◌, length, get_or, take, arith, length-append}
 use Rattle.std.{specs.List.{flat_map}, proofs.Math.Nat.{mul-suc, mul_comm}}
 use Rattle.std.{proofs.lemmas.List.{length-take-le}, proofs.lemmas.List.Concat.{get_or-flat_map}}
 use Rattle.std.proofs.lemmas.Nat.{div_below, mod_below, div-add-mod'}
@@ -18,10 +18,9 @@ get_or-flat_map-field w words i d positive within =
     let at_word : i / w < length words = div_below i w (length words) positive (rw mul_comm within) in
     let at_bit : i % w < w = mod_below i w positive in
     let v = get_or words (i / w) 0 in
-    let whole : length (flat_map (field w) (take (i / w) words)) ≡ w * (i / w) =
-    length-flat_map-field w (take (i / w) words) ∙ ap (λ n. w * n) (length-take-le (i / w) words (omega arith)) in
-    let place : i ≡ length (flat_map (field w) (take (i / w) words)) + i % w =
-    omega (arith, whole, div-add-mod' i w, mul_comm (i / w) w) in
+    let whole = length-flat_map-field w (take (i / w) words) in
+    let long : length (take (i / w) words) ≡ i / w = length-take-le (i / w) words (omega arith) in
+    let place : i ≡ w * (i / w) + i % w = omega (arith, div-add-mod' i w, mul_comm (i / w) w) in
     cc (length-field w v, get_or-flat_map (field w) words (i / w) (i % w) 0 d at_word (omega (arith, length-field w v)), get_or-field w v (i % w) d at_bit)
 
 pub length-word_bits : (words : List ℕ) → length (word_bits words) ≡ 64 * length words

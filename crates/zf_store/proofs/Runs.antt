@@ -1,5 +1,5 @@
 -- Runs of bits that move between words, a word at a time.
-use Rattle.std.proofs.Common.{◌≡◌, refl, ap, ◌∙◌, ℕ, suc, ◌+◌, ◌-◌, ◌*◌, ◌^◌, ◌<◌, ◌≤◌, Bool, false, List, ◌++◌, length, get_or, set, take, drop, replicate, append_assoc, append-nil, length-append, length-drop, arith, rules}
+use Rattle.std.proofs.Common.{◌≡◌, ap, ◌∙◌, ℕ, suc, ◌+◌, ◌-◌, ◌*◌, ◌^◌, ◌<◌, ◌≤◌, Bool, false, List, ◌++◌, length, get_or, set, take, drop, replicate, append_assoc, append-nil, length-append, length-drop, arith, rules}
 use Rattle.std.{proofs.Math.Nat.{div-eq_of_lt}, proofs.Math.Seq.{take-add, drop-append-add}}
 use Rattle.std.proofs.lemmas.List.{length-take-le, take-append-drop, take_at, take-append-le, drop_at, drop-drop}
 use Rattle.zf_spec.{specs.Numbers.{field, number, word_bits}, proofs.WordBits.{length-word_bits}}
@@ -48,9 +48,6 @@ with_run-more old at code m n next now new bits within held is_next is_now is_bi
 pub record IsMoved (old : List Bool) (at m i : ℕ) (words : List ℕ) : Type 0 where
   pub moved : take (64 * i) (word_bits words) ≡ take m (drop at old) ++ replicate (64 * i - m) false
   pub behind : drop (64 * i) (word_bits words) ≡ drop (64 * i) old
-
-pub IsMoved-none : (at : ℕ) (words : List ℕ) → IsMoved (word_bits words) at 0 0 words
-IsMoved-none at words = record { moved = refl; behind = refl }
 
 pub IsMoved-more : (old : List Bool) (at i n next m j x : ℕ) (words : List ℕ) → IsMoved old at (64 * i) i words → i < length words → 64 ≤ at → n ≤ 64 → at + 64 * i + n ≤ length old → j ≡ i + 1 → next ≡ 64 * i + n
     → length old ≡ length (word_bits words) → x ≡ number (take n (drop (at + 64 * i) (word_bits words))) → m ≡ next → IsMoved old at m j (set words i x)

@@ -1,4 +1,4 @@
-use Rattle.std.{proofs.Common.{◌≡◌, ◌-◌, arith}}
+use Rattle.std.proofs.Common.{◌≡◌, ◌-◌, arith}
 use Rattle.zf_store.proofs.Joined.{word_of_bytes}
 use Rattle.zf_store.proofs.file.word_before.Goals as goal
 

@@ -1,4 +1,4 @@
-use Rattle.std.{proofs.Common.{arith, rules}}
+use Rattle.std.proofs.Common.{arith, rules}
 use Rattle.zf_store.proofs.Opened.{header_most, moved_codes}
 use Rattle.zf_store.proofs.file.words_of_file.Goals as goal
 

@@ -1,11 +1,11 @@
 use Rattle.std.proofs.Common.{◌≡◌, refl, ◌∙◌, ◌+◌, ◌*◌, min, length, length-set, arith, rules}
 use Rattle.std.specs.Int.{div_ceil}
 use Rattle.zf_spec.{specs.Numbers.{word_bits}, proofs.WordBits.{length-word_bits}}
-use Rattle.zf_store.proofs.Runs.{IsMoved-none, IsMoved-more}
+use Rattle.zf_store.proofs.Runs.{IsMoved-more}
 use Rattle.zf_store.proofs.words.move_to_front.Goals as goal
 
 pub loop-i-init : goal.loop-i-init
-loop-i-init c = let none : 0 ≡ min (64 * 0) c.args.len = omega arith in search (rules, IsMoved-none)
+loop-i-init c = let none : 0 ≡ min (64 * 0) c.args.len = omega arith in search rules
 
 pub loop-i-preserved : goal.loop-i-preserved
 loop-i-preserved c =

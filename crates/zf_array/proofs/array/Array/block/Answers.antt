@@ -1,9 +1,9 @@
-use Rattle.std.{proofs.Common.{refl, sym, ◌∙◌, Bool, List, lit<, rules}}
+use Rattle.std.proofs.Common.{refl, sym, ◌∙◌, Bool, List, lit<, rules}
 use Rattle.zf_base.specs.Formats.{Format}
 use Rattle.zf_cached.{specs.State.{State}, specs.Touch.{touch}}
 use Rattle.zf_store.{specs.Stored.{code_at, format_of}, proofs.Kept.{blocks_is}}
 use Rattle.zf_cache.{specs.Kept.{line_of}, proofs.Sound.{values_here}}
-use Rattle.zf_array.{proofs.Standing.{held_step, step, format_now, has_blocks, header_now, state_after}}
+use Rattle.zf_array.proofs.Standing.{held_step, step, format_now, has_blocks, header_now, state_after}
 use Rattle.zf_array.proofs.array.Array.block.Goals as goal
 
 pub touch-requires : goal.touch-requires

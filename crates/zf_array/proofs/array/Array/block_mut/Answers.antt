@@ -1,6 +1,6 @@
 use Rattle.std.proofs.Common.{◌≡◌, refl, sym, ap, ◌∙◌, ◌≤◌, ◌^◌, Bool, List, length, arith, map, ℤ}
 use Rattle.zf_base.{specs.Formats.{Format, existing_of}, proofs.Formats.{length-existing_of}}
-use Rattle.zf_cached.{specs.Touch.{touch_for_writing}}
+use Rattle.zf_cached.specs.Touch.{touch_for_writing}
 use Rattle.zf_header.specs.declared.header.Header.{Header}
 use Rattle.zf_store.specs.Stored.{format_of}
 use Rattle.zf_lines.specs.Rows.{over}

@@ -1,4 +1,4 @@
-use Rattle.std.{proofs.Common.{refl, ap, Bool, List, rules}}
+use Rattle.std.proofs.Common.{refl, ap, Bool, List, rules}
 use Rattle.zf_cached.{specs.State.{State}, specs.Changes.{discard}}
 use Rattle.zf_store.specs.Stored.{code_at, format_of}
 use Rattle.zf_cache.proofs.Steps.{emptied_fits, discarded}

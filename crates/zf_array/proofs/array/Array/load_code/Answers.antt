@@ -1,4 +1,4 @@
-use Rattle.std.{proofs.Common.{rules}}
+use Rattle.std.proofs.Common.{rules}
 use Rattle.zf_array.proofs.Standing.{joined_after}
 use Rattle.zf_array.proofs.Coded.{block_there, line_there, loaded, fits_loaded, held_loaded}
 use Rattle.zf_array.proofs.array.Array.load_code.Goals as goal

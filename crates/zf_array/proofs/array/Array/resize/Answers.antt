@@ -2,8 +2,8 @@ use Rattle.std.{proofs.Common.{sym, ap, ◌∙◌, length, rules}, specs.Vec.{ve
 use Rattle.zf_spec.specs.Grid.{blocks}
 use Rattle.zf_header.{specs.declared.header.Header.{Header}, specs.HeaderBits.{rate_bytes_of}}
 use Rattle.zf_store.specs.Stored.{Stored, zeros}
-use Rattle.zf_array.{proofs.Standing.{stored_held, state_now, header_now}}
-use Rattle.zf_array.{proofs.Steps.{same_ty, resizes, fits_made}}
+use Rattle.zf_array.proofs.Standing.{stored_held, state_now, header_now}
+use Rattle.zf_array.proofs.Steps.{same_ty, resizes, fits_made}
 use Rattle.zf_array.proofs.array.Array.resize.Goals as goal
 
 pub invariant_of-self : goal.invariant_of-self

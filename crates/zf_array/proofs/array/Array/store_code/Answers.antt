@@ -1,4 +1,4 @@
-use Rattle.std.{proofs.Common.{rules}}
+use Rattle.std.proofs.Common.{rules}
 use Rattle.zf_array.proofs.Standing.{joined_after, header_step}
 use Rattle.zf_array.proofs.Coded.{block_there, line_there, coded_empty, fits_stored, stored_coded}
 use Rattle.zf_array.proofs.array.Array.store_code.Goals as goal

@@ -1,4 +1,4 @@
-use Rattle.std.{proofs.Common.{ap, ◌∙◌, Bool, List, lit<, rules}}
+use Rattle.std.proofs.Common.{ap, ◌∙◌, Bool, List, lit<, rules}
 use Rattle.zf_cached.{specs.State.{State}, specs.Touch.{touch_for_writing}, specs.Placing.{direct}}
 use Rattle.zf_cached.proofs.Caching.{touch_for_writing-dirty}
 use Rattle.zf_store.proofs.Kept.{blocks_is}

@@ -2,7 +2,7 @@ use Rattle.std.proofs.Common.{sym, ap, ◌∙◌, pos, Bool, List, get_or, lit<,
 use Rattle.std.{proofs.lemmas.Bool.{OnTrue_at}, specs.Vec.{vec_len}}
 use Rattle.zf_cached.{specs.State.{State}, specs.Touch.{touch}, specs.Arrays.{array_format}}
 use Rattle.zf_cache.specs.Standing.{state_at}
-use Rattle.zf_store.{proofs.Kept.{blocks_is}}
+use Rattle.zf_store.proofs.Kept.{blocks_is}
 use Rattle.zf_array.proofs.Standing.{header_now, has_blocks, joined_after, state_after, step, header_step}
 use Rattle.zf_array.proofs.array.Array.value_at.Goals as goal
 

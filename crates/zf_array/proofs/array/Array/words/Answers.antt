@@ -1,4 +1,4 @@
-use Rattle.std.{proofs.Common.{rules}}
+use Rattle.std.proofs.Common.{rules}
 use Rattle.zf_array.proofs.Standing.{stored_now}
 use Rattle.zf_array.proofs.array.Array.words.Goals as goal
 

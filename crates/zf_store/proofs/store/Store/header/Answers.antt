@@ -1,4 +1,4 @@
-use Rattle.zf_store.{proofs.Kept.{store_whole}}
+use Rattle.zf_store.proofs.Kept.{store_whole}
 use Rattle.zf_store.proofs.store.Store.header.Goals as goal
 
 pub returns-clause-whole : goal.returns-clause-whole

@@ -1,4 +1,4 @@
-use Rattle.std.{proofs.Common.{subst, rules}}
+use Rattle.std.proofs.Common.{subst, rules}
 use Rattle.zf_store.{specs.Stored.{IsStore}, proofs.Kept.{store_whole, words_are}}
 use Rattle.zf_store.proofs.store.Store.words.Goals as goal
 

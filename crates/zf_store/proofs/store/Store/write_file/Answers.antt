@@ -1,5 +1,5 @@
 use Rattle.std.proofs.Common.{ap, arith}
-use Rattle.zf_spec.{specs.Numbers.{word_bits}}
+use Rattle.zf_spec.specs.Numbers.{word_bits}
 use Rattle.zf_store.{specs.Stored.{file_of}, proofs.Kept.{file_is, bits_most}}
 use Rattle.zf_store.proofs.store.Store.write_file.Goals as goal
 

@@ -41,22 +41,17 @@ invariant_of-self g c =
 pub returns-clause-codes : goal.returns-clause-codes
 returns-clause-codes g c =
     let s = c.self.inside in
-    let h = s.header in
     let b = c.args.b in
-    let w = g.T.Lane.width in
     let values = map g.T.Lane.value c.args.line.now in
     let es = used_axes g.row.D c.extent-e.result.size in
-    let code = rate w c.rate-bits.result es values in
-    let below = below_blocks c.args.self.now h _ b c.self.view_is c.requires.block in
-    let long : length code ≡ block_bits h.mode = length-rate _ c.rate-bits.result _ _ ∙ c.rate-bits.ensures.value in
+    let below = below_blocks c.args.self.now s.header _ b c.self.view_is c.requires.block in
+    let long = length-rate _ c.rate-bits.result _ _ ∙ c.rate-bits.ensures.value in
     let fresh = c.put_run.new.words in
     let count : length fresh ≡ length s.words.items = c.put_run.ensures.count ∙ ap length c.deref_mut.ensures.value in
-    let put = put_is w g.row.D h s.words.items s.room s.code s.head c.self.invariant b below c.deref_mut.result.now fresh c.words.result.now c.code_place.result c.from.result c.encode_rate.new.out.bits c.clear.new.self.bits code
+    let put = put_is _ _ _ _ _ _ _ c.self.invariant b below c.deref_mut.result.now fresh c.words.result.now c.code_place.result c.from.result c.encode_rate.new.out.bits c.clear.new.self.bits _
     c.deref_mut.ensures.value c.code_place.ensures.value (c.from.ensures ∙ c.rate-bits.ensures.value) c.words.ensures.bits c.encode_rate.ensures.code.bits c.clear.ensures.bits long c.put_run.ensures.bits in
-    let at : es ≡ extent_of h.shape b = ap (λ d. used_axes d c.extent-e.result.size) (sym c.self.invariant.dims) ∙ c.extent-e.ensures.used_size in
-    let store = with_codes h (word_bits s.words.items) in
-    let is = ap (λ k. rate w k es values) c.rate-bits.ensures.value ∙ code_is_encoded w g.row.D h s.words.items s.room s.code s.head c.self.invariant b below es values at in
-    let Now : List ℕ → ℕ → List Bool = λ ws k. code_at (with_codes h (word_bits ws)) k in
-    ap Now (take_at fresh _ s.words.len (c.put_run.ensures.count ∙ c.deref_mut.ensures.len))
-    ∙ codes_put w g.row.D h s.words.items s.room s.code s.head c.self.invariant b below code fresh long count put
-    ∙ ap (λ (cs : List Bool). with_at (λ k. code_at store k) b cs) is ∙ ap (λ (t : Stored). with_at (λ k. code_at t k) b (encoded (format_of t) b values)) c.self.view_is
+    let at : es ≡ extent_of s.header.shape b = ap (λ d. used_axes d c.extent-e.result.size) (sym c.self.invariant.dims) ∙ c.extent-e.ensures.used_size in
+    let is = ap (λ k. rate g.T.Lane.width k es values) c.rate-bits.ensures.value ∙ code_is_encoded _ _ _ _ _ _ _ c.self.invariant b below es values at in
+    let Now : List ℕ → ℕ → List Bool = λ ws k. code_at (with_codes s.header (word_bits ws)) k in
+    ap Now (take_at fresh _ s.words.len (c.put_run.ensures.count ∙ c.deref_mut.ensures.len)) ∙ codes_put _ _ _ _ _ _ _ c.self.invariant b below _ fresh long count put
+    ∙ ap (λ (cs : List Bool). with_at (λ k. code_at (with_codes s.header (word_bits s.words.items)) k) b cs) is ∙ ap (λ (t : Stored). with_at (λ k. code_at t k) b (encoded (format_of t) b values)) c.self.view_is

@@ -1,6 +1,6 @@
 use Rattle.std.proofs.Common.{◌≡◌, subst, ◌∙◌, ℕ, Bool, List, [], take, drop, map, rules}
 use Rattle.std.proofs.lemmas.List.{length-take-le}
-use Rattle.zf_spec.{specs.Numbers.{word_bits}}
+use Rattle.zf_spec.specs.Numbers.{word_bits}
 use Rattle.zf_base.specs.Formats.{existing_of, meant}
 use Rattle.zf_bits.specs.Reader.{Reader, rest}
 use Rattle.zf_store.specs.Stored.{Stored, format_of, code_at}
