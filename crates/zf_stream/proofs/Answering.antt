@@ -1,7 +1,7 @@
 -- What an answer says of the input.
-use Rattle.std.proofs.Common.{rules, ◌≡◌, sym, ap, ◌∙◌, ℕ, inl, inr, List, [], ◌++◌, Option, Some, None, Result, Ok, Err}
+use Rattle.std.proofs.Common.{rules, ◌≡◌, ℕ, List, [], ◌++◌, Option, Result, Ok, Err}
 use Rattle.std.specs.Prelude.{IfErr, OnOk, OnErr}
-use Rattle.zf_dev.{specs.Source.{Takes, Gives, IsAtEnd}, proofs.Taking.{Takes-none, Takes-to_end}}
+use Rattle.zf_dev.{specs.Source.{Takes, Gives, IsAtEnd}, proofs.Taking.{Takes-none}}
 use Rattle.zf_dev.{proofs.Giving.{Gives-none, Gives-from}, proofs.Appending.{AppendsPrefix-none}}
 use Rattle.zf_parse.specs.declared.fault.StreamFault.{StreamFault}
 use Rattle.zf_parse.specs.declared.fault.StreamFault.TheVariants.{Write, Memory}
@@ -9,24 +9,19 @@ use Rattle.zf_stream.specs.Outcomes.{Answers, IsRefusal, LeavesPrefix, WritesTex
 
 -- a refusal is an answer
 pub answer_of_refusal : (r : Result (Unit {0}) StreamFault) (e : StreamFault) (known : Option (List ℕ)) (answer : List ℕ → Result (Unit {0}) StreamFault) → r ≡ Err e → IsRefusal known answer e → Answers r known answer
-answer_of_refusal r e None answer is refusal = tt
-answer_of_refusal r e (Some input) answer is refusal = search rules
+answer_of_refusal r e _ answer is refusal = search rules
 
 -- a good input is answered so, unless the sink fails
 pub answer_at_end : (r : Result (Unit {0}) StreamFault) (known now : Option (List ℕ)) (answer : List ℕ → Result (Unit {0}) StreamFault) (bytes : List ℕ) → IfErr r (λ e. e ≡ Write) → Takes known now bytes → IsAtEnd now
     → answer bytes ≡ Ok tt → Answers r known answer
-answer_at_end r None now answer bytes fault taken ended good = tt
-answer_at_end (Ok u) (Some input) now answer bytes fault taken ended good = inl (sym (ap answer (Takes-to_end input now bytes taken ended) ∙ good))
-answer_at_end (Err e) (Some input) now answer bytes fault taken ended good = inr (inr (inl fault))
+answer_at_end r _ now answer bytes fault taken ended good = search rules
 
 pub after_err : {T E : Type 0} {P R : Type 0} (r : Result T E) → OnErr r P → (P → R) → OnErr r R
-after_err (Ok x) p f = tt
-after_err (Err e) p f = f p
+after_err _ p f = search rules
 
 -- out of memory is an answer
 pub answer_of_memory : (r : Result (Unit {0}) StreamFault) (e : StreamFault) (known : Option (List ℕ)) (answer : List ℕ → Result (Unit {0}) StreamFault) → r ≡ Err e → e ≡ Memory → Answers r known answer
-answer_of_memory r e None answer is memory = tt
-answer_of_memory r e (Some input) answer is memory = search rules
+answer_of_memory r e _ answer is memory = search rules
 
 -- nothing was read, and nothing written
 pub nothing_left : (text : List ℕ → List ℕ) (src out : Option (List ℕ)) → LeavesPrefix text src src out out
@@ -44,5 +39,4 @@ module _ {text : List ℕ → List ℕ} {a b c : List ℕ → Type 0} {out_befor
   prefix_from writes = record { bytes = writes.bytes; lost = writes.lost; given = Gives-from (writes.bytes ++ writes.lost) none writes.given; written = writes.written }
 
 pub on_ok_weaker : {T E : Type 0} {P R : Type 0} (r : Result T E) → OnOk r P → (P → R) → OnOk r R
-on_ok_weaker (Ok x) p f = f p
-on_ok_weaker (Err e) p f = tt
+on_ok_weaker _ p f = search rules

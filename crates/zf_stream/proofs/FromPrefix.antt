@@ -20,20 +20,15 @@ use Rattle.zf_stream.proofs.Answering.{answer_of_refusal, answer_at_end}
 
 -- what is taken behind them
 pub Takes-behind : (prefix bytes : List ℕ) (src now : Option (List ℕ)) → Takes src now bytes → Takes (behind prefix src) now (prefix ++ bytes)
-Takes-behind prefix bytes None now taken = tt
-Takes-behind prefix bytes (Some left) None taken = absurd taken
 Takes-behind prefix bytes (Some left) (Some rest) taken = ap (λ (bs : List ℕ). prefix ++ bs) taken ∙ sym (append_assoc prefix bytes rest)
+Takes-behind prefix bytes _ now taken = search rules
 
 -- where they were taken of a source themselves
 pub Takes-known : (known src now : Option (List ℕ)) (prefix bytes : List ℕ) → Takes known src prefix → Takes (behind prefix src) now bytes → Takes known now bytes
-Takes-known None src now prefix bytes first taken = tt
-Takes-known (Some all) None now prefix bytes first taken = absurd first
-Takes-known (Some all) (Some left) now prefix bytes first taken = search rules
+Takes-known _ src now prefix bytes first taken = search rules
 
 pub Answers-known : (r : Result (Unit {0}) StreamFault) (known src : Option (List ℕ)) (prefix : List ℕ) (answer : List ℕ → Result (Unit {0}) StreamFault) → Takes known src prefix → Answers r (behind prefix src) answer → Answers r known answer
-Answers-known r None src prefix answer first answers = tt
-Answers-known r (Some all) None prefix answer first answers = absurd first
-Answers-known r (Some all) (Some left) prefix answer first answers = search (rules, answers)
+Answers-known r _ src prefix answer first answers = search rules
 
 -- ---- a window that holds them
 

@@ -1,5 +1,5 @@
 -- What the first bytes of a source say of all of it.
-use Rattle.std.proofs.Common.{◌≡◌, ℕ, ◌≤◌, List, Option, Some, None, sym, ap, ◌∙◌, inl}
+use Rattle.std.proofs.Common.{◌≡◌, ℕ, ◌≤◌, List, Option, Some, None, sym, ap, ◌∙◌, inl, rules}
 use Rattle.zf_header.specs.HeaderFaults.{header_fault}
 use Rattle.zf_stream.specs.Outcomes.{IsPrefix, IsRefusal}
 use Rattle.zf_parse.{specs.declared.fault.StreamFault.{StreamFault}, specs.Parsing.{restore_answer}}
@@ -13,6 +13,5 @@ good_of_prefix n (Some all) prefix within is none = sym (fault_first n all withi
 
 -- a fault of the header of the first bytes is the refusal
 pub refusal_of_fault : (n : ℕ) (known : Option (List ℕ)) (prefix : List ℕ) (e : StreamFault) → 19 ≤ n → IsPrefix n known prefix → IsFaultOf prefix e → IsRefusal known restore_answer e
-refusal_of_fault n None prefix e within is fault = tt
 refusal_of_fault n (Some all) prefix (faults.Header f) within is fault = inl (parse_fault n all prefix f within is fault)
-refusal_of_fault n (Some all) prefix e within is fault = absurd fault
+refusal_of_fault n _ prefix e within is fault = search rules

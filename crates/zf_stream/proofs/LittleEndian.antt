@@ -1,5 +1,5 @@
 -- Raw bytes as values, one after another.
-use Rattle.std.proofs.Common.{rules, ◌≡◌, ℕ, zero, suc, ◌+◌, ◌*◌, ◌<◌, ◌≤◌, ◌⊎◌, pos, List, [], ◌∷◌, ◌++◌, All, length, take, drop, refl, ap, ◌∙◌, arith}
+use Rattle.std.proofs.Common.{rules, ◌≡◌, ℕ, zero, suc, ◌+◌, ◌*◌, ◌<◌, ◌≤◌, ◌⊎◌, pos, List, [], ◌∷◌, ◌++◌, All, length, take, drop, ap, ◌∙◌, arith}
 use Rattle.std.{proofs.lemmas.List.{drop-drop, length-drop}, proofs.Math.Nat.{mod-eq_of_lt}}
 use Rattle.std.specs.Int.{Width, w32, w64, byte_len, from_le_bytes, cast_signed}
 use Rattle.zf_spec.{specs.Numbers.{wrap}, specs.Stream.{first_bytes, values_from}}
@@ -8,9 +8,8 @@ use Rattle.zf_base.proofs.Wrapping.{cast_signed_low}
 
 -- bytes that are there
 pub first_bytes-take : (n : ℕ) (s : List ℕ) → n ≤ length s → first_bytes n s ≡ take n s
-first_bytes-take zero s within = refl
-first_bytes-take (suc n) [] within = absurd (omega arith)
 first_bytes-take (suc n) (b ∷ s) within = ap (λ (bs : List ℕ). b ∷ bs) (first_bytes-take n s (omega arith))
+first_bytes-take _ s within = search rules
 
 -- four bytes as a word of eight
 narrow_word : (bytes : List ℕ) → length bytes ≡ 4 → from_le_bytes w64 (first_bytes 8 bytes) ≡ from_le_bytes w32 bytes

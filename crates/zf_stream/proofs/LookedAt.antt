@@ -9,10 +9,9 @@ use Rattle.zf_header.{specs.declared.header.Header.{Header}, specs.HeaderBits.{c
 use Rattle.zf_parse.specs.Raw.{stream_text}
 
 first_bytes-zeros : (k : ℕ) (s : List ℕ) (z : ℕ) → first_bytes k (s ++ replicate z 0) ≡ first_bytes k s
-first_bytes-zeros zero s z = refl
-first_bytes-zeros (suc k) [] zero = refl
 first_bytes-zeros (suc k) [] (suc z) = ap (λ (bs : List ℕ). 0 ∷ bs) (first_bytes-zeros k [] z)
 first_bytes-zeros (suc k) (b ∷ s) z = ap (λ (bs : List ℕ). b ∷ bs) (first_bytes-zeros k s z)
+first_bytes-zeros _ s z = refl
 
 -- values are those of so many bytes
 values_from-first : (w : Width) (n : ℕ) (s : List ℕ) → values_from w n (first_bytes (n * byte_len w) s) ≡ values_from w n s

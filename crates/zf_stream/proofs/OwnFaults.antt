@@ -1,7 +1,6 @@
 -- What is said of the bytes of a stream is never a fault of a device, nor one of raw values; what is said of codes is none of a header either.
-use Rattle.std.proofs.Common.{rules, ◌≡◌, ℕ, ℤ, Bool, true, false, cond, nat_lt, List, Option, Some, None, Result, Ok, Err, take, length, ◌-◌, ◌⊎◌, subst, ◌%◌, refl, ⊎_elim}
+use Rattle.std.proofs.Common.{rules, ◌≡◌, ℕ, ℤ, Bool, true, false, cond, List, Option, Result, Ok, Err, ◌⊎◌, subst, ⊎_elim}
 use Rattle.std.specs.Prelude.{IfErr}
-use Rattle.zf_spec.{specs.Grid.{blocks}, specs.Planes.{has_one}}
 use Rattle.zf_header.{specs.declared.header.Header.{Header}, specs.declared.header.HeaderFault.{HeaderFault}}
 use Rattle.zf_parse.{specs.declared.fault.StreamFault.{StreamFault}, specs.Parsing.{restore_answer}}
 use Rattle.zf_parse.proofs.Steps.{values_said, values_said-is, values_behind, header_or, codes_answer, values_or_fault, without_values, restore_answer-values}
@@ -27,25 +26,19 @@ blames_foreign (Err e) = is_foreign e
 
 own_fill : (n : ℕ) (vs : List ℤ) (short one more : Bool) → blames_foreign (values_or_fault vs (cond short (Err (faults.Truncated n)) (cond one (Err faults.Pad) (cond more (Err faults.Trailing) (Ok tt))))) ≡ false
 unfolding blames_foreign is_foreign
-own_fill n vs true one more = refl
-own_fill n vs false true more = refl
-own_fill n vs false false true = refl
-own_fill n vs false false false = refl
+own_fill n vs _ one more = search rules
 
 own_codes : (h : Header) (all : ℕ) (found : Result (List (List ℤ) × List Bool) ℕ) → blames_foreign (codes_answer h all found) ≡ false
 unfolding blames_foreign is_foreign
-own_codes h all (Err b) = refl
-own_codes h all (Ok found) = own_fill (blocks h.shape) _ (nat_lt (length found.1) ((64 - (all - length found.1) % 64) % 64)) (has_one (take ((64 - (all - length found.1) % 64) % 64) found.1)) (nat_lt ((64 - (all - length found.1) % 64) % 64) (length found.1))
+own_codes h all _ = search rules
 
 own_header : (fault : Option HeaderFault) (rest : Result (List ℤ) StreamFault) → blames_foreign rest ≡ false → blames_foreign (header_or fault rest) ≡ false
 unfolding blames_foreign is_foreign
-own_header None rest own = own
-own_header (Some f) rest own = refl
+own_header _ rest own = search rules
 
 own_text : (answer : Result (List ℤ) StreamFault) → blames_foreign answer ≡ false → blames_foreign (without_values answer) ≡ false
 unfolding blames_foreign is_foreign
-own_text (Ok vs) own = refl
-own_text (Err e) own = own
+own_text _ own = search rules
 
 -- the answer for the bytes of a stream is none
 pub own_answer : (bytes : List ℕ) → blames_foreign (restore_answer bytes) ≡ false
@@ -60,14 +53,10 @@ IsOfCodes faults.Trailing = Unit {0}
 IsOfCodes e = ⊥
 
 of_fill : (n : ℕ) (vs : List ℤ) (short one more : Bool) → IfErr (values_or_fault vs (cond short (Err (faults.Truncated n)) (cond one (Err faults.Pad) (cond more (Err faults.Trailing) (Ok tt))))) IsOfCodes
-of_fill n vs true one more = tt
-of_fill n vs false true more = tt
-of_fill n vs false false true = tt
-of_fill n vs false false false = tt
+of_fill n vs _ one more = search rules
 
 of_codes : (h : Header) (all : ℕ) (found : Result (List (List ℤ) × List Bool) ℕ) → IfErr (codes_answer h all found) IsOfCodes
-of_codes h all (Err b) = tt
-of_codes h all (Ok found) = of_fill (blocks h.shape) _ (nat_lt (length found.1) ((64 - (all - length found.1) % 64) % 64)) (has_one (take ((64 - (all - length found.1) % 64) % 64) found.1)) (nat_lt ((64 - (all - length found.1) % 64) % 64) (length found.1))
+of_codes h all _ = search rules
 
 not_before : (e : StreamFault) → IsOfCodes e → ¬ IsBeforeWriting e
 not_before (faults.Truncated n) of before = before

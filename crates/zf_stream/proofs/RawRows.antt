@@ -1,5 +1,5 @@
 -- Raw values that are read row by row: what is refused, and what is said of it.
-use Rattle.std.proofs.Common.{rules, ◌≡◌, refl, ap, ℕ, ◌+◌, ◌<◌, ◌≤◌, inr, cond, ltb, lt-ltb, le-ltb, List, [], ◌∷◌, ◌++◌, length, Option, Some, None, Ok, Err, length-append, arith}
+use Rattle.std.proofs.Common.{rules, ◌≡◌, refl, ap, ℕ, ◌+◌, ◌<◌, ◌≤◌, cond, ltb, lt-ltb, le-ltb, List, [], ◌∷◌, ◌++◌, length, Option, Some, None, Ok, Err, length-append, arith}
 use Rattle.zf_dev.{specs.Source.{Takes, TakesSome}, proofs.Taking.{Takes-append}}
 use Rattle.zf_header.specs.declared.header.Header.{Header}
 use Rattle.zf_parse.specs.declared.fault.StreamFault.{StreamFault}
@@ -33,8 +33,7 @@ some_more mid now e more = absurd more
 
 module _ (h : Header) (known now : Option (List ℕ)) where
   outside : (known : Option (List ℕ)) (e : StreamFault) → IsFromOutside e → IsRefusal known (compress_answer h) e
-  outside None e is = tt
-  outside (Some all) e is = inr is
+  outside _ e is = search rules
 
   -- a device failed
   pub read_refused : (e : StreamFault) → e ≡ faults.Read → RefusesRaw (compress_answer h) (raw_len h) known now e

@@ -1,5 +1,5 @@
 -- An array that is restored slab by slab: one slab more, and where it stops.
-use Rattle.std.proofs.Common.{rules, ◌≡◌, refl, sym, ap, subst, ◌∙◌, ℕ, ◌+◌, ◌-◌, ◌*◌, ◌/◌, ◌≤◌, inl, inr, ⊎_elim, Bool, false, ℤ, List, [], ◌++◌, length, take, drop, replicate, Option, Some, None, Ok, Err, mul_comm, append_assoc, length-append, arith}
+use Rattle.std.proofs.Common.{rules, ◌≡◌, refl, sym, ap, subst, ◌∙◌, ℕ, ◌+◌, ◌-◌, ◌*◌, ◌/◌, ◌≤◌, inl, inr, ⊎_elim, Bool, false, ℤ, List, [], ◌++◌, length, take, drop, replicate, Option, Ok, Err, mul_comm, append_assoc, length-append, arith}
 use Rattle.std.{proofs.lemmas.List.{append-nil, length-map, get_or_append_left}, proofs.Math.Nat.{mul-add}}
 use Rattle.zf_spec.{specs.Grid.{grid, blocks, blocks_of}, specs.Stream.{to_bits}}
 use Rattle.zf_spec.proofs.Counting.{get_or-map-upto, length-map-upto}
@@ -24,8 +24,7 @@ use Rattle.zf_stream.proofs.Windows.{Goes-none, Goes-next, to_bits-append}
 
 -- nothing is to come at the end
 pub still_none : (known : Option (List ℕ)) → IsAtEnd known → still known ≡ []
-still_none None ended = refl
-still_none (Some left) ended = ended
+still_none _ ended = search rules
 
 -- ---- the numbers of blocks
 

@@ -16,12 +16,10 @@ use Rattle.zf_stream.proofs.Windows.{Goes-next, codes_refilled, to_bits-append}
 
 -- an answer by its two cases
 pub on_ok_of : (r : Result (Unit {0}) StreamFault) (P : Type 0) → (r ≡ Ok tt → P) → OnOk r P
-on_ok_of (Ok u) P f = f refl
-on_ok_of (Err e) P f = tt
+on_ok_of _ _ f = search rules
 
 pub if_err_of : (r : Result (Unit {0}) StreamFault) (P : StreamFault → Type 0) → ((e : StreamFault) → r ≡ Err e → P e) → IfErr r P
-if_err_of (Ok u) P f = tt
-if_err_of (Err e) P f = f e refl
+if_err_of _ _ f = search rules
 
 module _ (h : Header) {src0 mid now out0 out : Option (List ℕ)} {w0 w1 w2 : Window} (done : Restores h (rows_of h.shape) src0 mid out0 out w0 w1) (refill : Refills mid now w1 w2) (ended : KnowsEnd w2 now)
     (enough : w2.ended ≡ false → 64 ≤ length (left_of w2)) where

@@ -1,5 +1,5 @@
 -- The blocks and the values of an array, slab by slab, as they are restored.
-use Rattle.std.proofs.Common.{rules, ◌≡◌, refl, sym, ap, ◌∙◌, ℕ, zero, suc, ◌+◌, ◌-◌, ◌*◌, ◌/◌, ◌<◌, ◌≤◌, inl, Bool, ℤ, pos, List, [], ◌++◌, map, length, get_or, take, drop, Option, Some, None, Result, Ok, Err, mul_comm, take_at, drop_at, arith}
+use Rattle.std.proofs.Common.{rules, ◌≡◌, refl, sym, ap, ◌∙◌, ℕ, zero, suc, ◌+◌, ◌-◌, ◌*◌, ◌/◌, ◌<◌, ◌≤◌, inl, Bool, ℤ, pos, List, [], ◌++◌, map, length, get_or, take, drop, Option, Result, Ok, Err, mul_comm, take_at, drop_at, arith}
 use Rattle.std.proofs.lemmas.List.{append-nil, length-map, map-append, take_all}
 use Rattle.std.proofs.Math.Nat.{mul-add, mul-le-mul_left}
 use Rattle.zf_spec.specs.Grid.{product, grid, blocks, upto, count_from, coordinates, raster, extent_of, block_of, blocks_of}
@@ -24,13 +24,11 @@ counted_from first (Ok found) = Ok found
 counted_from first (Err b) = Err (first + b)
 
 with_block-counted : (first : ℕ) (block : List ℤ) (r : Result (List (List ℤ) × List Bool) ℕ) → with_block block (counted_from first r) ≡ counted_from first (with_block block r)
-with_block-counted first block (Ok found) = refl
-with_block-counted first block (Err b) = refl
+with_block-counted first block _ = search rules
 
 read_next-counted : (first b : ℕ) (s : List Bool) (c : Option (List ℤ × ℕ)) (r q : List Bool → Result (List (List ℤ) × List Bool) ℕ) → ((t : List Bool) → r t ≡ counted_from first (q t))
     → read_next (first + b) s c r ≡ counted_from first (read_next b s c q)
-read_next-counted first b s None r q same = refl
-read_next-counted first b s (Some code) r q same = search (rules, with_block, with_block-counted)
+read_next-counted first b s _ r q same = search rules
 
 pub read_codes-slab : (h : Header) (shape : List ℕ) (first b n : ℕ) (s : List Bool) → ((j : ℕ) → j < b + n → extent_of h.shape (first + j) ≡ extent_of shape j)
     → read_codes h (first + b) n s ≡ counted_from first (read_codes (with_shape h shape) b n s)

@@ -1,7 +1,7 @@
 -- What is answered where a stream is restored if its values are of one type.
 use Rattle.std.proofs.Common.{rules, ◌≡◌, ◌≢◌, refl, sym, ap, ◌∙◌, ℕ, ◌≤◌, inl, inr, ⊎_elim, Bool, true, false, List, ◌++◌, Option, Some, None, Result, Ok, Err, arith}
 use Rattle.std.specs.Prelude.{IsErrAnd}
-use Rattle.zf_base.{specs.declared.lane.Ty.{Ty}, specs.declared.lane.Ty.TheVariants.{I32, I64}}
+use Rattle.zf_base.{specs.declared.lane.Ty.{Ty}}
 use Rattle.zf_header.specs.declared.header.Header.{Header}
 use Rattle.zf_dev.specs.Source.{Takes, TakesSome}
 use Rattle.zf_parse.{specs.declared.fault.StreamFault.{StreamFault}, proofs.Steps.{header_or}}
@@ -15,14 +15,10 @@ use Rattle.zf_stream.{proofs.FromPrefix.{Answers-known, Takes-known}, proofs.Hea
 use Rattle.zf_stream.proofs.RestoreEndings.{answer_unread, nothing_written, bad_memory}
 
 same_types : (wanted ty : Ty) (answer : Result (Unit {0}) StreamFault) → ty ≡ wanted → answer_of_types wanted ty answer ≡ with_true answer
-same_types I32 ty answer is = ap (λ t. answer_of_types I32 t answer) is
-same_types I64 ty answer is = ap (λ t. answer_of_types I64 t answer) is
+same_types _ ty answer is = search rules
 
 other_types : (wanted ty : Ty) (answer : Result (Unit {0}) StreamFault) → ty ≢ wanted → answer_of_types wanted ty answer ≡ Ok false
-other_types I32 I32 answer is_not = absurd (is_not refl)
-other_types I32 I64 answer is_not = refl
-other_types I64 I32 answer is_not = refl
-other_types I64 I64 answer is_not = absurd (is_not refl)
+other_types _ _ answer is_not = search rules
 
 -- the answer where the header is known
 typed_by : (wanted : Ty) (prefix more : List ℕ) (h : Header) (len : ℕ) → BeginsWithHeader prefix h len → typed_answer wanted (prefix ++ more) ≡ answer_of_types wanted h.ty (restore_answer (prefix ++ more))
@@ -30,16 +26,14 @@ typed_by wanted prefix more h len begun = search (rules, begun_more, header_or)
 
 -- a fault of the header
 typed_fault : (wanted : Ty) (n : ℕ) (known : Option (List ℕ)) (prefix : List ℕ) (e : StreamFault) (r : Result Bool StreamFault) → 19 ≤ n → IsPrefix n known prefix → IsFaultOf prefix e → r ≡ Err e → Answers r known (typed_answer wanted)
-typed_fault wanted n None prefix e r within is fault result = tt
 typed_fault wanted n (Some all) prefix (faults.Header f) r within is fault result = search (rules, fault_first, header_or)
-typed_fault wanted n (Some all) prefix e r within is fault result = absurd fault
+typed_fault wanted n _ prefix e r within is fault result = search rules
 
 -- a good header of the other type
 typed_other : (wanted : Ty) (known src : Option (List ℕ)) (prefix : List ℕ) (h : Header) (len : ℕ) → Takes known src prefix → BeginsWithHeader prefix h len → h.ty ≢ wanted → Answers (Ok false) known (typed_answer wanted)
-typed_other wanted None src prefix h len taken begun other = tt
-typed_other wanted (Some all) None prefix h len taken begun other = absurd taken
 typed_other wanted (Some all) (Some rest) prefix h len taken begun other =
     inl (sym (ap (typed_answer wanted) taken ∙ typed_by wanted prefix rest h len begun ∙ other_types wanted h.ty (restore_answer (prefix ++ rest)) other))
+typed_other wanted _ src prefix h len taken begun other = search rules
 
 -- one of the wanted type
 typed_same : (wanted : Ty) (known src : Option (List ℕ)) (prefix : List ℕ) (h : Header) (len : ℕ) (r : Result (Unit {0}) StreamFault) → Takes known src prefix → BeginsWithHeader prefix h len → h.ty ≡ wanted
