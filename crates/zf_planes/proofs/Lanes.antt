@@ -1,11 +1,11 @@
 -- Digits of four coefficients in words, and in four lanes of one word.
+use Rattle.std.proofs.lemmas.Simd.{map-map}
 use Rattle.std.proofs.Common.{rules, ◌≡◌, ℕ, zero, suc, ◌+◌, ◌-◌, ◌*◌, ◌/◌, ◌%◌, ◌^◌, ◌<◌, ◌≤◌, Bool, false, List, [], ◌∷◌, ◌++◌, length, map, get_or, replicate, refl, sym, ap, ◌∙◌, arith, ext_get_or, pow-suc, lit<, append_assoc}
 use Rattle.std.{proofs.Math.Nat.{div-eq_of_lt, mod-eq_of_lt, pow-le-pow_right}, specs.List.{All}}
 use Rattle.std.proofs.lemmas.Nat.{pow_pos, pow-add, shr-shr, shr_high, mod_low, mul-add-lt, shl_whole}
 use Rattle.std.{proofs.lemmas.List.{length-map, append-nil}, proofs.lemmas.List.Elements.{All-cons, All-nil}}
-use Rattle.zf_spec.{specs.Numbers.{is_odd, field}, specs.Planes.{plane, planes_of, AreOfSize}}
-use Rattle.zf_spec.proofs.Fields.{get_or-field, field-mod}
-use Rattle.zf_spec.proofs.PlaneDigits.{length-planes_of, get_or-planes_of}
+use Rattle.zf_spec.{proofs.PlaneDigits.{length-planes_of, get_or-planes_of}, specs.Numbers.{is_odd, field}}
+use Rattle.zf_spec.{specs.Planes.{plane, planes_of, AreOfSize}, proofs.Fields.{get_or-field, field-mod}}
 use Rattle.zf_planes.specs.Lanes.{low_planes, lanes_in, AreBelow, joined, IsGathered, gathered}
 
 -- ---- planes of words
@@ -31,14 +31,11 @@ low_planes-none words = refl
 pub low_planes-zeros : (c : ℕ) → low_planes c (0 ∷ 0 ∷ 0 ∷ 0 ∷ []) ≡ replicate c (replicate 4 false)
 unfolding low_planes
 low_planes-zeros zero = refl
-low_planes-zeros (suc c) =
-    let none : 0 / 2 ^ c ≡ 0 = div-eq_of_lt (pow_pos c) in
-    ap (λ u. (is_odd u ∷ is_odd u ∷ is_odd u ∷ is_odd u ∷ []) ∷ low_planes c (0 ∷ 0 ∷ 0 ∷ 0 ∷ [])) none ∙ ap (λ (ps : List (List Bool)). replicate 4 false ∷ ps) (low_planes-zeros c)
+low_planes-zeros (suc c) = cc (div-eq_of_lt (pow_pos c), low_planes-zeros c)
 
 -- they are the planes of the digits
 row-plane : (w k : ℕ) (words : List ℕ) → k < w → plane k (map (field w) words) ≡ map (λ u. is_odd (u / 2 ^ k)) words
-row-plane w k [] below = refl
-row-plane w k (u ∷ words) below = ap (λ d. d ∷ plane k (map (field w) words)) (get_or-field w u k false below) ∙ ap (λ (ds : List Bool). is_odd (u / 2 ^ k) ∷ ds) (row-plane w k words below)
+row-plane w k words below = search (rules, map-map, get_or-field)
 
 get_or-low_planes : (c i : ℕ) (words : List ℕ) → i < c → get_or (low_planes c words) i [] ≡ map (λ u. is_odd (u / 2 ^ (c - 1 - i))) words
 unfolding low_planes
@@ -64,8 +61,7 @@ bit_high i c x y small =
 bit_low : (j c x y : ℕ) → j < c → y < 2 ^ c → is_odd ((x * 2 ^ c + y) / 2 ^ j) ≡ is_odd (y / 2 ^ j)
 bit_low j c x y below small =
     let z = x * 2 ^ c + y in
-    let same : field c z ≡ field c y = sym (field-mod c z) ∙ ap (field c) (mod_low x c y small) in
-    sym (get_or-field c z j false below) ∙ ap (λ (ds : List Bool). get_or ds j false) same ∙ get_or-field c y j false below
+    cc (get_or-field c z j false below, field-mod c z, mod_low x c y small, get_or-field c y j false below)
 
 row_low : (j c : ℕ) (xs ys : List ℕ) → j < c → length xs ≡ length ys → AreBelow c ys → map (λ u. is_odd (u / 2 ^ j)) (joined c xs ys) ≡ map (λ u. is_odd (u / 2 ^ j)) ys
 unfolding joined AreBelow
@@ -286,7 +282,7 @@ zeros_below words done held before = search (rules, four_zeros, no_lanes_below, 
 -- digits in words alone
 pub gathered_words : (words : List ℕ) (done lanes held : ℕ) → held ≡ 0 → gathered words done lanes held ≡ low_planes done words
 unfolding gathered
-gathered_words words done lanes held none = rw none (ap (λ (ps : List (List Bool)). low_planes done words ++ ps) (low_planes-none (lanes_in 4 lanes)) ∙ append-nil (low_planes done words))
+gathered_words words done lanes held none = search (rules, none, low_planes-none, append-nil)
 
 pub gathered_none : (words : List ℕ) (done lanes held : ℕ) → done ≡ 0 → held ≡ 0 → gathered words done lanes held ≡ []
 gathered_none words done lanes held none empty = gathered_words words done lanes held empty ∙ ap (λ k. low_planes k words) none ∙ low_planes-none words

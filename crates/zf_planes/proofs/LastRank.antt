@@ -79,7 +79,6 @@ kept_of_planes n r (ds ∷ planes) low high sizes =
     let below = All-tail (λ es. length es ≡ 4) ds planes sizes in
     let here = kept_of_three n r ds low high long in
     let own = plane_of_three n ds low high long in
-    let whole = plane_of_three 4 ds (omega arith) (omega arith) long in
     let reached : max 4 (reach ds) ≡ 4 = omega (arith, reach_within 4 4 ds (omega arith) long) in
     let left = r - length (plane_code 4 ds) in
     let rest = kept_of_planes (max n (reach ds)) left planes (omega arith) (reach_within 4 n ds high long) below in search rules

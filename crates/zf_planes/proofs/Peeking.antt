@@ -100,7 +100,7 @@ run_zeros zero left m s t within below e = search rules
 run_zeros (suc k) left m s t within below e =
     let one = run_zero left m s (replicate k false ++ t) (omega arith) (omega arith) e in
     let more = run_zeros k (left - 1) (m - 1) (replicate k false ++ t) t (omega arith) (omega arith) refl in
-    let less : left - 1 - k ≡ left - suc k = omega arith in search rules
+    search rules
 
 -- what a run makes of so many zeros and a one
 pub zeros_and_one : (k left m : ℕ) (s : List Bool) → k < left → k + 1 < m → s ≡ replicate k false ++ true ∷ drop (k + 1) s

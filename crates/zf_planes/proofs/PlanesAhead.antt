@@ -130,6 +130,4 @@ whole_planes (ds ∷ planes) r (suc p) size n len s some within sizes code there
     let spent : r - k - (len - k) ≡ r - len = omega arith in
     let place : drop (len - k) (drop k s) ≡ drop len s = drop-drop (len - k) k s ∙ ap (λ m. drop m s) (sym parts) in
     let reached : max above (reach_of_all planes) ≡ max n (max (reach ds) (reach_of_all planes)) = omega arith in
-    let fewer : suc p - suc (length planes) ≡ p - length planes = omega arith in
-    let rest_bits = rw (spent, place, reached) at rest.bits in
-    let rest_digits = rw (spent, place, reached) at rest.digits in search rules
+    search rules

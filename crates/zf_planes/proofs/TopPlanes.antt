@@ -48,8 +48,7 @@ map-from f g m k d same =
     (λ i here. get_or-map f (count_from m k) i 0 d (omega (arith, length-count_from m k)) ∙ ap f (get_or-count_from m k i 0 here) ∙ same i here)
 
 map_each : {X Y : Type 0} (f g : X → Y) (xs : List X) → ((x : X) → f x ≡ g x) → map f xs ≡ map g xs
-map_each f g [] same = refl
-map_each f g (x ∷ xs) same = ap (λ y. y ∷ map f xs) (same x) ∙ ap (λ ys. g x ∷ ys) (map_each f g xs same)
+map_each f g xs same = search (rules, same)
 
 -- plane i of words whose top m digits are gone
 plane-below : (words : List ℕ) (m i : ℕ) → m + i < 64 → map (λ word. top_digit word (m + i)) words ≡ map (λ word. top_digit word i) (map (below m) words)

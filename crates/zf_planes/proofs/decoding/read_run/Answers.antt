@@ -1,4 +1,5 @@
-use Rattle.std.proofs.Common.{rules, ◌≡◌, ℕ, ◌+◌, ◌-◌, ◌<◌, ◌≤◌, Bool, List, [], ◌∷◌, length, drop, refl, sym, ap, ◌∙◌, arith}
+use Rattle.std.proofs.Common.{rules, ◌≡◌, ℕ, ◌+◌, ◌-◌, ◌<◌, ◌≤◌, length, drop, refl, sym, ap, ◌∙◌, arith}
+use Rattle.std.proofs.lemmas.List.{nil_from_length}
 use Rattle.zf_bits.specs.Reader.{Reader, rest}
 use Rattle.zf_planes.specs.Decoding.{Takes, run_ahead, run_bits, tail_ahead, tail_bits}
 use Rattle.zf_planes.proofs.Passing.{Passes, Passes-part, Passes-lacks, Takes-rest}
@@ -8,15 +9,11 @@ use Rattle.zf_planes.proofs.decoding.read_run.Goals as goal
 
 -- ---- the bits end
 
-empty : (s : List Bool) → length s ≡ 0 → s ≡ []
-empty [] none = refl
-empty (b ∷ s) none = absurd (omega arith)
-
 pub returns-then-ahead-eq0-clause-short : goal.returns-then-ahead-eq0-clause-short
 returns-then-ahead-eq0-clause-short c =
     let s = rest c.loop-zeros.reader in
     let none : length s ≡ 0 = omega (arith, c.if-ahead-eq0.true, c.min-ahead.ensures, c.min-in-loop-zeros.ensures, c.min.ensures, c.left.ensures.count, c.if-left-gt0.true, c.loop-zeros-test.true) in
-    let needed = run_short c.loop-zeros.left (c.args.most - c.loop-zeros.zeros) s c.if-left-gt0.true (omega (arith, c.loop-zeros-test.true)) (empty s none) in
+    let needed = run_short c.loop-zeros.left (c.args.most - c.loop-zeros.zeros) s c.if-left-gt0.true (omega (arith, c.loop-zeros-test.true)) (nil_from_length s none) in
     Passes-lacks c.loop-zeros.invariant.passes (record { few = omega arith; all = refl }) needed
 
 -- ---- the one

@@ -1,4 +1,5 @@
 use Rattle.std.proofs.Common.{rules, ◌≡◌, ℕ, ◌+◌, ◌-◌, ◌*◌, ◌%◌, ◌<◌, ◌≤◌, ◌⊎◌, max, Bool, true, false, List, [], ◌∷◌, ◌++◌, length, replicate, refl, sym, ap, ◌∙◌, arith, append_assoc}
+use Rattle.std.proofs.lemmas.List.{nil_from_length}
 use Rattle.zf_spec.{specs.Planes.{reach}, specs.HeldPlanes.{digits_held, IsClearFrom}}
 use Rattle.zf_spec.{proofs.Reach.{reach-le}, proofs.HeldPlanes.{length-digits_held}}
 use Rattle.zf_bits.specs.Reader.{Reader, rest}
@@ -14,15 +15,11 @@ loop-n-init g c = search (rules, reach-le, length-digits_held)
 
 -- ---- the bits end
 
-empty : (s : List Bool) → length s < 1 → s ≡ []
-empty [] none = refl
-empty (b ∷ s) none = absurd (omega arith)
-
 pub returns-then-not-sees-clause-short : goal.returns-then-not-sees-clause-short
 returns-then-not-sees-clause-short g c =
     let s = rest c.loop-n.cursor.reader in
     let none = c.sees.ensures.short c.if-not-sees.true (omega (arith, c.if-cursor-gt0.true)) (omega arith) in
-    let needed = tail_short c.loop-n.cursor.left (c.args.size - c.loop-n.n) s c.if-cursor-gt0.true (omega (arith, c.loop-n-test.true)) (empty s none) in
+    let needed = tail_short c.loop-n.cursor.left (c.args.size - c.loop-n.n) s c.if-cursor-gt0.true (omega (arith, c.loop-n-test.true)) (nil_from_length s (omega (arith, none))) in
     Passes-lacks c.loop-n.invariant.passes (record { few = none; all = ap (λ r. r.all) c.sees.ensures.reader }) needed
 
 pub returns-in_err-n-clause-short : goal.returns-in_err-n-clause-short
@@ -48,7 +45,6 @@ loop-n-preserved g c =
     let long = length-digits_held n old (omega arith) in
     let fewer : m - z - 1 ≡ c.args.size - (n + z + 1) = omega arith in
     let bits' = rw fewer at ok.bits in
-    let digits' = rw fewer at ok.digits in
     let reached = ap reach placed.0 ∙ reach_one (digits_held n old) z in
     record {
       passes = Passes-part (tail_bits left' (c.args.size - (n + z + 1)) s') before.passes bits' ok.taken;

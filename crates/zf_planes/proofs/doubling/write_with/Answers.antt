@@ -79,8 +79,7 @@ returns c =
     let n = c.args.n in
     let v = c.args.digits in
     let part = c.args.part.now in
-    let last = c.write_run-2.new.part in
     let run = true ∷ code_from_run (field (c.args.size - n) (v / 2 ^ n)) in
     let remains = flushed c.args.left c.write_part-left.result c.args.size n v part.len part.bits c.requires.in_plane c.requires.some c.requires.digits c.requires.fits c.write_part-left.ensures.bits c.write_part-left.ensures.left in
     let rest = begun c.args.left c.write_part-left.result c.write_part-left-2.result c.args.size n v (omega (arith, c.requires.in_plane, c.requires.size)) remains c.write_part-left-2.ensures.bits c.write_part-left-2.ensures.left in
-    record { code = Remains-but run (field last.len last.bits) rest c.write_run-2.ensures.code; small = c.write_run-2.ensures.small; len = c.write_run-2.ensures.len }
+    let code = Remains-but run _ rest c.write_run-2.ensures.code in search rules

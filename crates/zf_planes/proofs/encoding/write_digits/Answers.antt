@@ -28,7 +28,7 @@ loop-at-preserved g c =
     let count : length more ≡ n = omega (arith, length-take n (drop at ds), length-drop at ds, long) in
     let appends = Appends-same c.write_reserved.ensures.bits (field ∙ sym (take_all left more (omega (arith, count, few)))) in
     let written = Remains-more more (drop (at + n) ds) (Remains-same c.loop-at.invariant.remains (split_next at n ds)) appends in
-    let spent : c.args.left - (at + n - c.args.from) ≡ left - length more = omega (arith, count, c.loop-at.invariant.from) in search rules
+    search rules
 
 pub returns-clause-bits : goal.returns-clause-bits
 returns-clause-bits g c =

@@ -1,4 +1,4 @@
-use Rattle.std.proofs.Common.{rules, ◌≡◌, ℕ, zero, suc, ◌+◌, ◌-◌, ◌*◌, ◌/◌, ◌%◌, ◌^◌, ◌<◌, ◌≤◌, min, Bool, true, false, List, [], ◌∷◌, ◌++◌, length, take, drop, replicate, get_or, refl, sym, ap, ◌∙◌, arith}
+use Rattle.std.proofs.Common.{rules, ◌≡◌, ℕ, suc, ◌+◌, ◌-◌, ◌*◌, ◌/◌, ◌%◌, ◌^◌, ◌<◌, ◌≤◌, min, Bool, true, false, List, [], ◌∷◌, ◌++◌, length, take, drop, replicate, get_or, refl, sym, ap, ◌∙◌, arith}
 use Rattle.std.{specs.Int.{w64, trailing_zeros}, specs.Int.Count.{trailing_of_zero}}
 use Rattle.std.proofs.lemmas.List.{length-drop, length-take, drop_all}
 use Rattle.zf_spec.{specs.Planes.{tail, has_one, reach}, specs.HeldPlanes.{digits_held}}
@@ -44,17 +44,37 @@ returns-then-n-end g c =
 
 -- ---- a group bit of one, and the run behind it
 
--- what remains begins with both; j zeros come before the one, and the run ends before rank m
-remains_run : {old now : Writer} {budget left : ℕ} {whole : List Bool} (ds : List Bool) (n j m : ℕ)
-    → Remains old now budget left whole (tail (drop n ds)) → n + j < length ds → drop n ds ≡ replicate j false ++ true ∷ drop (j + 1) (drop n ds)
-    → m ≡ min (n + j + 1) (length ds - 1)
-    → Remains old now budget left whole ((true ∷ take (m - n) (drop n ds)) ++ tail (drop (n + j + 1) ds))
-remains_run ds n j m remains within split e = Remains-same remains (tail_run_at ds n j m (omega (arith, length-drop n ds)) split e)
-
--- the run in one word
+-- the run in one word: j zeros come before the one
 record IsRun (ds : List Bool) (n j : ℕ) : Type 0 where
   within : n + j < length ds
   split : drop n ds ≡ replicate j false ++ true ∷ drop (j + 1) (drop n ds)
+
+module _ {old now : Writer} {budget left : ℕ} {whole : List Bool} (size n j : ℕ) (ds : List Bool) (remains : Remains old now budget left whole (tail (drop n ds))) (long : length ds ≡ size) (run : IsRun ds n j) where
+  -- what remains begins with both, and the run ends before rank m
+  remains_run : (m : ℕ) → m ≡ min (n + j + 1) (size - 1) → Remains old now budget left whole ((true ∷ take (m - n) (drop n ds)) ++ tail (drop (n + j + 1) ds))
+  remains_run m e = Remains-same remains (tail_run_at ds n j m (omega (arith, length-drop n ds, run.within)) run.split (omega arith))
+
+  abbrev end : ℕ
+  end = min (n + j + 1) (size - 1)
+
+  -- as many bits as both have
+  count_is : length (true ∷ take (end - n) (drop n ds)) ≡ min (j + 2) (size - n)
+  count_is = omega (arith, length-take (end - n) (drop n ds), length-drop n ds, run.within)
+
+  group_fits : min left (min (j + 2) (size - n)) ≤ now.room
+  group_fits = omega (arith, Remains-fits (true ∷ take (end - n) (drop n ds)) (tail (drop (n + j + 1) ds)) (remains_run end refl), count_is)
+
+  group_written : {new : Writer} → Appends now new (take left (take (min (j + 2) (size - n)) (true ∷ (replicate j false ++ true ∷ []))))
+      → Remains old new budget (left - min (j + 2) (size - n)) whole (tail (drop (n + j + 1) ds))
+  group_written {new} appends =
+      let bits : min (j + 2) (size - n) ≡ suc (end - n) = omega (arith, run.within) in
+      let same = run_of_plane (drop n ds) (drop (j + 1) (drop n ds)) j (end - n) run.split (omega arith) in
+      let written = Appends-same appends (ap (take left) (ap (λ k. take k (true ∷ (replicate j false ++ true ∷ []))) bits ∙ sym same)) in
+      rw (← count_is) (Remains-more (true ∷ take (end - n) (drop n ds)) (tail (drop (n + j + 1) ds)) (remains_run end refl) written)
+
+  -- behind the group bit comes the run
+  after_bit : {new : Writer} (m : ℕ) → m ≡ min (n + j + 1) (size - 1) → 0 < left → Appends now new (true ∷ []) → Remains old new budget (left - 1) whole (take (m - n) (drop n ds) ++ tail (drop (n + j + 1) ds))
+  after_bit m e some appends = Remains-bit true _ some (remains_run m e) appends
 
 run_in_word : (size n w : ℕ) (ws : List ℕ) → w ≡ get_or ws (n / 64) 0 → size ≤ 64 * length ws → w < 2 ^ 64 → has_one (drop n (digits_held size ws)) ≡ true
     → trailing_zeros w64 (w / 2 ^ (n % 64)) < 63 → IsRun (digits_held size ws) n (trailing_zeros w64 (w / 2 ^ (n % 64)))
@@ -64,8 +84,7 @@ run_in_word size n w ws is enough fits one few =
     record { within = next.within; split = split_at_next (digits_held size ws) n z (n + z) refl next }
   where
     some : (v : ℕ) → trailing_zeros w64 v < 63 → 0 < v
-    some zero few = let none = trailing_of_zero 64 in absurd (omega arith)
-    some (suc v) few = omega arith
+    some v few = grind (arith, trailing_of_zero 64)
 
 run_here : (g : Over) (c : goal.After-write_group-arg-1 g) → IsRun (digits_held c.args.size (g.P.Plane.words c.args.plane.now)) c.loop-n.n (trailing_zeros w64 (c.word.result / 2 ^ (c.loop-n.n % 64)))
 run_here g c =
@@ -74,29 +93,6 @@ run_here g c =
     run_in_word c.args.size c.loop-n.n c.word.result ws c.word.ensures (omega (arith, c.requires.words, g.met.P.Plane.long c.args.plane.now)) (omega (arith, c.word.type_inv)) one c.if-zeros-lt63.true
 
 -- ---- the run is written at once
-
--- as many bits as both have
-count_is : (size n j m : ℕ) (ds : List Bool) → length ds ≡ size → n + j < size → m ≡ min (n + j + 1) (size - 1) → length (true ∷ take (m - n) (drop n ds)) ≡ min (j + 2) (size - n)
-count_is size n j m ds long within e = omega (arith, length-take (m - n) (drop n ds), length-drop n ds)
-
-group_fits : {old now : Writer} {budget left : ℕ} {whole : List Bool} (size n j : ℕ) (ds : List Bool) → Remains old now budget left whole (tail (drop n ds)) → length ds ≡ size → IsRun ds n j → min left (min (j + 2) (size - n)) ≤ now.room
-group_fits size n j ds remains long run =
-    let m = min (n + j + 1) (size - 1) in
-    let next = remains_run ds n j m remains run.within run.split (omega arith) in
-    let fits = Remains-fits (true ∷ take (m - n) (drop n ds)) (tail (drop (n + j + 1) ds)) next in
-    omega (arith, fits, count_is size n j m ds long (omega (arith, run.within)) refl)
-
-group_written : {old now new : Writer} {budget left : ℕ} {whole : List Bool} (size n j : ℕ) (ds : List Bool) → Remains old now budget left whole (tail (drop n ds)) → length ds ≡ size → IsRun ds n j
-    → Appends now new (take left (take (min (j + 2) (size - n)) (true ∷ (replicate j false ++ true ∷ []))))
-    → Remains old new budget (left - min (j + 2) (size - n)) whole (tail (drop (n + j + 1) ds))
-group_written {old} {now} {new} {budget} {left} {whole} size n j ds remains long run appends =
-    let m = min (n + j + 1) (size - 1) in
-    let next = remains_run ds n j m remains run.within run.split (omega arith) in
-    let count = count_is size n j m ds long (omega (arith, run.within)) refl in
-    let bits : min (j + 2) (size - n) ≡ suc (m - n) = omega (arith, run.within) in
-    let same = run_of_plane (drop n ds) (drop (j + 1) (drop n ds)) j (m - n) run.split (omega arith) in
-    let written = Appends-same appends (ap (take left) (ap (λ k. take k (true ∷ (replicate j false ++ true ∷ []))) bits ∙ sym same)) in
-    rw (← count) (Remains-more (true ∷ take (m - n) (drop n ds)) (tail (drop (n + j + 1) ds)) next written)
 
 pub write_group-left-requires-clause-fits : goal.write_group-left-requires-clause-fits
 write_group-left-requires-clause-fits g c = search (rules, group_fits, held_long, run_here)
@@ -119,11 +115,6 @@ pub zeros_from-requires-clause-one : goal.zeros_from-requires-clause-one
 zeros_from-requires-clause-one g c =
     has_one-drop c.loop-n.n (digits_held c.args.size (g.P.Plane.words c.args.plane.now)) (omega (arith, c.requires.end, c.if-n-end.false))
 
--- behind the group bit comes the run
-after_bit : {old now new : Writer} {budget left : ℕ} {whole : List Bool} (size n j m : ℕ) (ds : List Bool) → Remains old now budget left whole (tail (drop n ds)) → length ds ≡ size → IsRun ds n j → 0 < left
-    → m ≡ min (n + j + 1) (size - 1) → Appends now new (true ∷ []) → Remains old new budget (left - 1) whole (take (m - n) (drop n ds) ++ tail (drop (n + j + 1) ds))
-after_bit size n j m ds remains long run some e appends = Remains-bit true _ some (remains_run ds n j m remains run.within run.split (omega arith)) appends
-
 pub write_digits-left-requires-clause-fits : goal.write_digits-left-requires-clause-fits
 write_digits-left-requires-clause-fits g c =
     let n = c.loop-n.n in
@@ -131,7 +122,7 @@ write_digits-left-requires-clause-fits g c =
     let all = held_long g c.args.plane.now c.args.size c.requires.words in
     let m = c.min.result in
     let run : IsRun ds n c.zeros_from.result = record { within = omega (arith, all, c.zeros_from.ensures.bound); split = c.zeros_from.ensures.split } in
-    let next = after_bit c.args.size n c.zeros_from.result m ds c.loop-n.invariant.remains all run c.if-left-gt0.true c.min.ensures c.write_bit_reserved-else-zeros-lt63.ensures.bits in
+    let next = after_bit c.args.size n c.zeros_from.result ds c.loop-n.invariant.remains all run m c.min.ensures c.if-left-gt0.true c.write_bit_reserved-else-zeros-lt63.ensures.bits in
     let count : length (take (m - n) (drop n ds)) ≡ m - n = omega (arith, all, length-take (m - n) (drop n ds), length-drop n ds, c.min.ensures) in
     rw count at (Remains-fits (take (m - n) (drop n ds)) (tail (drop (n + c.zeros_from.result + 1) ds)) next)
 
@@ -144,7 +135,7 @@ loop-n-preserved g c =
     let j = c.zeros_from.result in
     let m = c.min.result in
     let run : IsRun ds n j = record { within = omega (arith, all, c.zeros_from.ensures.bound); split = c.zeros_from.ensures.split } in
-    let next = after_bit c.args.size n j m ds c.loop-n.invariant.remains all run c.if-left-gt0.true c.min.ensures c.write_bit_reserved-else-zeros-lt63.ensures.bits in
+    let next = after_bit c.args.size n j ds c.loop-n.invariant.remains all run m c.min.ensures c.if-left-gt0.true c.write_bit_reserved-else-zeros-lt63.ensures.bits in
     let part = Appends-same c.write_digits-left.ensures.bits (ap (take (c.loop-n.left - 1)) (held_part c.args.size n m ws (omega (arith, c.min.ensures, c.loop-n-test.true)) (omega (arith, c.min.ensures)))) in
     let written = Remains-more (take (m - n) (drop n ds)) (tail (drop (n + j + 1) ds)) next part in
     let count : length (take (m - n) (drop n ds)) ≡ m - n = omega (arith, all, length-take (m - n) (drop n ds), length-drop n ds, c.min.ensures) in
@@ -162,5 +153,4 @@ none_left g c =
 
 pub returns-after-loop-n : goal.returns-after-loop-n
 returns-after-loop-n g c =
-    let none = ap length (none_left g c) in
-    record { bits = Remains-end c.loop-n.invariant.remains (omega arith); left = omega (arith, c.loop-n.invariant.remains.spent) }
+    let none = ap length (none_left g c) in search (rules, Remains-end)
