@@ -1,14 +1,14 @@
 -- Planes in which the first rank alone has ones: their code, what is read as such, and the digits that they hold.
 use Rattle.std.{proofs.lemmas.List.Elements.{All-map}, proofs.Math.Pow.{pow_mono}, specs.Int.{Width}}
 use Rattle.std.proofs.Common.{rules, ◌≡◌, refl, sym, ap, subst, ◌∙◌, ℕ, zero, suc, ◌+◌, ◌-◌, ◌*◌, ◌/◌, ◌%◌, ◌^◌, ◌<◌, ◌≤◌, ◌≢◌, max, Bool, true, false, pos, List, [], ◌∷◌, ◌++◌, map, reverse, length, take, drop, replicate, get_or, ext_get_or, ◌==◌, All, arith}
-use Rattle.std.proofs.lemmas.Nat.{pow_pos, pow-add, shr-shr, shl_whole, mul-add-lt}
+use Rattle.std.proofs.lemmas.Nat.{pow_pos, pow-add, shr-shr, shl_whole}
 use Rattle.std.proofs.lemmas.List.{append-nil, map-append, reverse-append, length-append, length-map, length-replicate, length-reverse, length-take, take_all, take-append-le, take-take, take-append-drop, get_or-reverse}
 use mir.Val.{bits}
 use Rattle.zf_spec.{specs.Numbers.{field, is_odd, digit_value, value_of}, specs.Kept.{kept_planes}}
 use Rattle.zf_spec.{specs.Grid.{IsDimension, IsBlockSize, upto}, specs.Codes.{coefficients_of}}
 use Rattle.zf_spec.specs.Planes.{plane, planes_of, reach, tail, code_from, code}
 use Rattle.zf_spec.{specs.ReadPlanes.{Begins, planes_in}, proofs.Beginnings.{begins_itself}}
-use Rattle.zf_spec.proofs.Fields.{length-field, field-add, field-mod, field-zero, is_odd-digit_value}
+use Rattle.zf_spec.proofs.Fields.{length-field, field-add, field-mod, field-zero, sum_below, is_odd-digit_value}
 use Rattle.zf_spec.{proofs.Full.{full_only}, proofs.Reach.{has_one-zeros, reach_none}}
 use Rattle.zf_spec.proofs.PlaneDigits.{length-map-reverse-upto, get_or-map-reverse-upto}
 use Rattle.zf_bits.{specs.Reader.{Reader, rest, Reads}, proofs.Words.{field_shifted}}
@@ -229,19 +229,16 @@ pub have_come : {old new : Reader} (word count digits left : ℕ) → HaveCome w
 have_come word count digits left come seen reads = record { reads = Reads-same reads (sym seen ∙ come.code); small = come.small }
 
 -- two parts, one behind the other
-parts_below : (m n u v : ℕ) → u < 2 ^ m → v < 2 ^ n → u * 2 ^ n + v < 2 ^ (m + n)
-parts_below m n u v high few = search (rules, mul-add-lt, pow-add)
-
 pub ReadsDigits-append : {a b c : Reader} (m n u v : ℕ) → ReadsDigits m u a b → ReadsDigits n v b c → ReadsDigits (m + n) (u * 2 ^ n + v) a c
 ReadsDigits-append m n u v first second = record {
   reads = Reads-same (Reads-append first.reads second.reads) (sym (ap lone_code (digits_down-add m n u v second.small) ∙ lone_code-append (digits_down m u) (digits_down n v)));
-  small = parts_below m n u v first.small second.small;
+  small = sum_below m n u v first.small second.small;
 }
 
 -- as a word has them
 pub joined : (m n u v : ℕ) → u < 2 ^ m → v < 2 ^ n → m + n ≤ 63 → (u * 2 ^ n % 2 ^ 64 ≡ u * 2 ^ n) × (u * 2 ^ n + v < 2 ^ 64)
 joined m n u v high low few =
-    omega (arith, pow_mono {i = m + n} {j = 63} few, shl_whole u m n 64 high (omega arith), parts_below m n u v high low)
+    omega (arith, pow_mono {i = m + n} {j = 63} few, shl_whole u m n 64 high (omega arith), sum_below m n u v high low)
 
 -- the first one, behind the planes of zeros, and those behind it
 pub first_read : {old zeros one new : Reader} (z n d len : ℕ) → Reads old zeros (replicate z false) → Reads zeros one (true ∷ true ∷ false ∷ []) → ReadsDigits n d one new → len ≡ new.at - old.at
@@ -253,7 +250,7 @@ first_read {old} {zeros} {one} {new} z n d len above first behind count =
     let bits = first_code (digits_down (z + k) u) in
     let whole : 1 * 2 ^ n + d ≡ u = omega arith in
     let alone : u ≡ 0 * 2 ^ k + u = omega arith in
-    let below : 0 * 2 ^ k + u < 2 ^ (z + k) = parts_below z k 0 u (pow_pos z) (omega (arith, behind.small, twice)) in
+    let below : 0 * 2 ^ k + u < 2 ^ (z + k) = sum_below z k 0 u (pow_pos z) (omega (arith, behind.small, twice)) in
     let all : digits_down (z + k) u ≡ replicate z false ++ (true ∷ digits_down n d) = search (rules, digits_down-add, digits_down-zero) in
     let reads : Reads old new bits = Reads-same (Reads-append above (Reads-append first behind.reads)) (cc (first_code-behind z (digits_down n d))) in
     let long : length bits ≡ len = omega (arith, reads.place, count) in search (rules, take-append-le, take_all, length-append)

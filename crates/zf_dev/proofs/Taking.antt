@@ -15,6 +15,3 @@ Takes-append (Some xs) None new first next a b = absurd a
 Takes-append (Some xs) (Some ys) None first next a b = b
 
 -- the bytes taken up to the end are all that were to come
-pub Takes-to_end : (left : List ℕ) (new : Option (List ℕ)) (bytes : List ℕ) → Takes (Some left) new bytes → IsAtEnd new → left ≡ bytes
-Takes-to_end left None bytes taken end = absurd taken
-Takes-to_end left (Some rest) bytes taken end = taken ∙ (ap (λ behind. bytes ++ behind) end ∙ append-nil bytes)

@@ -2,10 +2,10 @@
 use Rattle.std.proofs.lemmas.Simd.{map-map}
 use Rattle.std.proofs.Common.{rules, ◌≡◌, ℕ, zero, suc, ◌+◌, ◌-◌, ◌*◌, ◌/◌, ◌%◌, ◌^◌, ◌<◌, ◌≤◌, Bool, false, List, [], ◌∷◌, ◌++◌, length, map, get_or, replicate, refl, sym, ap, ◌∙◌, arith, ext_get_or, pow-suc, lit<, append_assoc}
 use Rattle.std.{proofs.Math.Nat.{div-eq_of_lt, mod-eq_of_lt, pow-le-pow_right}, specs.List.{All}}
-use Rattle.std.proofs.lemmas.Nat.{pow_pos, pow-add, shr-shr, shr_high, mod_low, mul-add-lt, shl_whole}
+use Rattle.std.proofs.lemmas.Nat.{pow_pos, shr-shr, shr_high, mod_low, shl_whole}
 use Rattle.std.{proofs.lemmas.List.{length-map, append-nil}, proofs.lemmas.List.Elements.{All-cons, All-nil}}
 use Rattle.zf_spec.{proofs.PlaneDigits.{length-planes_of, get_or-planes_of}, specs.Numbers.{is_odd, field}}
-use Rattle.zf_spec.{specs.Planes.{plane, planes_of, AreOfSize}, proofs.Fields.{get_or-field, field-mod}}
+use Rattle.zf_spec.{specs.Planes.{plane, planes_of, AreOfSize}, proofs.Fields.{get_or-field, field-mod, sum_below}}
 use Rattle.zf_planes.specs.Lanes.{low_planes, lanes_in, AreBelow, joined, IsGathered, gathered}
 
 -- ---- planes of words
@@ -89,9 +89,6 @@ planes_joined zero c xs ys same small = let all : zero + c ≡ c = omega arith i
 planes_joined (suc i) c xs ys same small =
     let next : suc i + c ≡ suc (i + c) = omega arith in
     rw next (cc (row_high i c xs ys same small, planes_joined i c xs ys same small))
-
-sum_below : (i c x y : ℕ) → x < 2 ^ i → y < 2 ^ c → x * 2 ^ c + y < 2 ^ (i + c)
-sum_below i c x y high low = search (rules, mul-add-lt, pow-add)
 
 pub joined_below : (i c : ℕ) (xs ys : List ℕ) → length xs ≡ length ys → AreBelow i xs → AreBelow c ys → AreBelow (i + c) (joined c xs ys)
 unfolding joined AreBelow

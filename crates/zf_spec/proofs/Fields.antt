@@ -1,6 +1,6 @@
 -- The lowest bits of a number, and the number that bits stand for.
 use Rattle.std.proofs.Common.{◌≡◌, refl, sym, ap, ◌∙◌, ℕ, zero, suc, ◌+◌, ◌*◌, ◌/◌, ◌%◌, ◌^◌, ◌<◌, Bool, false, List, [], ◌∷◌, ◌++◌, length, get_or, replicate, pow-suc, mod-eq_of_lt, pow_pos, arith, rules}
-use Rattle.std.{proofs.lemmas.Nat.{mod-pow-add, shr-shr}, proofs.Math.Nat.{div-one, mod-one}}
+use Rattle.std.{proofs.lemmas.Nat.{mod-pow-add, mul-add-lt, pow-add, shr-shr}, proofs.Math.Nat.{div-one, mod-one}}
 use Rattle.zf_spec.{specs.Numbers.{is_odd, digit_value, field, number}, proofs.Halves.{digit_value-is_odd}}
 
 pub length-field : (n v : ℕ) → length (field n v) ≡ n
@@ -30,6 +30,10 @@ field-number n bs l = cc
 pub number-lt : (bs : List Bool) → number bs < 2 ^ length bs
 number-lt [] = omega arith
 number-lt (b ∷ bs) = let rest = number-lt bs in search (rules, pow-suc)
+
+-- two numbers of so many digits, one above the other
+pub sum_below : (m n u v : ℕ) → u < 2 ^ m → v < 2 ^ n → u * 2 ^ n + v < 2 ^ (m + n)
+sum_below m n u v high low = search (rules, mul-add-lt, pow-add)
 
 -- a field is its lower part and then its higher part
 pub field-add : (m n v : ℕ) → field (m + n) v ≡ field m v ++ field n (v / 2 ^ m)

@@ -24,10 +24,6 @@ unfoldable pub blames_foreign : {T : Type 0} → Result T StreamFault → Bool
 blames_foreign (Ok x) = false
 blames_foreign (Err e) = is_foreign e
 
-own_fill : (n : ℕ) (vs : List ℤ) (short one more : Bool) → blames_foreign (values_or_fault vs (cond short (Err (faults.Truncated n)) (cond one (Err faults.Pad) (cond more (Err faults.Trailing) (Ok tt))))) ≡ false
-unfolding blames_foreign is_foreign
-own_fill n vs _ one more = search rules
-
 own_codes : (h : Header) (all : ℕ) (found : Result (List (List ℤ) × List Bool) ℕ) → blames_foreign (codes_answer h all found) ≡ false
 unfolding blames_foreign is_foreign
 own_codes h all _ = search rules
@@ -51,9 +47,6 @@ IsOfCodes (faults.Truncated n) = Unit {0}
 IsOfCodes faults.Pad = Unit {0}
 IsOfCodes faults.Trailing = Unit {0}
 IsOfCodes e = ⊥
-
-of_fill : (n : ℕ) (vs : List ℤ) (short one more : Bool) → IfErr (values_or_fault vs (cond short (Err (faults.Truncated n)) (cond one (Err faults.Pad) (cond more (Err faults.Trailing) (Ok tt))))) IsOfCodes
-of_fill n vs _ one more = search rules
 
 of_codes : (h : Header) (all : ℕ) (found : Result (List (List ℤ) × List Bool) ℕ) → IfErr (codes_answer h all found) IsOfCodes
 of_codes h all _ = search rules

@@ -23,9 +23,6 @@ abbrev pub counted_from : ℕ → Result (List (List ℤ) × List Bool) ℕ → 
 counted_from first (Ok found) = Ok found
 counted_from first (Err b) = Err (first + b)
 
-with_block-counted : (first : ℕ) (block : List ℤ) (r : Result (List (List ℤ) × List Bool) ℕ) → with_block block (counted_from first r) ≡ counted_from first (with_block block r)
-with_block-counted first block _ = search rules
-
 read_next-counted : (first b : ℕ) (s : List Bool) (c : Option (List ℤ × ℕ)) (r q : List Bool → Result (List (List ℤ) × List Bool) ℕ) → ((t : List Bool) → r t ≡ counted_from first (q t))
     → read_next (first + b) s c r ≡ counted_from first (read_next b s c q)
 read_next-counted first b s _ r q same = search rules
