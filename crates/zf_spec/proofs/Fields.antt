@@ -59,5 +59,7 @@ number-append (a ∷ as') bs = omega (arith, number-append as' bs, ap (λ p. p *
 
 -- bit k of a field
 pub get_or-field : (n v k : ℕ) (d : Bool) → k < n → get_or (field n v) k d ≡ is_odd (v / 2 ^ k)
+get_or-field zero v k d h = absurd (omega arith)
+get_or-field (suc n) v zero d h = ap is_odd (sym (div-one v))
 get_or-field (suc n) v (suc k) d h =
     let step : 1 + k ≡ suc k = omega arith in let rest = get_or-field n (v / 2) k d (omega arith) in cc (shr-shr v 1 k)

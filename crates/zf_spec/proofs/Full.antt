@@ -23,10 +23,11 @@ length-group_in : (m : ℕ) (s : List Bool) → ((t : List Bool) → length (run
 length-group_in m s run = grind (arith, length-replicate)
 
 pub length-run_in : (m : ℕ) (s : List Bool) → length (run_in m s) ≡ m
+length-run_in zero s = refl
+length-run_in (suc zero) s = refl
 length-run_in (suc (suc m)) [] = ap suc (length-run_in (suc m) [])
 length-run_in (suc (suc m)) (false ∷ s) = ap suc (length-run_in (suc m) s)
 length-run_in (suc (suc m)) (true ∷ s) = ap suc (length-group_in (suc m) s (length-run_in (suc m)))
-length-run_in _ s = refl
 
 pub length-tail_in : (m : ℕ) (s : List Bool) → length (tail_in m s) ≡ m
 length-tail_in m s = length-group_in m s (length-run_in m)
@@ -53,7 +54,6 @@ full_run_begins (suc m) s = let rest = full_run_begins m in search (rules, code_
 pub full_tail_begins : (m : ℕ) (s : List Bool) → Begins (tail (tail_in m s)) s
 full_tail_begins zero s = search rules
 full_tail_begins (suc m) s = full_group_begins (suc m) s (omega arith) (full_run_begins m)
-full_tail_begins _ s = search rules
 
 -- ---- no other digits have such a code
 
@@ -71,7 +71,6 @@ full_run_only ds t e h = search (rules, false≢true, true≢false)
 pub full_tail_only : (ds s : List Bool) → Begins (tail ds) s → ds ≡ tail_in (length ds) s
 full_tail_only [] s h = search rules
 full_tail_only (d ∷ ds) s h = full_group_only (d ∷ ds) s (full_run_only (d ∷ ds)) h
-full_tail_only _ s h = search rules
 
 -- ---- planes
 

@@ -7,6 +7,7 @@ use Rattle.zf_spec.specs.Planes.{has_one, reach, group, code_from_run, tail, pla
 use Rattle.zf_spec.specs.Kept.{zeros, kept_run, kept_tail, cut_plane, kept_plane, kept_planes_from, kept_planes}
 use Rattle.zf_spec.{specs.ReadPlanes.{first_bits, planes_in}, proofs.Reach.{reach-le}}
 use Rattle.zf_spec.proofs.Beginnings.{begins_is_first, begins_from_first, begins_itself, first_bits-first_bits, first_bits-append, first_bits-rest, first_bits-prefix, first_bits-all}
+use Rattle.zf_spec.proofs.KeptCases.{kept_tail-zeros, kept_tail-one}
 use Rattle.zf_spec.proofs.Full.{full_plane_only, full_begins, full_only, length-planes_in, planes_in-length}
 
 zeros_same : (a b : List Bool) → length a ≡ length b → zeros a ≡ zeros b
@@ -19,7 +20,8 @@ abbrev RunsSame : List Bool → List Bool → Type 0
 RunsSame a b = (s : ℕ) → has_one a ≡ true → has_one b ≡ true → first_bits s (code_from_run a) ≡ first_bits s (code_from_run b) → kept_run s a ≡ kept_run s b
 
 groups_same : (a b : List Bool) (r : ℕ) → length a ≡ length b → RunsSame a b → first_bits r (group a (code_from_run a)) ≡ first_bits r (group b (code_from_run b)) → kept_tail r a ≡ kept_tail r b
-groups_same a b _ l runs e = search rules
+groups_same a b zero l runs e = zeros_same a b l
+groups_same a b (suc r) l runs e = search (rules, kept_tail-one, kept_tail-zeros, zeros_same, true≢false, false≢true)
 
 runs_same : (a b : List Bool) → length a ≡ length b → RunsSame a b
 runs_same [] [] l s f g e = refl

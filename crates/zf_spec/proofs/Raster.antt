@@ -1,5 +1,5 @@
 -- Positions in a box and their raster numbers.
-use Rattle.std.proofs.Common.{◌≡◌, refl, ap, ◌∙◌, ℕ, zero, suc, ◌+◌, ◌*◌, ◌/◌, ◌%◌, ◌^◌, ◌<◌, ◌≤◌, true, ltb, ltb-true, lt-ltb, List, [], ◌∷◌, length, All, mod-lt, mod-eq_of_lt, pow-suc, div-add-mod', mul-le-mul_left, arith, rules}
+use Rattle.std.proofs.Common.{◌≡◌, refl, ap, ◌∙◌, ℕ, zero, suc, ◌+◌, ◌*◌, ◌/◌, ◌%◌, ◌^◌, ◌<◌, ◌≤◌, true, ltb, ltb-true, lt-ltb, List, [], ◌∷◌, length, All, mod-lt, mod-eq_of_lt, pow-suc, div-add-mod', mul-le-mul_left, arith}
 use Rattle.std.proofs.Math.Nat.{add-mul-mod_self_left, add-mul-div_left, div-eq_of_lt}
 use Rattle.std.{proofs.lemmas.Bool.{and_from, and_parts}, proofs.lemmas.Nat.{div_below}}
 use Rattle.std.proofs.lemmas.List.Elements.{All-head, All-tail}
@@ -23,8 +23,9 @@ pub length-indices : (d p : ℕ) → length (indices d p) ≡ d
 length-indices d p = length-coordinates (fours d) p ∙ length-fours d
 
 pub length-extents : (ns cs : List ℕ) → length cs ≡ length ns → length (extents ns cs) ≡ length ns
+length-extents [] cs e = refl
+length-extents (n ∷ ns) [] e = absurd (omega arith)
 length-extents (n ∷ ns) (c ∷ cs) e = ap suc (length-extents ns cs (omega arith))
-length-extents _ cs e = search rules
 
 -- ---- positions
 
@@ -37,11 +38,11 @@ is_inside-coordinates (n ∷ ns) k h =
 
 -- a raster number is that of its coordinates
 pub raster-coordinates : (ns : List ℕ) (k : ℕ) → k < product ns → raster ns (coordinates ns k) ≡ k
+raster-coordinates [] k h = omega arith
+raster-coordinates (zero ∷ ns) k h = absurd (omega arith)
 raster-coordinates (suc m ∷ ns) k h =
-    let n = suc m in
-    let rest = raster-coordinates ns (k / n) (div_below k n (product ns) (omega arith) (omega arith)) in
-    ap (λ r. k % n + n * r) rest ∙ omega (arith, div-add-mod' k n)
-raster-coordinates _ k h = search rules
+    let rest = raster-coordinates ns (k / suc m) (div_below k (suc m) (product ns) (omega arith) (omega arith)) in
+    ap (λ r. k % suc m + suc m * r) rest ∙ omega (arith, div-add-mod' k (suc m))
 
 -- a position is that of its raster number
 pub coordinates-raster : (ns ps : List ℕ) → length ps ≡ length ns → is_inside ns ps ≡ true → coordinates ns (raster ns ps) ≡ ps

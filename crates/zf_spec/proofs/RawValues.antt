@@ -6,7 +6,7 @@ use Rattle.std.proofs.lemmas.List.Elements.{All-head, All-tail, All-nil, All-con
 use Rattle.std.specs.Int.{Width, byte_len, to_le_bytes, from_le_bytes, cast_unsigned, cast_signed}
 use borrow.Author.Differences.{fits_in, read_fits}
 use mir.Val.{bits}
-use Rattle.zf_spec.{specs.Numbers.{field}, proofs.Fields.{length-field}}
+use Rattle.zf_spec.{specs.Numbers.{field}, proofs.Wrapping.{bits_is_half}, proofs.Fields.{length-field}}
 use Rattle.zf_spec.specs.Stream.{Mode, fixed_rate, raw, first_bytes, values_from, long_form, header}
 use Rattle.zf_spec.proofs.Bytes.{length-first_bytes, All-first_bytes, first_bytes-append, first_bytes-add, length-to_le_bytes, to_le_bytes_small, from_le_bytes-to_le_bytes, to_le_bytes-from_le_bytes, from_le_bytes_below}
 

@@ -11,17 +11,21 @@ has_one-zeros zero = refl
 has_one-zeros (suc n) = has_one-zeros n
 
 pub has_one-append_one : (ds rest : List Bool) → has_one (ds ++ true ∷ rest) ≡ true
+has_one-append_one [] rest = refl
+has_one-append_one (true ∷ ds) rest = refl
 has_one-append_one (false ∷ ds) rest = has_one-append_one ds rest
-has_one-append_one _ rest = refl
 
 -- digits with no one are zeros
 pub zeros_from_none : (ds : List Bool) → has_one ds ≡ false → ds ≡ replicate (length ds) false
+zeros_from_none [] h = refl
+zeros_from_none (true ∷ ds) h = cc
 zeros_from_none (false ∷ ds) h = ap (λ es. false ∷ es) (zeros_from_none ds h)
-zeros_from_none _ h = search rules
 
 pub none_at : (ds : List Bool) (k : ℕ) → has_one ds ≡ false → get_or ds k false ≡ false
+none_at [] k h = refl
+none_at (true ∷ ds) k h = cc
+none_at (false ∷ ds) zero h = refl
 none_at (false ∷ ds) (suc k) h = none_at ds k h
-none_at _ k h = search rules
 
 pub none_from_each : (ds : List Bool) → ((k : ℕ) → get_or ds k false ≡ false) → has_one ds ≡ false
 none_from_each [] h = refl

@@ -1,5 +1,6 @@
 -- The laws of products of whole numbers that std lacks.
-use Rattle.std.{proofs.Common.{◌≡◌, ◌*◌, ℤ, ◌+ℤ◌, ◌*ℤ◌, neg_ℤ, ap, arith, rules}, proofs.lemmas.Int.{ints}}
+use Rattle.std.proofs.Common.{◌≡◌, ◌*◌, zero, suc, ℤ, pos, negsuc, ◌+ℤ◌, ◌*ℤ◌, neg_ℤ, ap, arith}
+use Rattle.std.{proofs.lemmas.Int.{ints}, proofs.Math.IntN.{zero-*ℤ}}
 use borrow.Author.Differences.{up, down, sum_is_lem, product_is}
 
 pub add-*ℤ : (a b c : ℤ) → (a +ℤ b) *ℤ c ≡ a *ℤ c +ℤ b *ℤ c
@@ -29,4 +30,6 @@ pub *ℤ_assoc : (a b c : ℤ) → (a *ℤ b) *ℤ c ≡ a *ℤ (b *ℤ c)
     omega (arith, ints)
 
 pub neg-*ℤ : (a b : ℤ) → neg_ℤ a *ℤ b ≡ neg_ℤ (a *ℤ b)
-neg-*ℤ _ b = search rules
+neg-*ℤ (pos zero) b = cc (zero-*ℤ b)
+neg-*ℤ (pos (suc n)) b = omega (arith, ints)
+neg-*ℤ (negsuc n) b = omega (arith, ints)
