@@ -1,5 +1,4 @@
-use Rattle.std.proofs.Common.{◌*◌, ◌<◌, subst, nat_le, rules}
-use Rattle.std.proofs.lemmas.Bool.{le-leb, lt-leb}
+use Rattle.std.{proofs.Common.{◌*◌, ◌<◌, subst, nat_le, rules}, proofs.lemmas.Bool.{le-leb, lt-leb}}
 use Rattle.zf_cached.specs.Changes.{default_lines}
 use Rattle.zf_cache.proofs.Doubled.{passes, tried_more}
 use Rattle.zf_cache.proofs.counts.default_lines.Goals as goal

@@ -1,5 +1,4 @@
-use Rattle.std.proofs.Common.{rules}
-use Rattle.std.proofs.lemmas.Bool.{cases_lt}
+use Rattle.std.{proofs.Common.{rules}, proofs.lemmas.Bool.{cases_lt}}
 use Rattle.zf_cache.proofs.body.Body.line_holding.Goals as goal
 
 pub returns-clause-row : goal.returns-clause-row

@@ -1,7 +1,6 @@
 use Rattle.std.{proofs.Common.{refl, ap, ◌∙◌, ◌+◌, ◌*◌}, specs.Vec.{with_item}}
-use Rattle.zf_cache.{specs.declared.body.Body.{Body}, specs.Bodies.{kept_of}}
+use Rattle.zf_cache.{specs.declared.body.Body.{Body}, specs.Bodies.{kept_of}, proofs.Tags.{tag-set_same}}
 use Rattle.zf_cache.proofs.Sound.{line_below, soils_line, comes_soiling}
-use Rattle.zf_cache.proofs.Tags.{tag-set_same}
 use Rattle.zf_cached.specs.Touch.{soiled}
 use Rattle.zf_cache.proofs.body.Body.touch_for_writing.Goals as goal
 

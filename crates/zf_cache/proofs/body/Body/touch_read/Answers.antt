@@ -1,7 +1,6 @@
 use Rattle.std.proofs.Common.{rules, ◌<◌, refl, sym, ap, subst, ◌∙◌, ◌/◌, length, None}
 use Rattle.std.{proofs.lemmas.List.{get_or_default, set-set, length-set}, specs.Vec.{with_item}}
-use Rattle.zf_cache.{specs.declared.body.Body.{Body}, specs.Kept.{tag_at, clean_tag}}
-use Rattle.zf_cache.{proofs.Tags.{undirty}}
+use Rattle.zf_cache.{specs.declared.body.Body.{Body}, specs.Kept.{tag_at, clean_tag}, proofs.Tags.{undirty}}
 use Rattle.zf_cache.proofs.Sound.{none_in, stays_clean, evicts, hits_block, misses_block, comes_hitting, comes_missing}
 use Rattle.zf_cache.proofs.body.Body.touch_read.Goals as goal
 

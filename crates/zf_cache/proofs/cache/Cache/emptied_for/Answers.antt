@@ -1,5 +1,4 @@
-use Rattle.std.proofs.Common.{rules}
-use Rattle.std.proofs.lemmas.List.{length-replicate}
+use Rattle.std.{proofs.Common.{rules}, proofs.lemmas.List.{length-replicate}}
 use Rattle.zf_cache.proofs.Rooms.{room_for_blocks}
 use Rattle.zf_cache.proofs.cache.Cache.emptied_for.Goals as goal
 
