@@ -2,7 +2,7 @@
 use Rattle.std.proofs.Common.{rules, ◌≡◌, ◌≢◌, ◌↔◌, refl, sym, ap, subst, ◌∙◌, ◌⊎◌, inl, inr, ℕ, ◌+◌, ◌<◌, ◌≤◌, ℤ, Bool, true, false, not, ◌&&◌, ltb, leb, List, length, get_or, set, Option, Some, None, arith}
 use Rattle.std.{specs.Int.{Width}, specs.Option.{option_map}, proofs.Math.Path.{fun_ext}}
 use Rattle.std.proofs.Math.Bool.{and-false}
-use Rattle.std.proofs.lemmas.Bool.{false≢true, and_from, and_parts, lt-ltb, ltb-true, le-ltb, le-leb, leb-true, cases_lt, cases_eq}
+use Rattle.std.proofs.lemmas.Bool.{false≢true, and_from, and_parts, lt-ltb, ltb-true, le-ltb, le-leb, leb-true, cases_eq}
 use Rattle.std.proofs.lemmas.List.{get_or-map, get_or_default, map-set, length-map, length-set, get_or-set_other, get_or-set_same, ext_get_or}
 use Rattle.std.proofs.lemmas.Grind.{get_or-set_at}
 use Rattle.zf_spec.specs.Grid.{blocks, is_inside}
@@ -20,16 +20,13 @@ use Rattle.zf_cache.specs.Standing.{Fits, state_at}
 use Rattle.zf_private.specs.Standing as private
 use Rattle.zf_private.{specs.Standing.{Own, IsSameView, IsWhole}, proofs.Calls.{own_state}}
 use Rattle.zf_private.proofs.Alike.{stay-acted, quiet-acted, alike-acted, alike-answered}
-use Rattle.zf_private.{proofs.Others.{other_codes_alike}, proofs.Ready.{ready_after, ready_beside}}
+use Rattle.zf_private.{proofs.Others.{other_codes_alike}, proofs.Ready.{ready_after, ready_beside}, proofs.Several.{own-or-not}}
 use Rattle.zf_array.{specs.Standing.{Held, shape, state, format}, specs.Coded.{IsCoded}}
 use Rattle.zf_run.{specs.Sessions.{setting_of, kind}, proofs.Sessions.{format_is}}
 use Rattle.zf_run.specs.Splits.{owns_block, view_state, view_of, views_seen, split_session, IsPart, AreParts}
 use Rattle.zf_commands.{specs.Steps.{Does, HasWindow, starves}, proofs.Stepping.{accepted}}
 
 -- ---- which blocks a view owns
-
-own-or-not : {X : Type 0} (v : private.Held X) (b : ℕ) → Own v b ⊎ (Own v b → ⊥)
-own-or-not v b = search (rules, cases_lt)
 
 owned-true : {X : Type 0} (v : private.Held X) (b : ℕ) → Own v b → owns_block v b ≡ true
 owned-true v b o = and_from (leb v.first b) (ltb b (v.first + v.count)) (le-leb v.first b o.0) (lt-ltb b (v.first + v.count) o.1)
