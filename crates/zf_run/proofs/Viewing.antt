@@ -205,9 +205,6 @@ module _ {X : Type 0} (value : X → ℤ) (w : Width) (d : ℕ) (a b : Held) (vi
     each = λ k o below there. subst (λ m. IsPart value d b m k o) (sym (length-set views i n)) (part_at k o (subst (λ m. k < m) (length-set views i n) below) there (cases_eq k i));
   }
     where
-      same_shape : shape b ≡ shape a
-      same_shape = ap (λ (h : Header). h.shape) head
-
       part_at : (k : ℕ) (o : private.Held X) → k < length views → o ≡ get_or (set views i n) k o → (k ≡ i) ⊎ (k ≡ i → ⊥) → IsPart value d b (length views) k o
       part_at k o below there (inl e) = search (rules, ready_after, formats, get_or-set_same, part)
       part_at k o below there (inr ne) =
