@@ -1,11 +1,10 @@
 -- What the laws say of views over a backing, and of the parts of an array.
-use Rattle.std.proofs.Common.{◌≡◌, refl, sym, ap, subst, ◌∙◌, ◌⊎◌, inl, inr, ℕ, zero, suc, ◌+◌, ◌*◌, ◌/◌, ◌<◌, ◌≤◌, ℤ, ◌+ℤ◌, arith, rules}
+use Rattle.std.proofs.Common.{◌≡◌, refl, sym, ap, subst, ◌∙◌, ◌⊎◌, inl, inr, ℕ, zero, suc, ◌+◌, ◌*◌, ◌/◌, ◌<◌, ◌≤◌, ℤ, arith, rules}
 use Rattle.std.{specs.Int.{Width}, proofs.lemmas.Bool.{cases_lt}}
 use Rattle.std.proofs.Math.Nat.{zero-div, mul-div_cancel_left}
-use Rattle.zf_spec.specs.Numbers.{wrap}
 use Rattle.zf_base.specs.Formats.{Format, meant}
-use Rattle.zf_cached.{specs.State.{State}, specs.Touch.{touch}, specs.Changes.{flush, discard}}
-use Rattle.zf_cached.{specs.Acts.{Act}, specs.Views.{changed, acted, AreAlike}}
+use Rattle.zf_cached.{specs.State.{State}, specs.Changes.{discard}}
+use Rattle.zf_cached.{specs.Acts.{Act}, specs.Views.{acted, AreAlike}}
 use Rattle.zf_cached.specs.Ownership.{OwnsPart, first_of}
 use Rattle.zf_cache.{specs.Kept.{block_in}, specs.Standing.{Fits, state_at}, proofs.Tags.{names-clean}}
 use Rattle.zf_private.specs.Standing.{Held, Own, state, IsWhole}
@@ -13,22 +12,6 @@ use Rattle.zf_private.specs.Standing.{Held, Own, state, IsWhole}
 pub acted-discard : {Code : Type 0} (w : Width) (f : Format Code) (s : State Code) → discard f s ≡ acted w f s Act.discard
 unfolding acted
 acted-discard w f s = refl
-
-pub acted-flush : {Code : Type 0} (w : Width) (f : Format Code) (s : State Code) → flush f s ≡ acted w f s Act.flush
-unfolding acted
-acted-flush w f s = refl
-
-pub acted-get : {Code : Type 0} (w : Width) (f : Format Code) (s : State Code) (b p : ℕ) → touch f s b ≡ acted w f s (Act.get b p)
-unfolding acted
-acted-get w f s b p = refl
-
-pub acted-set : {Code : Type 0} (w : Width) (f : Format Code) (s : State Code) (b p : ℕ) (v : ℤ) → changed f s b p (λ old. v) ≡ acted w f s (Act.set b p v)
-unfolding acted
-acted-set w f s b p v = refl
-
-pub acted-add : {Code : Type 0} (w : Width) (f : Format Code) (s : State Code) (b p : ℕ) (v : ℤ) → changed f s b p (λ old. wrap w (old +ℤ v)) ≡ acted w f s (Act.add b p v)
-unfolding acted
-acted-add w f s b p v = refl
 
 -- ---- codes that changed in the blocks of other views
 

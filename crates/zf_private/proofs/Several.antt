@@ -4,7 +4,7 @@ use Rattle.std.proofs.lemmas.Bool.{cases_lt, cases_eq}
 use Rattle.zf_base.specs.Formats.{Format}
 use Rattle.zf_cached.{specs.State.{State}, specs.Acts.{Act}}
 use Rattle.zf_cached.specs.Views.{Views, Step, state_of_view, acted, answered, stepped, IsWithin, HasOwn, AreAlike}
-use Rattle.zf_cache.{specs.Standing.{Fits, state_at}}
+use Rattle.zf_cache.specs.Standing.{Fits, state_at}
 use Rattle.zf_private.{specs.Standing.{Held, Own, IsSameView, IsWhole, state}, proofs.Calls.{own_state}}
 use Rattle.zf_private.{specs.Several.{AreReady, StandFor}, proofs.Alone.{there, stays, alike-other}}
 use Rattle.zf_private.proofs.Alike.{stay-acted, alike-acted, alike-answered, alike-refl}
@@ -71,7 +71,8 @@ module _ {X Code : Type 0} (value : X → ℤ) (d : ℕ) (w : Width) (views news
 
     other_alike : (m : ℕ) → m ≢ i → AreAlike (Own (views m)) (state value (news m) g j) (state_of_view (stepped w f s st) m)
     other_alike m ne =
-        let own = Own (views m) in let codes = alike-sym own (other_codes_alike value d (views m) f g k j (ready.whole m) same (λ b o. codes-of-other m b ne o)) in
+        let own = Own (views m) in
+        let codes = alike-sym own (other_codes_alike value d (views m) f g k j (ready.whole m) same (λ b o. codes-of-other m b ne o)) in
         let one = alike-sym own (alike-other w f owns m ready.apart s s st (λ e. ne (sym e)) own_all (alike-refl f (Own (views m)) (state_of_view s m))) in search rules
 
     codes-stand : (b : ℕ) → j b ≡ (stepped w f s st).codes b

@@ -1,5 +1,5 @@
 -- A call of a view over the codes of an array, which were lent to it.
-use Rattle.std.proofs.Common.{◌≡◌, sym, ap, subst, ◌∙◌, ℕ, ◌<◌, ℤ, Bool, true, List, length, get_or}
+use Rattle.std.proofs.Common.{rules, ◌≡◌, sym, ap, subst, ◌∙◌, ℕ, ◌<◌, ℤ, Bool, true, List, length, get_or}
 use Rattle.std.{specs.Borrow.{MutBor}, specs.Int.{Width}, specs.Option.{option_map}}
 use Rattle.zf_base.{specs.Widths.{width_of}, specs.Places.{block_number, place_of}}
 use Rattle.zf_base.{specs.Positions.{used_axes, with_unused, IsPosition}, specs.declared.position.Pos.{Pos}}
@@ -45,10 +45,5 @@ module _ {X : Type 0} (value : X → ℤ) (d : ℕ) (a : Held) (views : List (pr
       → IsAtView value a views i (get_or views i r) p
   at_view r is t true_is number p unused has =
       let v = get_or views i r in let lt = number true_is in let at : v ≡ get_or views i v = ap (get_or views i) is in let u = whole (shape a) in
-      let here = sym (has u) ∙ true_is in let ns = (parts.each i v lt at).shape_is in record {
-        below = lt;
-        at = at;
-        has = λ w. sym (has w) ∙ true_is;
-        position = subst (λ ks. IsPosition ks p) (sym ns) (record { inside = has_inside value a views i _ u here; unused = unused });
-        own = subst (λ ks. Own v (block_number ks (used_axes (length ks) p))) (sym ns) (owner_owns value a views i _ d v parts lt at u here);
-      }
+      let here = sym (has u) ∙ true_is in let inside = has_inside value a views i _ u here in
+      let own = owner_owns value a views i _ d v parts lt at u here in let part = parts.each i v lt at in search rules

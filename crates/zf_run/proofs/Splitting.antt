@@ -133,8 +133,6 @@ pub ends : (w : Width) (a mid b : Held) (s : Session (List Bool)) (u : Window) �
     → state b ≡ flush (format mid) (state mid) → b.header ≡ mid.header → ended (setting_of w a) s ≡ session_of b u
 unfolding ended
 ends w a mid b s u same kept joins flushes head =
-    let ended_at : Session (List Bool) → Session (List Bool) = λ t. record t { state = flush (format_of (setting_of w a) t) t.state } in
     let ty : mid.header.ty ≡ a.header.ty = ap (λ (k : Ty × Mode). k.0) kept in
     let coded : format_of (setting_of w a) (session_of mid u) ≡ format mid =
-    ap (λ (k : Ty × Mode). format_of (array_setting w (block_bits k.1)) (session_of mid u)) (sym kept) ∙ format_is w mid (same ∙ ap width_of (sym ty)) u in
-    ap ended_at joins ∙ (λ i. record { shape = (sym head i).shape; state = (ap (λ (f : Format (List Bool)). flush f (state mid)) coded ∙ sym flushes) i; window = u; split = None })
+    ap (λ (k : Ty × Mode). format_of (array_setting w (block_bits k.1)) (session_of mid u)) (sym kept) ∙ format_is w mid (same ∙ ap width_of (sym ty)) u in search rules

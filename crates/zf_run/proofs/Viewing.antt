@@ -1,8 +1,8 @@
 -- What a call of a view makes of an array that is split.
 use Rattle.std.proofs.Common.{rules, ◌≡◌, ◌≢◌, ◌↔◌, refl, sym, ap, subst, ◌∙◌, ◌⊎◌, inl, inr, ℕ, ◌+◌, ◌<◌, ◌≤◌, ℤ, Bool, true, false, not, ◌&&◌, ltb, leb, List, length, get_or, set, Option, Some, None, arith}
 use Rattle.std.{specs.Int.{Width}, specs.Option.{option_map}, proofs.Math.Path.{fun_ext}}
-use Rattle.std.{proofs.Math.Bool.{and-false}, proofs.lemmas.Grind.{get_or-set_at}}
-use Rattle.std.proofs.lemmas.Bool.{false≢true, and_from, and_parts, lt-ltb, ltb-true, le-ltb, le-leb, leb-true, cases_lt, cases_eq}
+use Rattle.std.proofs.Math.Bool.{and-false}
+use Rattle.std.proofs.lemmas.Bool.{false≢true, and_from, and_parts, lt-ltb, ltb-true, le-ltb, le-leb, leb-true, cases_eq}
 use Rattle.std.proofs.lemmas.List.{get_or-map, get_or_default, map-set, length-map, length-set, get_or-set_other, get_or-set_same, ext_get_or}
 use Rattle.zf_spec.specs.Grid.{blocks, is_inside}
 use Rattle.zf_base.{specs.Widths.{width_of}, specs.Places.{block_number}, specs.declared.position.Pos.{Pos}}
@@ -19,16 +19,13 @@ use Rattle.zf_cache.specs.Standing.{Fits, state_at}
 use Rattle.zf_private.specs.Standing as private
 use Rattle.zf_private.{specs.Standing.{Own, IsSameView, IsWhole}, proofs.Calls.{own_state}}
 use Rattle.zf_private.proofs.Alike.{stay-acted, quiet-acted, alike-acted, alike-answered}
-use Rattle.zf_private.{proofs.Others.{other_codes_alike}, proofs.Ready.{ready_after, ready_beside}}
+use Rattle.zf_private.{proofs.Others.{other_codes_alike}, proofs.Ready.{ready_after, ready_beside}, proofs.Several.{own-or-not}}
 use Rattle.zf_array.{specs.Standing.{Held, shape, state, format}, specs.Coded.{IsCoded}}
 use Rattle.zf_run.{specs.Sessions.{setting_of, kind}, proofs.Sessions.{format_is}}
 use Rattle.zf_run.specs.Splits.{owns_block, view_state, view_of, views_seen, split_session, IsPart, AreParts}
 use Rattle.zf_commands.{specs.Steps.{Does, HasWindow, starves}, proofs.Stepping.{accepted}}
 
 -- ---- which blocks a view owns
-
-own-or-not : {X : Type 0} (v : private.Held X) (b : ℕ) → Own v b ⊎ (Own v b → ⊥)
-own-or-not v b = search (rules, cases_lt)
 
 owned-true : {X : Type 0} (v : private.Held X) (b : ℕ) → Own v b → owns_block v b ≡ true
 owned-true v b o = and_from (leb v.first b) (ltb b (v.first + v.count)) (le-leb v.first b o.0) (lt-ltb b (v.first + v.count) o.1)
@@ -207,9 +204,6 @@ module _ {X : Type 0} (value : X → ℤ) (w : Width) (d : ℕ) (a b : Held) (vi
     each = λ k o below there. subst (λ m. IsPart value d b m k o) (sym (length-set views i n)) (part_at k o (subst (λ m. k < m) (length-set views i n) below) there (cases_eq k i));
   }
     where
-      same_shape : shape b ≡ shape a
-      same_shape = ap (λ (h : Header). h.shape) head
-
       part_at : (k : ℕ) (o : private.Held X) → k < length views → o ≡ get_or (set views i n) k o → (k ≡ i) ⊎ (k ≡ i → ⊥) → IsPart value d b (length views) k o
       part_at k o below there (inl e) = search (rules, ready_after, formats, get_or-set_same, part)
       part_at k o below there (inr ne) =

@@ -1,6 +1,6 @@
 use Rattle.std.{proofs.Common.{rules}, proofs.lemmas.List.{length-replicate}}
-use Rattle.zf_lines.{proofs.Sizes.{HasSize-replicate}}
-use Rattle.zf_cache.{proofs.Touches.{no_tag}}
+use Rattle.zf_lines.proofs.Sizes.{HasSize-replicate}
+use Rattle.zf_cache.proofs.Touches.{no_tag}
 use Rattle.zf_cache.proofs.body.Body.empty.Goals as goal
 
 pub returns : goal.returns

@@ -1,6 +1,6 @@
 use Rattle.std.proofs.Common.{rules, ◌<◌, refl, sym, ap, subst, ◌∙◌, ◌/◌, length}
 use Rattle.std.proofs.lemmas.List.{get_or_default, length-set, set-set}
-use Rattle.zf_cache.{specs.declared.body.Body.{Body}}
+use Rattle.zf_cache.specs.declared.body.Body.{Body}
 use Rattle.zf_cache.proofs.Sound.{none_in, hits_block, misses_block, comes_hitting, comes_missing}
 use Rattle.zf_cache.proofs.body.Body.touch.Goals as goal
 

@@ -1,7 +1,7 @@
 use Rattle.std.proofs.Common.{sym, ap, subst, ◌∙◌, ◌<◌, lit<}
-use Rattle.zf_cache.{specs.Kept.{HasRow}}
-use Rattle.zf_cached.specs.Acts.{Act}
-use Rattle.zf_private.{specs.Standing.{Held, state}, proofs.Others.{acted-add}}
+use Rattle.zf_cache.specs.Kept.{HasRow}
+use Rattle.zf_cached.{specs.Acts.{Act}, specs.Views.{acted}}
+use Rattle.zf_private.specs.Standing.{Held, state}
 use Rattle.zf_private.proofs.Calls.{backed_at, values_whole, has_blocks, place_below, exists_there, added, touched_whole, does_at}
 use Rattle.zf_private.proofs.private.Private.add.Goals as goal
 
@@ -10,6 +10,7 @@ touch_mut-requires g c =
     let e = c.place-b.ensures in (lit< tt, (backed_at c.self.view_is c.self.invariant c.requires.sits e.block e.place e.at).0)
 
 pub returns : goal.returns
+unfolding acted
 returns g c =
     let o = c.self.inside in
     let v : Held g.row.T.Denot = record { cache = o.cache; shape = o.shape; first = o.first; count = o.count } in
@@ -23,8 +24,7 @@ returns g c =
     let exists = exists_there value d v now is whole f k p b place e.block e.place e.at sits.places sits.owned in
     let told = added value w f h k j s c.touch_mut.new.self b place c.dirty_value_mut-value.result.now c.add.result c.args.v t.format t.state t.fits c.touch_mut.ensures.dirty size within exists
     c.dirty_value_mut-value.ensures.value c.add.ensures.value (touched_whole f s b (values_whole value v.cache f k b)) in
-    let step = told.1 ∙ acted-add w f s b place (value c.args.v) in
-    record { does = does_at is whole sits e.block e.place (λ m n. Act.add m n (value c.args.v)) step told.0 t.format t.kept sits.owned }
+    record { does = does_at is whole sits e.block e.place (λ m n. Act.add m n (value c.args.v)) told.1 told.0 t.format t.kept sits.owned }
 
 pub invariant_of-self : goal.invariant_of-self
 invariant_of-self g c = (returns g c).does.whole
