@@ -13,8 +13,7 @@ use Rattle.zf_coef.{specs.HeldDigits.{digits_in}, specs.Turned.{bit_of}}
 use Rattle.zf_coef.proofs.ShiftedBits.{bit_at-mod, bit_at-shl_high}
 
 has_one-last : (ds : List Bool) (d : Bool) → has_one (ds ++ d ∷ []) ≡ (has_one ds || d)
-has_one-last [] true = refl
-has_one-last [] false = refl
+has_one-last [] d = grind arith
 has_one-last (true ∷ ds) d = refl
 has_one-last (false ∷ ds) d = has_one-last ds d
 

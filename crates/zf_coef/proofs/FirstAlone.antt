@@ -1,5 +1,6 @@
 -- Planes in which no coefficient but the first has a one: their bits as a number, and the coefficients that they stand for.
-use Rattle.std.proofs.Common.{◌≡◌, refl, sym, ap, ◌∙◌, ℕ, zero, suc, ◌+◌, ◌-◌, ◌*◌, ◌/◌, ◌%◌, ◌^◌, ◌<◌, ◌≤◌, ⊎_elim, false, ℤ, pos, List, ◌∷◌, map, length, get_or, set, replicate, get_or-set_same, get_or-set_other, arith, ◌≢◌}
+use lib.LanesLaws.{map-replicate}
+use Rattle.std.proofs.Common.{◌≡◌, refl, sym, ap, ◌∙◌, ℕ, zero, suc, ◌+◌, ◌-◌, ◌*◌, ◌/◌, ◌%◌, ◌^◌, ◌<◌, ◌≤◌, ⊎_elim, false, ℤ, pos, List, ◌∷◌, map, length, get_or, set, replicate, get_or-set_same, get_or-set_other, arith, ◌≢◌, rules}
 use Rattle.std.{specs.Int.{Width, bit_at}, proofs.lemmas.Bool.{cases_lt, cases_eq}}
 use Rattle.std.{proofs.lemmas.List.{length-replicate}, proofs.lemmas.Nat.Bits.{bit_at-zero, bit_at_above}}
 use mir.Val.{bits}
@@ -15,16 +16,15 @@ use Rattle.zf_coef.proofs.Transposed.{HoldsGroups}
 
 -- rank 0 is at place 0
 pub first_place : (d : ℕ) → IsDimension d → get_or (order d) 0 0 ≡ 0
-first_place zero dims = absurd (omega (arith, dims.0))
 first_place (suc zero) dims = refl
 first_place (suc (suc zero)) dims = refl
 first_place (suc (suc (suc zero))) dims = refl
 first_place (suc (suc (suc (suc zero)))) dims = refl
-first_place (suc (suc (suc (suc (suc d))))) dims = absurd (omega (arith, dims.1))
+first_place d dims = absurd (omega arith)
 
--- behind the first place of a block all values are zero
-behind_first : (v : ℤ) (n k : ℕ) → 0 < k → get_or (v ∷ replicate n (pos 0)) k (pos 0) ≡ pos 0
-behind_first v n k later = grind (arith, alike_at)
+-- behind the first place of such a list all values are alike
+behind_first : {X : Type 0} (v z : X) (n k : ℕ) → 0 < k → get_or (v ∷ replicate n z) k z ≡ z
+behind_first v z n k later = grind (arith, alike_at)
 
 by_place_first : (d : ℕ) (v : ℤ) → IsDimension d → 0 < 4 ^ d → by_place d (v ∷ replicate (4 ^ d - 1) (pos 0)) ≡ v ∷ replicate (4 ^ d - 1) (pos 0)
 by_place_first d v dims some =
@@ -36,8 +36,8 @@ by_place_first d v dims some =
     (λ later.
     let apart : get_or (order d) k 0 ≢ 0 =
     λ same. later (cc (rank_of-order d k below, rank_of-order d 0 some)) in
-    behind_first v (4 ^ d - 1) (get_or (order d) k 0) (omega arith)
-    ∙ sym (behind_first v (4 ^ d - 1) k (omega arith)))
+    behind_first v (pos 0) (4 ^ d - 1) (get_or (order d) k 0) (omega arith)
+    ∙ sym (behind_first v (pos 0) (4 ^ d - 1) k (omega arith)))
     (cases_eq k 0)))
 
 sum_of_none : (n : ℕ) → digits_sum (replicate n false) ≡ pos 0
@@ -48,8 +48,7 @@ pub value_of_none : (w : Width) (m : ℕ) → value_of w (field m 0) ≡ pos 0
 value_of_none w m = ap (value_of w) (field-zero m) ∙ ap (wrap w) (sum_of_none m) ∙ wrap_value w (pos 0) (zero_fits w)
 
 values_of_zeros : (w : Width) (m n : ℕ) → map (value_of w) (digits_in m (replicate n 0)) ≡ replicate n (pos 0)
-values_of_zeros w m zero = refl
-values_of_zeros w m (suc n) = let first = value_of_none w m in cc (values_of_zeros w m n)
+values_of_zeros w m n = search (rules, map-replicate, value_of_none)
 
 -- the coefficients whose digits these are
 pub unranked_first : (w : Width) (d u : ℕ) → IsDimension d → 0 < 4 ^ d
@@ -80,15 +79,11 @@ pub groups_of_first : (number first size : ℕ) (planes : List (List ℕ)) → 0
     → HoldsGroups number (first ∷ replicate (size - 1) 0) planes
 groups_of_first number first size planes some few holds = record { each = bit }
   where
-    behind : (i : ℕ) → 0 < i → get_or (first ∷ replicate (size - 1) 0) i 0 ≡ 0
-    behind zero later = absurd (omega arith)
-    behind (suc i) later = no_word (size - 1) i
-
     bit : (p k r : ℕ) → p < number → k < length planes → r < 64 → bit_at (word_of planes p k) r ≡ bit_of (first ∷ replicate (size - 1) 0) (64 * p + r) k
     bit zero k zero inside below small = omega (arith, holds.word k below)
     bit zero k (suc r) inside below small =
-        rw (behind (64 * 0 + suc r) (omega arith), bit_at-zero k)
+        rw (behind_first first 0 (size - 1) (64 * 0 + suc r) (omega arith), bit_at-zero k)
         (bit_at_above (word_of planes 0 k) 1 (suc r) (omega (arith, holds.word k below)) (omega arith))
     bit (suc p) k r inside below small =
         let none = holds.others (suc p) k (omega arith) below in
-        rw (behind (64 * suc p + r) (omega arith), none, bit_at-zero r, bit_at-zero k) refl
+        rw (behind_first first 0 (size - 1) (64 * suc p + r) (omega arith), none, bit_at-zero r, bit_at-zero k) refl

@@ -148,7 +148,6 @@ digits_of_folds number planes low high digits long is_low is_high lower upper r 
     let second : 32 ≤ k → 32 + (k - 32) ≡ k = λ h. omega arith in
     let behind : 8 ≤ r → 8 + (r - 8) ≡ r = λ h. omega arith in
     let a = is_low r k in
-    let b = is_high r (k - 32) in
     let c = lower (r % 8) (k % 32) in
     let d = upper (r % 8) (k % 32) in
     grind (arith, cases_lt)

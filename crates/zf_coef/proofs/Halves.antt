@@ -1,5 +1,5 @@
 -- Halves of digits that become planes, 32 at a time, and planes that become halves of digits.
-use Rattle.std.proofs.Common.{rules, ◌≡◌, sym, ap, ◌∙◌, ℕ, ◌+◌, ◌-◌, ◌*◌, ◌/◌, ◌%◌, ◌<◌, ◌≤◌, ⊎_elim, List, [], length, get_or, replicate, arith}
+use Rattle.std.proofs.Common.{rules, ◌≡◌, ap, ◌∙◌, ℕ, ◌+◌, ◌-◌, ◌*◌, ◌/◌, ◌%◌, ◌<◌, ◌≤◌, ⊎_elim, List, [], length, get_or, replicate, arith}
 use Rattle.std.{specs.Int.{bit_at}, proofs.lemmas.Bool.{cases_lt}, proofs.lemmas.Nat.Bits.{bit_at-zero}}
 use Rattle.std.proofs.lemmas.List.{get_or-replicate, get_or_past, length-replicate}
 use Rattle.zf_coef.{specs.Turned.{bit_of, IsTurned}, proofs.Putting.{both_kept}}
@@ -14,7 +14,6 @@ pub planes_of_half : (number from : ℕ) (digits half turned : List ℕ) (old ne
 unfolding IsTurned HoldsHalf
 planes_of_half number from digits half turned old new long cut turn put k r lower upper within small =
     let j = k - from in
-    let less : j < 32 = omega arith in
     let at : from + j ≡ k = omega arith in
     let row : (r - r % 32 + j) / 32 * 32 + r % 32 ≡ r = omega arith in
     let place : from + (r - r % 32 + j) % 32 ≡ k = omega arith in search rules
@@ -35,12 +34,11 @@ planes_of_none : (number from : ℕ) (digits : List ℕ) (planes : List (List �
     → ((r k : ℕ) → from ≤ k → k < 64 → bit_of digits r k ≡ 0) → length planes ≤ 64
     → ((k : ℕ) → from ≤ k → k < length planes → word_of planes number k ≡ 0) → HoldsHalf number from digits planes
 unfolding HoldsHalf
-planes_of_none number from digits planes none few zeros k r lower upper within small =
-    ap (λ w. bit_at w r) (zeros k lower within) ∙ bit_at-zero r ∙ sym (none r k lower (omega arith))
+planes_of_none number from digits planes none few zeros k r lower upper within small = search (rules, bit_at-zero)
 
 pub half_of_none : (number from : ℕ) (digits : List ℕ) (old new : List (List ℕ))
     → ((r k : ℕ) → from ≤ k → k < 64 → bit_of digits r k ≡ 0) → length new ≤ 64 → PutsNone number from old new → PutsHalf number from digits old new
-half_of_none number from digits old new none few put = record { bits = planes_of_none number from digits new none few put.zeros; below = put.below; others = put.others }
+half_of_none number from digits old new none few put = search (rules, planes_of_none)
 
 -- one half is enough for few planes
 pub planes_of_first : (number : ℕ) (digits : List ℕ) (planes : List (List ℕ)) → length planes ≤ 32 → HoldsHalf number 0 digits planes → HoldsGroup number digits planes
@@ -62,8 +60,7 @@ word_of-past planes number k past = ap (λ ws. get_or ws number 0) (get_or_past 
 pub half_of_planes : (number from : ℕ) (planes : List (List ℕ)) (words turned : List ℕ)
     → ((j : ℕ) → j < 32 → get_or words j 0 ≡ word_of planes number (from + j)) → IsTurned 32 words turned → AreHalf number from planes turned
 unfolding IsTurned
-half_of_planes number from planes words turned same turn j r less small =
-    turn j r less small ∙ ap (λ w. bit_at w (r - r % 32 + j)) (same (r % 32) (omega arith))
+half_of_planes number from planes words turned same turn j r less small = search rules
 
 -- of zeros each word is zero
 pub no_word : (n j : ℕ) → let none : ℕ = 0 in get_or (replicate n none) j none ≡ none
@@ -83,8 +80,6 @@ digits_of_halves number planes low high digits long is_low is_high lower upper r
     let parts = lower (r % 32) (k % 32) (omega arith) (omega arith) in
     let others = upper (r % 32) (k % 32) (omega arith) (omega arith) in
     let j : r / 32 * 32 + k % 32 < 64 = omega arith in
-    let of_low = is_low (r % 32) (r / 32 * 32 + k % 32) (omega arith) j in
-    let of_high = is_high (r % 32) (r / 32 * 32 + k % 32) (omega arith) j in
     grind (arith, cases_lt)
 
 -- a window of 32 planes has all the ones
@@ -130,5 +125,4 @@ group_of_prefix number planes whole digits short same group r k h small = ap (λ
 pub group_of_none : (number : ℕ) (digits : List ℕ) (planes : List (List ℕ)) → length digits ≡ 0
     → ((k : ℕ) → k < length planes → word_of planes number k ≡ 0) → HoldsGroup number digits planes
 unfolding HoldsGroup
-group_of_none number digits planes none zeros k r within small =
-    ap (λ w. bit_at w r) (zeros k within) ∙ bit_at-zero r ∙ sym (bit_at-zero k) ∙ ap (λ w. bit_at w k) (sym (get_or_past digits r 0 (omega arith)))
+group_of_none number digits planes none zeros k r within small = search (rules, bit_at-zero, get_or_past)

@@ -36,8 +36,7 @@ pair_sum : (k x r : ℕ) → r < 4 → digits_sum (field (suc (suc k)) (x * 4 + 
 pair_sum k x zero h = pair_digits k x 2 (omega arith) ∙ omega (arith, ints)
 pair_sum k x (suc zero) h = pair_digits k x 3 (omega arith) ∙ omega (arith, ints)
 pair_sum k x (suc (suc zero)) h = pair_digits k x 0 (omega arith) ∙ omega (arith, ints)
-pair_sum k x (suc (suc (suc zero))) h = pair_digits k x 1 (omega arith) ∙ omega (arith, ints)
-pair_sum k x (suc (suc (suc (suc r)))) h = absurd (omega arith)
+pair_sum k x r h = let three : r ≡ 3 = omega arith in rw three (pair_digits k x 1 (omega arith) ∙ omega (arith, ints))
 
 -- ---- all pairs
 
@@ -109,7 +108,6 @@ field-masked w sized v fits =
     let p = paired w sized in
     let u = cast_unsigned w v in
     let y = (u + mask 32) % 2 ^ 64 in
-    let bs = field (bits w) (bit_xor y (mask 32)) in
     let wide = same_modulo_width w p (pos y) (pos (u + mask 32)) (same_modulo_mod 64 (u + mask 32)) in
     let back = same_modulo_add (bits w) (pos y) (pos (u + mask 32)) (neg_ℤ (pos (mask 32))) (neg_ℤ (pos (mask 32))) wide (same_modulo_refl (bits w) (neg_ℤ (pos (mask 32)))) in
     let e : pos (u + mask 32) +ℤ neg_ℤ (pos (mask 32)) ≡ pos u = omega (arith, ints) in

@@ -1,5 +1,5 @@
 -- Bits of words that are shifted, cut and put together.
-use Rattle.std.proofs.Common.{rules, ◌≡◌, ap, subst, ◌∙◌, ℕ, ◌+◌, ◌-◌, ◌*◌, ◌/◌, ◌%◌, ◌^◌, ◌<◌, ◌≤◌, mod-lt, arith}
+use Rattle.std.proofs.Common.{rules, ◌≡◌, ap, ◌∙◌, ℕ, ◌+◌, ◌-◌, ◌*◌, ◌/◌, ◌%◌, ◌^◌, ◌<◌, ◌≤◌, mod-lt, arith}
 use Rattle.std.{specs.Int.{bit_at}, specs.Int.RustNames.{bit_or}, proofs.Math.Pow.{mod-mod-pow}}
 use Rattle.std.proofs.lemmas.Nat.{shr-shr, field_of, pow_pos, and_mask}
 use Rattle.std.proofs.lemmas.Nat.Bits.{bit_at_or, bit_at_cat_low, bit_at_cat_high, bit_at-zero, bit_at_above}
@@ -12,9 +12,9 @@ bit_at-shr a s i = ap (λ n. n % 2) (shr-shr a s i)
 pub bit_at-mod_pow : (a w i : ℕ) → i < w → bit_at (a % 2 ^ w) i ≡ bit_at a i
 bit_at-mod_pow a w i h =
     let whole : (w - i) + i ≡ w = omega arith in
-    let cut : a % 2 ^ w / 2 ^ i ≡ a / 2 ^ i % 2 ^ (w - i) = subst (λ n. a % 2 ^ n / 2 ^ i ≡ a / 2 ^ i % 2 ^ (w - i)) whole (field_of a (w - i) i) in
+    let cut = rw whole at (field_of a (w - i) i) in
     let last : (w - i - 1) + 1 ≡ w - i = omega arith in
-    ap (λ n. n % 2) cut ∙ subst (λ n. a / 2 ^ i % 2 ^ n % 2 ≡ a / 2 ^ i % 2) last (mod-mod-pow (a / 2 ^ i) (w - i - 1) 1)
+    ap (λ n. n % 2) cut ∙ (rw last at (mod-mod-pow (a / 2 ^ i) (w - i - 1) 1))
 
 pub bit_at-mod_above : (a w i : ℕ) → w ≤ i → bit_at (a % 2 ^ w) i ≡ 0
 bit_at-mod_above a w i h = bit_at_above (a % 2 ^ w) w i (mod-lt a (pow_pos w)) h

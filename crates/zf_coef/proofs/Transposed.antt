@@ -76,7 +76,6 @@ groups_more number n digits rest old new size long behind before group others = 
 pub plane_of_groups : (number k : ℕ) (digits : List ℕ) (planes : List (List ℕ)) → length digits ≤ 64 * number → k < length planes
     → length (get_or planes k []) ≡ number → HoldsGroups number digits planes → HoldsPlane k digits (get_or planes k [])
 plane_of_groups number k digits planes room within long groups =
-    let words = get_or planes k [] in
     record {
       room = omega arith;
       each = search (rules, get_or-word_bits);

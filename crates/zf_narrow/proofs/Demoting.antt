@@ -54,7 +54,9 @@ pub written_is : (n : Narrow) (count values k : ℕ) (raw part past given taken 
 written_is n count values k raw part past given taken owed few room is before whole here =
     let within : values * size_of n ≤ length part = omega (arith, part_long n count raw part room is, mul-le-mul_right (size_of n) few) in
     let prefix = prefix_demoted n count values raw part few room is in
-    cc (append_assoc given (take k (part ++ past)) owed, take-append-le (values * size_of n) part past within, prefix, demoted_bytes-append n taken (take (values * 4) raw) whole)
+    let cut = take-append-le (values * size_of n) part past within in
+    let more = demoted_bytes-append n taken (take (values * 4) raw) whole in
+    cc (append_assoc given (take k (part ++ past)) owed, cut, prefix, more)
 
 -- no more were written than there were
 pub within_prefix : (n : Narrow) (count k len : ℕ) (bytes : List ℕ) → len ≡ size_of n → k ≤ length (take (count * len) bytes) → k ≤ count * size_of n

@@ -1,7 +1,7 @@
 -- The code of runs: digits before others are doubled, and zeros behind the last one but the first make no difference.
 use Rattle.std.proofs.Common.{rules, ◌≡◌, ◌≢◌, ℕ, zero, suc, ◌+◌, ◌-◌, ◌*◌, ◌/◌, ◌%◌, ◌^◌, ◌<◌, ◌≤◌, ⊎_elim, Bool, true, false, cond, ◌&&◌, ◌||◌, ltb, eqb, List, [], ◌∷◌, ◌++◌, get_or, replicate, refl, sym, ap, ◌∙◌, arith, pow-suc, lit<, take, drop, append-nil}
 use Rattle.std.{proofs.Math.Nat.{pow-le-pow_right, div-eq_of_lt}, specs.Int.{leading_zeros, w64}}
-use Rattle.std.{proofs.lemmas.Nat.{pow-add, shr_below}, proofs.lemmas.Bool.Decides.{nat_tests}}
+use Rattle.std.{proofs.lemmas.Nat.{pow-add, shr_below}}
 use Rattle.std.proofs.lemmas.Bool.{cases_lt, false≢true, and_parts, ltb-true, lt-ltb, eqb-false}
 use Rattle.zf_spec.{specs.Numbers.{field}, specs.Planes.{has_one, code_from_run, plane_code}}
 use Rattle.zf_spec.{proofs.Fields.{field-add, field-mod, field-zero}, proofs.PlaneCode.{tail-zeros}}
@@ -130,7 +130,7 @@ run_of_entry_to_9 most digits e some nine one eight within is =
     cc (
     each_below-true (λ j. test_run (j / 256 + 1) (j % 256) (get_or DOUBLED (j % 256) 0)) 2304 i test_runs
     (omega arith)) in
-    let there : eqb digits 0 ≡ false = grind (arith, nat_tests) in search (rules, lt-ltb, and_parts, same_digits, same_digits-true, ltb-true)
+    search (rules, lt-ltb, and_parts, same_digits, same_digits-true, ltb-true)
 
 -- more digits make no difference, where they are zeros
 pub eight_of : (most digits : ℕ) → 9 ≤ most → digits < 256 → field most digits ≡ field 8 digits ++ replicate (suc (most - 9)) false

@@ -99,8 +99,6 @@ last_tested n left bits v l c a test =
 -- the entry of so many bits
 end_at : (n left bits p i e : ℕ) → p ≡ 2 ^ left → test_ends left ≡ true → n < 3 → bits < p → i ≡ n * p + bits → i / p ≡ n → i % p ≡ bits → i < 3 * p → e ≡ end_entry n p bits → test_end n left bits e ≡ true
 end_at n left bits p i e power tests in_plane small place prefix low below is =
-    let high : i / 2 ^ left ≡ n = ap (λ q. i / q) (sym power) ∙ prefix in
-    let back : i % 2 ^ left ≡ bits = ap (λ q. i % q) (sym power) ∙ low in
     let here = each_below-true (λ j. test_end (j / 2 ^ left) left (j % 2 ^ left) (end_entry (j / 2 ^ left) (2 ^ left) (j % 2 ^ left))) (3 * 2 ^ left) i tests (omega arith) in search rules
 
 pub last_of_entry : (n left bits e : ℕ) → n < 3 → 0 < left → left < 8 → bits < 2 ^ left → e ≡ end_entry n (2 ^ left) bits

@@ -8,14 +8,13 @@ use Rattle.zf_spec.specs.Planes.{code_from, reach, reach_of_all, AreOfSize}
 use Rattle.zf_spec.{specs.ReadPlanes.{planes_in_from}, proofs.Reach.{reach-le, reach_within}}
 use Rattle.zf_spec.proofs.Fields.{length-field, number-field, number-lt, number-zeros, number-append, field-add, field-zero}
 use Rattle.zf_bits.{proofs.Fields.{field-mod, take-field}, specs.Reader.{Reader, rest}}
-use Rattle.zf_planes.specs.Decoding.{IsWindow, Takes, plane_ahead, plane_bits, planes_ahead, planes_bits}
-use Rattle.zf_planes.{specs.Fours.{string_planes}, proofs.Doubled.{plane_whole}}
-use Rattle.zf_planes.specs.Lanes.{low_planes, lanes_in, AreBelow, IsGathered, gathered, ReadsPlanes, ReadsSome}
 use Rattle.zf_planes.proofs.Lanes.{length-low_planes, low_planes-sizes, length-lanes_in, one_behind, no_lanes_below}
-use Rattle.zf_planes.{proofs.Strings.{code_from-append}, proofs.Passing.{Passes, Passes-part, Takes-rest}}
-use Rattle.zf_planes.proofs.Peeking.{window_prefix, window_behind, window_long}
-use Rattle.zf_planes.proofs.PlaneAhead.{whole_plane}
+use Rattle.zf_planes.specs.Lanes.{low_planes, lanes_in, AreBelow, IsGathered, gathered, ReadsPlanes, ReadsSome}
+use Rattle.zf_planes.specs.Decoding.{IsWindow, Takes, plane_ahead, plane_bits, planes_ahead, planes_bits}
 use Rattle.zf_planes.proofs.PlanesAhead.{whole_planes, next_plane, planes_ahead-none, planes_bits-none}
+use Rattle.zf_planes.{proofs.Peeking.{window_prefix, window_behind, window_long}, specs.Fours.{string_planes}}
+use Rattle.zf_planes.{proofs.Passing.{Passes, Passes-part, Takes-rest}, proofs.Strings.{code_from-append}}
+use Rattle.zf_planes.{proofs.PlaneAhead.{whole_plane}, proofs.Doubled.{plane_whole}}
 
 -- ---- planes, and then those below them
 
@@ -52,9 +51,6 @@ planes_then (suc m) q r size n count s (ds ∷ planes) some within sizes is bits
     let spent : r - k - low ≡ r - count = omega arith in
     let place : drop low (drop k s) ≡ drop count s = drop-drop low k s ∙ ap (λ j. drop j s) (sym sum) in
     let reached : max above (reach_of_all planes) ≡ max n (max (reach ds) (reach_of_all planes)) = omega arith in
-    let next : suc m + q ≡ suc (m + q) = omega arith in
-    let rest_bits = rw (spent, place, reached) at rest.bits in
-    let rest_digits = rw (spent, place, reached) at rest.digits in
     grind arith
 
 -- ---- in lanes
@@ -282,7 +278,6 @@ more_lone bits c v e is group room before =
     let prefix = low_planes c (lanes_in 4 v) in
     let plane = lone_plane e small in
     let odd : is_odd e ≡ is_odd x = ap is_odd is ∙ is_odd-low x in
-    let none : is_odd (x / 2) ≡ false = (let even : x / 2 % 2 ≡ 0 = omega arith in ap (λ n. eqb n 1) even) in
     let parts : 1 + 2 * (c + 1) ≡ 1 + 2 * c + 2 = omega arith in
     let here = one_lone (is_odd x) in
     record {
@@ -341,7 +336,6 @@ pub FoursRead-more : {start now new : Reader} {budget left after prec n : ℕ} {
 FoursRead-more {start} {now} {new} {budget} {left} {after} {prec} {n} {words} {done} {lanes} {held} c v len above words' done' lanes' held' before some put planes sum within few =
     let fewer : prec - (done + held) - c ≡ prec - (done' + held') = omega arith in
     let bits = rw fewer at some.bits in
-    let digits = rw fewer at some.digits in
     record {
       passes = Passes-part (planes_bits after (prec - (done' + held')) 4 above (rest new)) before.passes bits some.taken;
       put = put;

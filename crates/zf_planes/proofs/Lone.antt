@@ -53,7 +53,7 @@ pub lone_bits : (m k : ℕ) (f : ℕ → Bool) → m ≤ k → field (1 + 2 * m)
 lone_bits m k f within =
     let v = 1 + 2 * spread 4 k f in
     let half : v / 2 ≡ spread 4 k f = omega arith in
-    let odd : is_odd v ≡ true = is_odd-digit_value true (spread 4 k f) in search (rules, field-add, lone_field)
+    search (rules, field-add, lone_field)
 
 -- ---- digits two apart, by the table of those four apart
 

@@ -75,9 +75,6 @@ narrow_two words n prec size i v w l bits a planes first second three some low l
     let w_is : (v + 16 * w) / 16 % 16 ≡ w = omega arith in
     let next : i + 1 + 1 ≡ i + 2 = omega arith in
     let reached : m ≤ 3 = omega (arith, reach_below 3 4 v (omega arith) (div-eq_of_lt low)) in
-    let above : a ≡ max m (reach (field 4 w)) = two.above ∙ ap (λ u. max (max n (reach (field 4 u))) (reach (field 4 ((v + 16 * w) / 16 % 16)))) v_is ∙ ap (λ u. max m (reach (field 4 u))) w_is in
-    let bits_are : field l bits ≡ plane_code n (field 4 v) ++ plane_code m (field 4 w) =
-    two.bits ∙ ap (λ u. plane_code n (field 4 u) ++ plane_code (max n (reach (field 4 u))) (field 4 ((v + 16 * w) / 16 % 16))) v_is ∙ ap (λ u. plane_code n (field 4 v) ++ plane_code m (field 4 u)) w_is in
     cc (
       narrow_next words n prec size i v planes first (omega arith) some low is (omega arith) within same,
       narrow_next words m prec size (i + 1) w planes second reached some low' is' below within same',

@@ -127,7 +127,5 @@ whole_planes (ds ∷ planes) r (suc p) size n len s some within sizes code there
     let bits : plane_bits r size n s ≡ k = subst (λ m. plane_bits r m n s ≡ k) size_is one.0 in
     let next = rw (is, bits) at (next_plane r p size n s some within (ap length is ∙ size_is)) in
     let rest = whole_planes planes (r - k) p size above (len - k) (drop k s) some (reach_within size n ds within size_is) (All-tail (λ es. length es ≡ size) ds planes sizes) behind (omega (arith, length-drop k s)) (omega arith) (omega arith) in
-    let spent : r - k - (len - k) ≡ r - len = omega arith in
     let place : drop (len - k) (drop k s) ≡ drop len s = drop-drop (len - k) k s ∙ ap (λ m. drop m s) (sym parts) in
-    let reached : max above (reach_of_all planes) ≡ max n (max (reach ds) (reach_of_all planes)) = omega arith in
     search rules

@@ -5,7 +5,7 @@ use Rattle.zf_spec.{specs.Numbers.{field}, proofs.Fields.{length-field, field-ad
 use Rattle.zf_spec.specs.Planes.{plane_code, code_from, reach, reach_of_all, AreOfSize}
 use Rattle.zf_spec.proofs.Reach.{reach-le}
 use Rattle.zf_bits.specs.Writer.{Writer}
-use Rattle.zf_planes.{specs.Fours.{string_planes, IsAsGood}, proofs.Doubled.{plane_whole}}
+use Rattle.zf_planes.{specs.Fours.{string_planes, IsAsGood}}
 use Rattle.zf_planes.{specs.Writes.{Remains}, proofs.LastRank.{code_of_three}}
 
 -- ---- the code of planes goes on behind bits that were put together
@@ -84,7 +84,6 @@ whole_string zero string = refl
 whole_string (suc k) string =
     let digits = field 4 string in
     let far : max 4 (reach digits) ≡ 4 = omega (arith, reach-le digits, length-field 4 string) in
-    let whole : plane_code 4 digits ≡ digits = plane_whole 4 string in
     let count : 4 * suc k ≡ 4 + 4 * k = omega arith in
     cc (whole_string k (string / 16), field-add 4 (4 * k) string)
 

@@ -108,4 +108,4 @@ pair_of_entry n first second e in_plane four other is =
     let one = and_parts (same_digits (field (e / 16384 % 16) (e % 16384)) (plane_code n (field 4 first) ++ plane_code (max n (reach (field 4 first))) (field 4 second))) _ test in
     let two = and_parts (ltb (e % 16384) (2 ^ (e / 16384 % 16))) _ one.1 in
     let three = and_parts (ltb (e / 16384 % 16) 15) _ two.1 in
-    let four = and_parts (eqb (e / 262144) (max (max n (reach (field 4 first))) (reach (field 4 second)))) _ three.1 in search (rules, same_digits-true, ltb-true, eqb-true)
+    search (rules, same_digits-true, ltb-true, eqb-true)

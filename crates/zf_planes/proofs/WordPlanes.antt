@@ -2,7 +2,7 @@
 use Rattle.std.proofs.Common.{rules, ◌≡◌, ℕ, suc, ◌+◌, ◌-◌, ◌*◌, ◌/◌, ◌%◌, ◌^◌, ◌<◌, ◌≤◌, ⊎_elim, min, Bool, true, false, ◌&&◌, ◌||◌, ltb, eqb, List, [], ◌∷◌, ◌++◌, length, drop, get_or, replicate, refl, sym, ap, ◌∙◌, arith, lit<, take_at, drop_at, pow_pos}
 use Rattle.std.{specs.Int.Bits.{bit_or}, proofs.Math.Nat.{pow-le-pow_right, div-eq_of_lt}}
 use Rattle.std.proofs.lemmas.Bool.{cases_lt, and_parts, ltb-true, eqb-true}
-use Rattle.zf_spec.{specs.Numbers.{field, is_odd}, specs.Planes.{has_one, reach, tail, plane_code}}
+use Rattle.zf_spec.{specs.Numbers.{field}, specs.Planes.{has_one, reach, tail, plane_code}}
 use Rattle.zf_spec.{proofs.Fields.{length-field, field-add, field-mod, field-zero}, proofs.Full.{tail-some}}
 use Rattle.zf_spec.proofs.Reach.{reach_some, reach-le}
 use Rattle.zf_bits.proofs.Fields as wide
@@ -47,7 +47,7 @@ entry_to_9 most bits e some nine eight is =
     let whole : test_tail most bits e && test_some e ≡ true =
     cc (
     each_below-true (λ j. test_tail (j / 256 + 1) (j % 256) (get_or TAILS j 0) && test_some (get_or TAILS j 0)) 2304 i test_tails (omega arith)) in
-    let parts = and_parts (test_tail most bits e) (test_some e) whole in search (rules, ltb-true, same_digits, and_parts, same_digits-true, eqb-true)
+    search (rules, ltb-true, same_digits, and_parts, same_digits-true, eqb-true)
 
 -- more digits make no difference, where they are zeros
 tail_of_nine : (most digits : ℕ) → 9 ≤ most → 0 < digits → digits < 256 → tail (field most digits) ≡ tail (field 9 digits)
@@ -121,8 +121,6 @@ read_without n size bits within even =
     let small : v < 2 ^ n = omega (arith, pow_pos n) in
     let none : v / 2 ^ n ≡ 0 = div-eq_of_lt small in
     let parts : n + (size - n) ≡ size = omega arith in
-    let order : n ≤ size = omega arith in
-    let last : is_odd (v / 2 ^ n) ≡ is_odd (bits / 2 ^ n) = ap is_odd none ∙ sym (ap (λ b. eqb b 1) even) in
     let digits : field size v ≡ field n v ++ replicate (size - n) false =
     ap (λ k. field k v) (sym parts) ∙ field-add n (size - n) v ∙ ap (λ u. field n v ++ field (size - n) u) none ∙ ap (λ (bs : List Bool). field n v ++ bs) (field-zero (size - n)) in
     search (rules, plane_without, field_more, field-mod, pow-le-pow_right, reach_behind, reach-le, length-field)

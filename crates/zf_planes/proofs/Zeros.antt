@@ -23,8 +23,7 @@ zero_code (suc k) size ps some =
     let zeros = replicate size false in
     let one : tail zeros ≡ false ∷ [] = tail_none zeros (omega (arith, length-replicate size false)) (has_one-zeros size) in
     let low : max 0 (reach zeros) ≡ 0 = omega (arith, reach_none zeros (has_one-zeros size)) in
-    let rest = replicate k zeros ++ ps in
-    ap (λ (bs : List Bool). bs ++ code_from (max 0 (reach zeros)) rest) one ∙ ap (λ n. false ∷ code_from n rest) low ∙ ap (λ (bs : List Bool). false ∷ bs) (zero_code k size ps some)
+    cc (zero_code k size ps some)
 
 -- ---- a group bit of one, so many zeros and a one, as a number
 

@@ -11,4 +11,6 @@ returns-then-from-left-clause-zeros c = λ low.
     let v = c.peek.result in
     let long = length-replicate k false in
     let seen = peeked s v k c.peek.ensures c.requires.in_word (omega (arith, c.from.ensures, c.left.ensures.count, c.if-from-left.true)) in
-    cc (zeros_ahead s v k k seen (omega arith) (leb-true k _ low) (omega arith), take-append-le k (replicate k false) (drop k s) (omega arith), take_all k (replicate k false) (omega arith))
+    let zeros = zeros_ahead s v k k seen (omega arith) (leb-true k _ low) (omega arith) in
+    let cut = take-append-le k (replicate k false) (drop k s) (omega arith) in
+    cc (zeros, cut, take_all k (replicate k false) (omega arith))

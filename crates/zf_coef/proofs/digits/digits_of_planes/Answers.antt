@@ -9,7 +9,6 @@ loop-number-preserved g c = search (rules, group_written)
 pub returns-clause-digits : goal.returns-clause-digits
 returns-clause-digits g c =
     let each = each_long g.P.Plane.words g.P.Plane.word_count g.met.P.Plane.long c.args.planes.now in
-    let room = c.div_ceil-number-end.ensures in
     search (rules, digits_of_groups, length-map)
 
 pub returns-clause-below : goal.returns-clause-below

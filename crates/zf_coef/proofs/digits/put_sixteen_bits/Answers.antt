@@ -1,9 +1,8 @@
-use Rattle.std.{proofs.Common.{get_or, length-set, arith, rules}, proofs.lemmas.Nat.{and_mask}}
+use Rattle.std.{proofs.Common.{get_or, length-set, rules}, proofs.lemmas.Nat.{and_mask}}
 use Rattle.zf_coef.proofs.Prefixes.{prefix_set, rest_set}
 use Rattle.zf_coef.proofs.digits.put_sixteen_bits.Goals as goal
 
 pub loop-j-preserved : goal.loop-j-preserved
 loop-j-preserved c =
     let cut = and_mask (get_or c.args.tile.now c.loop-j.j 0) 16 in
-    let here = c.loop-j.invariant.others c.loop-j.j (omega arith) in
     search (rules, length-set, prefix_set, rest_set)

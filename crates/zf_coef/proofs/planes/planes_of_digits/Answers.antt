@@ -13,12 +13,10 @@ loop-number-preserved g c = record {
 pub returns-clause-digits : goal.returns-clause-digits
 returns-clause-digits g c =
     let each = each_long g.P.Plane.words g.P.Plane.word_count g.met.P.Plane.long c.loop-number.planes in
-    let all = c.word_count-number-end.ensures in
     let same = length-map c.loop-number.planes g.P.Plane.words in
     search (rules, planes_of_groups)
 
 pub returns-clause-clear : goal.returns-clause-clear
 returns-clause-clear g c =
     let each = each_long g.P.Plane.words g.P.Plane.word_count g.met.P.Plane.long c.loop-number.planes in
-    let all = c.word_count-number-end.ensures in
     search (rules, clear_of_groups)

@@ -15,7 +15,6 @@ loop-rank-preserved g c =
     let block = c.args.block.now in
     let place = get_or c.order-places.result.now r 0 in
     let x = c.index-block-places.result in
-    let rank : r < 4 ^ d = omega arith in
     let inside : place < length block = search rules in
     let in_digits : r < length c.loop-rank.digits = omega arith in
     let in_order : get_or (map value block) place (pos 0) ≡ value x = get_or-map value block place x (pos 0) inside ∙ ap value (sym c.index-block-places.is) in

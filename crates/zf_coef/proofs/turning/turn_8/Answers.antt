@@ -16,5 +16,4 @@ returns c =
     let old = c.args.words.now in
     let to_4 = more_turned 8 4 old old c.step.new.words (search rules) (omega arith) (none_turned 8 old) c.step.ensures in
     let to_2 = more_turned 8 2 old c.step.new.words c.step-2.new.words (search rules) (omega arith) to_4 c.step-2.ensures in
-    let to_1 = more_turned 8 1 old c.step-2.new.words c.step_next.new.words (search rules) (omega arith) to_2 c.step_next.ensures in
-    all_turned 8 old c.step_next.new.words to_1
+    search (rules, more_turned, all_turned)

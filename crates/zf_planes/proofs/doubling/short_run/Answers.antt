@@ -54,7 +54,6 @@ returns-clause-small c = rw (power c) (mod-lt (c.from-3.result - 1 * 2 ^ (c.from
 pub returns-clause-bits : goal.returns-clause-bits
 returns-clause-bits c =
     let known = joined c in
-    let len : c.from.result - c.from-2.result ≡ run_len c.args.digits c.doubled_entry-entry.result = omega (arith, c.from.ensures, c.from-2.ensures) in
     search (rules, last_bit, run_bits, power, field-mod, bits_less)
 
 pub returns-clause-len : goal.returns-clause-len

@@ -4,7 +4,7 @@ use Rattle.zf_spec.{specs.Numbers.{field}, specs.Planes.{code_from_run, plane_co
 use Rattle.zf_spec.proofs.Fields.{length-field, field-mod}
 use Rattle.zf_bits.{specs.Writer.{Writer, Appends}, proofs.Appending.{Appends-same}}
 use Rattle.zf_planes.{specs.Writes.{Remains}, proofs.Doubled.{plane_with, rest_small}}
-use Rattle.zf_planes.proofs.Budgets.{Remains-but, Remains-start, Remains-same, Remains-more}
+use Rattle.zf_planes.proofs.Budgets.{Remains-start, Remains-same, Remains-more}
 use Rattle.zf_planes.proofs.doubling.write_with.Goals as goal
 
 -- the first digits, a group bit and the run
@@ -82,4 +82,4 @@ returns c =
     let run = true ∷ code_from_run (field (c.args.size - n) (v / 2 ^ n)) in
     let remains = flushed c.args.left c.write_part-left.result c.args.size n v part.len part.bits c.requires.in_plane c.requires.some c.requires.digits c.requires.fits c.write_part-left.ensures.bits c.write_part-left.ensures.left in
     let rest = begun c.args.left c.write_part-left.result c.write_part-left-2.result c.args.size n v (omega (arith, c.requires.in_plane, c.requires.size)) remains c.write_part-left-2.ensures.bits c.write_part-left-2.ensures.left in
-    let code = Remains-but run _ rest c.write_run-2.ensures.code in search rules
+    search rules

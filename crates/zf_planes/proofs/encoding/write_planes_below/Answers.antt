@@ -100,8 +100,7 @@ loop-i-preserved g c =
     let rest = drop (c.loop-i.i + 1) (take c.args.prec (planes_held c.args.size (map g.P.Plane.words c.args.planes.now))) in
     let next = next_plane g.P.Plane.words c.loop-i.above c.args.prec c.args.size c.loop-i.i c.args.planes.now c.index-planes-planes.result c.loop-i.invariant.remains c.index-planes-planes.is c.loop-i-test.true c.requires.planes in
     let written = Remains-more (plane_code c.loop-i.above ds) (code_from (max c.loop-i.above (reach ds)) rest) next c.write_plane-left.ensures.bits in
-    let reached : max c.loop-i.above (reach ds) ≡ c.max-above.result = omega (arith, c.reach_in-end.ensures.value, c.max-above.ensures) in
-    let spent = rw (← c.write_plane-left.ensures.left) at written in search rules
+    search rules
 
 -- no bit or no plane is left
 none_left : (g : Over) (c : goal.Left-loop-i g) → min c.loop-i.left (length (code_from c.loop-i.above (drop c.loop-i.i (take c.args.prec (planes_held c.args.size (map g.P.Plane.words c.args.planes.now)))))) ≡ 0

@@ -107,7 +107,7 @@ loop-n-preserved-then-zeros-lt63 g c =
     let one = has_one-drop n ds (omega (arith, c.requires.end, c.if-n-end.false)) in
     let run = run_in_word c.args.size n c.word.result ws c.word.ensures (omega (arith, c.requires.words, g.met.P.Plane.long c.args.plane.now)) (omega (arith, c.word.type_inv)) one c.if-zeros-lt63.true in
     let written = group_written c.args.size n z ds c.loop-n.invariant.remains long run c.write_group-left.ensures.bits in
-    let place : n + z + 1 ≡ n + (z + 1) = omega arith in search rules
+    search rules
 
 -- ---- the run is written by parts
 
@@ -139,7 +139,7 @@ loop-n-preserved g c =
     let part = Appends-same c.write_digits-left.ensures.bits (ap (take (c.loop-n.left - 1)) (held_part c.args.size n m ws (omega (arith, c.min.ensures, c.loop-n-test.true)) (omega (arith, c.min.ensures)))) in
     let written = Remains-more (take (m - n) (drop n ds)) (tail (drop (n + j + 1) ds)) next part in
     let count : length (take (m - n) (drop n ds)) ≡ m - n = omega (arith, all, length-take (m - n) (drop n ds), length-drop n ds, c.min.ensures) in
-    let spent : c.write_digits-left.result ≡ c.loop-n.left - 1 - length (take (m - n) (drop n ds)) = omega (arith, count, c.write_digits-left.ensures.left) in search rules
+    search rules
 
 -- ---- no bit or no rank is left
 

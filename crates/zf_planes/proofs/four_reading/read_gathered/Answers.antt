@@ -20,7 +20,6 @@ loop-digits-init c =
     let taken = rw (c.new-cursor.ensures.left, c.new-cursor.ensures.reader) at passed.ensures.taken in
     let spent : after ≡ c.args.budget - k = omega (arith, taken.spent) in
     let first = rw (← spent) at (zero_planes k c.args.budget c.args.prec 4 (rest c.args.reader.now) behind (omega arith) (omega (arith, taken.spent)) passed.ensures.within (rw c.new-cursor.ensures.reader at passed.ensures.zeros)) in
-    let all : k + 0 ≡ k = omega arith in
     let held : gathered words k 0 0 ≡ replicate k zeros = gathered_words words k 0 0 refl ∙ low_planes-zeros k in
     let before : FoursRead c.args.reader.now passed.new.self.reader c.args.budget after c.args.prec 0 words k 0 0 = search (rules, four_below, no_lanes_below) in
     let lone = c.read_lone-lone in

@@ -1,7 +1,5 @@
 use Rattle.std.proofs.Common.{rules, ◌≡◌, ℕ, ◌*◌, ◌<◌, ◌≤◌, ◌⊎◌, ⊎_elim, inl, inr, length, map, ◌∙◌, arith, length-set}
 use Rattle.std.proofs.lemmas.List.{length-map}
-use Rattle.zf_spec.{specs.HeldPlanes.{digits_held}, proofs.HeldPlanes.{length-digits_held}}
-use Rattle.zf_spec.proofs.Reach.{reach-le}
 use Rattle.zf_planes.proofs.Passing.{if_none}
 use Rattle.zf_planes.proofs.PlanesRead.{AreRead-start, AreRead-more, AreRead-ranks, AreRead-lacks, AreRead-over}
 use Rattle.zf_planes.proofs.word_reading.read_by_kinds.Goals as goal
@@ -53,7 +51,6 @@ loop-i-2-preserved g c =
     let words = g.P.Plane.words one.plane in
     let all = all_ranks _ _ _ _ _ before.all c.if-cursor-gt0-2.true c.loop-i-2-test.true in
     let enough : size ≤ 64 * length words = omega (arith, c.requires.planes.words, g.met.P.Plane.long one.plane) in
-    let reached : one.above ≡ c.loop-i.above = omega (arith, c.in_ok-read-2.ensures.read.reached, all, reach-le (digits_held size words), length-digits_held size words enough) in
     let read = AreRead-more g.P.Plane.words _ _ c.loop-i-2.planes one.plane (AreRead-ranks size all before.read) c.requires.planes.some enough c.loop-i-2-test.true (omega (arith, before.long, c.requires.planes.enough)) c.in_ok-read-2.ensures.read in
     search (rules, length-set)
 

@@ -1,6 +1,6 @@
-use Rattle.std.proofs.Common.{rules, ◌≡◌, ℕ, suc, ◌+◌, ◌-◌, ◌<◌, ◌≤◌, length, map, drop, ap, ◌∙◌, arith, length-set}
+use Rattle.std.proofs.Common.{rules, ◌≡◌, ◌+◌, ◌-◌, ◌<◌, ◌≤◌, length, map, drop, ap, ◌∙◌, arith, length-set}
 use Rattle.std.proofs.lemmas.List.{length-map, drop-drop}
-use Rattle.zf_planes.{proofs.Passing.{Takes-rest}, specs.Decoding.{Takes}, proofs.Gathering.{written}}
+use Rattle.zf_planes.{proofs.Passing.{Takes-rest}, proofs.Gathering.{written}}
 use Rattle.zf_planes.proofs.Peeking.{window_long, window_passed, Takes-skip}
 use Rattle.zf_planes.{proofs.PlanesRead.{next_known, one_more}, proofs.Unpacking.{top_behind, set_words}}
 use Rattle.zf_bits.specs.Reader.{rest}
@@ -29,10 +29,7 @@ loop-i-preserved g c =
     let passed' : passed + len ≡ ahead.count - (count - len) = omega (arith, before.fewer, small) in
     let left' : left - len ≡ ahead.left - (ahead.count - (count - len)) = omega (arith, before.fewer, small) in
     let place : drop len (drop passed s) ≡ drop (ahead.count - (count - len)) s = drop-drop len passed s ∙ ap (λ k. drop k s) passed' in
-    let more : c.args.to - i ≡ suc p = omega (arith, c.loop-i-test.true) in
     let known = rw same.ensures.above at (next_known left p size n bits count digits len same.result.above (drop passed s) (omega (arith, c.requires.in_plane)) (omega (arith, c.requires.in_plane)) before.window same.ensures.read small) in
-    let next_bits = rw (left', place) at known.bits in
-    let next_digits = rw (left', place) at known.digits in
     let put = written size g.P.Plane.word_count digits (g.P.Plane.words c.zero-plane.result) (g.P.Plane.words plane) (omega arith) c.requires.words (omega (arith, c.requires.words, c.requires.in_plane)) c.zero-plane.ensures c.set_word.ensures same.ensures.read.small in
     let within : i < length planes = omega (arith, length-map c.loop-i.planes g.P.Plane.words, before.long, c.requires.planes, c.loop-i-test.true) in
     let set = set_words g.P.Plane.words c.loop-i.planes i plane in
@@ -53,6 +50,4 @@ returns-clause-read g c =
     let now = c.args.cursor.now in
     let passed = now.count - c.loop-i.count in
     let taken = Takes-skip now.left passed (omega (arith, now.window.within)) (omega (arith, window_long (rest now.reader) now.bits now.count now.window.bits)) c.skip.ensures in
-    let Taken : ℕ → Type 0 = λ k. Takes now.reader c.skip.new.self now.left (now.left - passed) k in
-    let count : passed ≡ now.left - (now.left - passed) = omega (arith, now.window.within) in
     let behind = Takes-rest taken in search rules

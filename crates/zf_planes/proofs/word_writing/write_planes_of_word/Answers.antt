@@ -1,8 +1,7 @@
 use Rattle.std.proofs.Common.{rules, [], get_or, refl, ◌<◌, ◌≤◌, ◌≡◌, ℕ, ◌+◌, ◌-◌, max, Bool, List, ◌++◌, length, map, take, drop, sym, ap, ◌∙◌, arith, append_assoc, length-append}
 use Rattle.std.proofs.lemmas.List.{drop_all, length-map}
-use Rattle.zf_spec.{specs.Numbers.{field}, specs.Planes.{plane_code, code_from, reach}}
-use Rattle.zf_spec.{specs.HeldPlanes.{digits_held, planes_held}, proofs.Fields.{length-field}}
-use Rattle.zf_spec.proofs.Reach.{reach-le}
+use Rattle.zf_spec.{specs.Numbers.{field}, proofs.Reach.{reach-le}, proofs.Fields.{length-field}}
+use Rattle.zf_spec.{specs.Planes.{plane_code, code_from, reach}, specs.HeldPlanes.{digits_held, planes_held}}
 use Rattle.zf_planes.proofs.Budgets.{Remains-through, Remains-same, Remains-fits, Remains-more, Remains-end}
 use Rattle.zf_planes.{proofs.Unpacking.{length-top_held}, specs.Writes.{Remains, LeavesPart}}
 use Rattle.zf_planes.{proofs.Strings.{Remains-none}, proofs.PlainPlanes.{next_word, whole_code}}
@@ -77,7 +76,6 @@ with_next words above prec size i len bits digits l v top planes plane remains i
 
 pub loop-i-preserved : goal.loop-i-preserved
 loop-i-preserved g c =
-    let part = c.loop-i.part in
     let ds = field c.args.size c.first_word-digits.result in
     let top : c.max-above.result ≡ max c.loop-i.above c.reach_in-end.result = omega (arith, c.max-above.ensures) in
     let reached : max c.loop-i.above (reach ds) ≡ c.max-above.result = omega (arith, ap reach c.first_word-digits.ensures.digits, c.reach_in-end.ensures.value, top) in

@@ -8,7 +8,9 @@ use Rattle.zf_block.proofs.rate.RateBlockCode.write.Goals as goal
 
 pub returns : goal.returns
 returns g c =
-    let planes = planes_held c.args.size (map g.P.Plane.words c.args.planes.now) in
-    let whole : take c.WIDTH-width.result planes ≡ planes = take_all c.WIDTH-width.result planes (omega (arith, length-planes_held c.args.size (map g.P.Plane.words c.args.planes.now), length-map c.args.planes.now g.P.Plane.words, c.requires.planes, c.WIDTH-width.ensures)) in
-    let left : c.from-bits.result - c.write_planes_below-written.result ≡ c.from-bits.result - length (code (take c.WIDTH-width.result planes)) = omega (arith, c.write_planes_below-written.ensures.count) in
+    let all = map g.P.Plane.words c.args.planes.now in
+    let planes = planes_held c.args.size all in
+    let bits = code (take c.WIDTH-width.result planes) in
+    let whole : take c.WIDTH-width.result planes ≡ planes = take_all c.WIDTH-width.result planes (omega (arith, length-planes_held c.args.size all, length-map c.args.planes.now g.P.Plane.words, c.requires.planes, c.WIDTH-width.ensures)) in
+    let left : c.from-bits.result - c.write_planes_below-written.result ≡ c.from-bits.result - length bits = omega (arith, c.write_planes_below-written.ensures.count) in
     Appends-same (Appends-append c.write_planes_below-written.ensures.bits c.write_zeros.ensures) (search (rules, first_bits-take))
