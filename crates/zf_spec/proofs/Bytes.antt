@@ -150,9 +150,7 @@ low_number-push : (bs : List ℕ) (k : ℕ) → length bs ≡ suc k → low_numb
 unfolding low_number
 low_number-push (b ∷ []) zero l = omega arith
 low_number-push (b ∷ bs) (suc k) l =
-    let rest = low_number-push bs k (omega arith) in
-    let power = ap (λ p. get_or bs k 0 * p) (pow-suc 256 k) in
-    omega arith
+    omega (arith, low_number-push bs k (omega arith), ap (λ p. get_or bs k 0 * p) (pow-suc 256 k))
 low_number-push bs k l = absurd (omega arith)
 
 sum_through-is : (bs : List ℕ) (k : ℕ) → suc k ≤ length bs → sum_through (λ i. byte_worth i (get_or bs i 0)) k ≡ low_number (take (suc k) bs)

@@ -31,8 +31,7 @@ count_from_bounds k n q (i, h, e) = search (rules, length-count_from, get_or-cou
 
 pub Contains-count_from : (k n q : ℕ) → k ≤ q → q < k + n → Contains (count_from k n) q
 Contains-count_from k n q low high =
-    let small : q - k < n = omega arith in
-    (q - k, omega (arith, length-count_from k n), get_or-count_from k n (q - k) q small ∙ omega arith)
+    (q - k, omega (arith, length-count_from k n), get_or-count_from k n (q - k) q (omega arith) ∙ omega arith)
 
 pub length-upto : (n : ℕ) → length (upto n) ≡ n
 length-upto n = length-count_from 0 n

@@ -26,9 +26,8 @@ pub source_place_below : (es : List ℕ) (p : ℕ) → All IsExtent es → sourc
 source_place_below [] p h = omega arith
 source_place_below (e ∷ es) p h =
     let fine : IsExtent e = All-head IsExtent e es h in
-    let below = sources_below e (p % 4) fine in
     let rest = source_place_below es (p / 4) (All-tail IsExtent e es h) in
-    omega (arith, below, fine.1, rest, pow-suc 4 (length es))
+    omega (arith, sources_below e (p % 4) fine, fine.1, rest, pow-suc 4 (length es))
 
 -- it is a place that exists
 pub source_place_inside : (es : List ℕ) (p : ℕ) → All IsExtent es → is_inside es (indices (length es) (source_place es p)) ≡ true

@@ -41,9 +41,8 @@ pub raster-coordinates : (ns : List ℕ) (k : ℕ) → k < product ns → raster
 raster-coordinates [] k h = omega arith
 raster-coordinates (zero ∷ ns) k h = absurd (omega arith)
 raster-coordinates (suc m ∷ ns) k h =
-    let n = suc m in
-    let rest = raster-coordinates ns (k / n) (div_below k n (product ns) (omega arith) (omega arith)) in
-    ap (λ r. k % n + n * r) rest ∙ omega (arith, div-add-mod' k n)
+    let rest = raster-coordinates ns (k / suc m) (div_below k (suc m) (product ns) (omega arith) (omega arith)) in
+    ap (λ r. k % suc m + suc m * r) rest ∙ omega (arith, div-add-mod' k (suc m))
 
 -- a position is that of its raster number
 pub coordinates-raster : (ns ps : List ℕ) → length ps ≡ length ns → is_inside ns ps ≡ true → coordinates ns (raster ns ps) ≡ ps

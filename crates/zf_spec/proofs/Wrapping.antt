@@ -52,10 +52,9 @@ wrap_is_same w (pos n) =
     (neg_ℤ (pos (n / m)), omega (arith, ints, div-add-mod' n m, neg-*ℤ (pos (n / m)) (pos m)))
 wrap_is_same w (negsuc n) =
     let m = 2 ^ bits w in
-    let small = mod-lt n (pow_pos (bits w)) in
     same_modulo_trans (bits w) (wrap w (negsuc n)) (pos (m - 1 - n % m)) (negsuc n)
-    (signed_is_same w (m - 1 - n % m) (omega arith))
-    (pos (n / m + 1), omega (arith, ints, div-add-mod' n m))
+    (signed_is_same w (m - 1 - n % m) (omega (arith, mod-lt n (pow_pos (bits w)))))
+    (pos (n / m + 1), omega (arith, ints, div-add-mod' n m, mod-lt n (pow_pos (bits w))))
 
 pub wrap_fits : (w : Width) (n : ℤ) → FitsSigned w (wrap w n)
 wrap_fits w n = SFits-int_wrap w n
