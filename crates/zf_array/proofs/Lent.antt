@@ -3,7 +3,8 @@ use Rattle.std.proofs.Common.{◌≡◌, ◌⊎◌, inl, inr, refl, sym, ap, sub
 use Rattle.std.{specs.Int.{Width}, proofs.lemmas.Bool.{cases_lt, cases_Bool, eqb-true, false≢true}}
 use Rattle.std.proofs.lemmas.List.{length-map, map-append, take-map, drop-map, length-take-le, take-append-drop, drop-drop, get_or-take, get_or-drop, get_or_append_left, get_or-append_right, drop_all, append-nil, set_split}
 use Rattle.std.proofs.Math.Seq.{take-add}
-use Rattle.zf_spec.{specs.Grid.{blocks}, proofs.Counting.{map-get_or-upto, map-upto_same}}
+use Rattle.zf_spec.specs.Grid.{blocks}
+use Rattle.zf_spec.proofs.Counting.{map-get_or-upto, map-upto_same}
 use Rattle.zf_base.{specs.Formats.{Format, existing_of}, specs.declared.position.Pos.{Pos}}
 use Rattle.zf_base.proofs.Formats.{existing_of_same, length-existing_of, get_or-existing_of, get_or-existing_of_exists, existing_of-existing_of, with_at-other}
 use Rattle.zf_header.specs.declared.header.Header.{Header}

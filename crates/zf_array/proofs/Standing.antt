@@ -1,6 +1,7 @@
 -- An array stands for the state that its cache and its store stand for.
 use Rattle.std.proofs.Common.{◌≡◌, sym, ap, subst, ◌∙◌, ℕ, ◌<◌, ◌≤◌, ℤ, Bool, false, Some, None, List, map, length, get_or, replicate, arith, rules}
-use Rattle.std.{specs.Int.{Width}, proofs.lemmas.Bool.{cases_lt, ne_eqb}, proofs.lemmas.List.{get_or_past}}
+use Rattle.std.{specs.Int.{Width}, proofs.lemmas.Bool.{cases_lt, ne_eqb}}
+use Rattle.std.proofs.lemmas.List.{get_or_past}
 use Rattle.zf_spec.specs.Grid.{upto, blocks}
 use Rattle.zf_spec.proofs.Counting.{length-map-upto, get_or-map-upto, map-get_or-upto}
 use Rattle.zf_base.{specs.Widths.{width_of}, specs.Formats.{Format, meant}, proofs.Sizes.{blocks_le}}
@@ -8,7 +9,8 @@ use Rattle.zf_header.{specs.declared.header.Header.{Header}, specs.HeaderBits.{b
 use Rattle.zf_cached.{specs.State.{State}, specs.Changes.{zeros}, specs.Arrays.{rate_coding}, proofs.Arrays.{meant-zeros}}
 use Rattle.zf_cached.proofs.States.{same_state}
 use Rattle.zf_cache.specs.Kept.{Kept, HasBlocks, tag_at, block_in, line_of, is_dirty, dirty_tag}
-use Rattle.zf_cache.{specs.Standing.{state_of, Fits, state_at}, proofs.Tags.{names-dirty, is_block-other}}
+use Rattle.zf_cache.specs.Standing.{state_of, Fits, state_at}
+use Rattle.zf_cache.proofs.Tags.{names-dirty, is_block-other}
 use Rattle.zf_store.specs.Stored.{Stored, Frame, code_at, format_of, frame_of, rate_of}
 use Rattle.zf_store.proofs.Kept.{blocks_is, block_len_is}
 use Rattle.zf_array.{specs.Standing.{Held, stored, format, state, array_of}, specs.Parts.{held_by, IsJoined}}

@@ -2,8 +2,10 @@
 use Rattle.std.proofs.Common.{◌≡◌, sym, ap, subst, ◌∙◌, ℕ, ℤ, Bool, false, List, length, get_or, replicate, rules}
 use Rattle.std.{specs.Int.{Width}, proofs.lemmas.Bool.{cases_lt}}
 use Rattle.std.proofs.lemmas.List.{get_or_past, length-replicate, get_or-replicate}
-use Rattle.zf_spec.{specs.Grid.{blocks}, specs.Stream.{fixed_rate}, proofs.Counting.{map-get_or-upto}}
-use Rattle.zf_base.{specs.declared.lane.Ty.{Ty}, specs.Widths.{width_of}, specs.Formats.{meant}}
+use Rattle.zf_spec.{specs.Grid.{blocks}, specs.Stream.{fixed_rate}}
+use Rattle.zf_spec.proofs.Counting.{map-get_or-upto}
+use Rattle.zf_base.{specs.declared.lane.Ty.{Ty}}
+use Rattle.zf_base.{specs.Widths.{width_of}, specs.Formats.{meant}}
 use Rattle.zf_header.{specs.declared.header.Header.{Header}, specs.declared.header.Mode.{Mode}}
 use Rattle.zf_header.specs.declared.header.Mode.TheVariants.{Rate}
 use Rattle.zf_header.specs.HeaderBits.{IsRate, coding, block_bits}
@@ -15,7 +17,8 @@ use Rattle.zf_cache.{specs.Standing.{state_of, Fits, HasRoom, state_at}, proofs.
 use Rattle.zf_cache.proofs.Touches.{state_is, no_tag, all_meant}
 use Rattle.zf_store.specs.Stored as store
 use Rattle.zf_store.{specs.Stored.{Stored, code_at, format_of, frame_of, rate_of}, proofs.Kept.{blocks_is}}
-use Rattle.zf_array.{specs.Standing.{Held, stored, format, state}, specs.Parts.{held_by}}
+use Rattle.zf_array.specs.Standing.{Held, stored, format, state}
+use Rattle.zf_array.specs.Parts.{held_by}
 use Rattle.zf_array.proofs.Standing.{zero_meant, stored_held, state_held}
 
 -- a type is known by its width

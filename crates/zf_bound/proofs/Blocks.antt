@@ -1,6 +1,7 @@
 -- How far what a fixed rate makes of a block is from the block, where planes from some plane up are kept whole.
 use Rattle.std.proofs.Common.{◌≡◌, refl, sym, ap, subst, ◌∙◌, ℕ, zero, suc, ◌+◌, ◌-◌, ◌*◌, ◌^◌, ◌<◌, ◌≤◌, Bool, ℤ, List, length, take, All, arith, rules}
-use Rattle.std.{specs.Int.{Width, w8}, proofs.lemmas.Bool.{cases_lt}, proofs.lemmas.List.{get_or_past}}
+use Rattle.std.{specs.Int.{Width, w8}, proofs.lemmas.Bool.{cases_lt}}
+use Rattle.std.proofs.lemmas.List.{get_or_past}
 use mir.Val.{bits, hbits}
 use Rattle.zf_spec.{specs.Padding.{pad}, specs.Lift.{lift, lift_line, unlift}, specs.Kept.{kept_planes}}
 use Rattle.zf_spec.specs.Codes.{planes, coefficients_of, existing_values, round}

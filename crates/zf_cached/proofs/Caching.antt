@@ -1,5 +1,5 @@
 -- Touches and write-backs, and what becomes of each block.
-use Rattle.std.proofs.Common.{◌≡◌, ◌≢◌, refl, sym, ap, subst, ◌∙◌, ℕ, ◌%◌, Bool, true, false, eq-eqb, Option, Some, None, rules}
+use Rattle.std.proofs.Common.{◌≡◌, ◌≢◌, refl, sym, ap, subst, ◌∙◌, ℕ, ◌%◌, Bool, true, false, eqb, eqb-true, eq-eqb, Option, Some, None, rules}
 use Rattle.std.proofs.lemmas.Bool.{cases_eq}
 use Rattle.zf_base.{specs.Formats.{Format, rounded, with_at}, proofs.Formats.{with_at-same, with_at-other}}
 use Rattle.zf_cached.{specs.State.{State, is_block, is_here}, specs.Placing.{Line, line_in, is_at, direct}}
@@ -56,10 +56,12 @@ write_back_line-other format s l b away = write_back_line_by format s l (λ t. (
 
 -- what a line holds
 pub is_block-true : (o : Option ℕ) (b : ℕ) → is_block o b ≡ true → o ≡ Some b
-is_block-true _ b h = search rules
+is_block-true None b h = absurd (cc)
+is_block-true (Some a) b h = ap Some (eqb-true a b h)
 
 pub is_block-false : (o : Option ℕ) (b : ℕ) → is_block o b ≡ false → o ≡ Some b → ⊥
-is_block-false _ b h e = search rules
+is_block-false None b h e = cc
+is_block-false (Some a) b h e = let same : a ≡ b = cc in let t = eq-eqb a b same in true_is_not_false (eqb a b) t h
 
 pub is_block-some : (o : Option ℕ) (b : ℕ) → o ≡ Some b → is_block o b ≡ true
 is_block-some o b e = ap (λ p. is_block p b) e ∙ eq-eqb b b refl

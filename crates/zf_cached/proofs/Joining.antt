@@ -37,7 +37,8 @@ module _ (line : Line) (may_hold : ℕ → ℕ → ℕ → Type 0) (placing : Is
 
   still_split : is_split s ≡ true → (m : ℕ) → is_split (u m) ≡ true
   unfolding flushed_views by_view with_view
-  still_split e _ = search rules
+  still_split e zero = e
+  still_split e (suc m) = refl
 
   abbrev before : ℕ → State Code
   before m = with_codes (seen m) (u m).state.codes

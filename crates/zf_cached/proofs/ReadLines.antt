@@ -60,7 +60,8 @@ words_no_space d (Command.get p) ok = (letters (codes "get") refl, (position_no_
 words_no_space d c ok = search (rules, letters, and_parts, axes-parts, sizes-parts, position_no_space, sizes_no_space, value_no_space, number_no_space, view_no_space, position_and_value_no_space)
 
 some_word : (c : Command) → 1 ≤ length (words_of c)
-some_word c = search rules
+some_word (Command.get p) = omega arith
+some_word c = omega arith
 
 -- the text of a command is cut into its words
 pub cut_at-line_of : (d : ℕ) (c : Command) → is_writable d c ≡ true → cut_at space (line_of c) ≡ words_of c
@@ -68,10 +69,11 @@ cut_at-line_of d c ok = cut_at-joined space (words_of c) (some_word c) (words_no
 
 -- ---- the candidate of a command's own words
 found_at : (test : Command → Bool) (cs : List Command) (k : ℕ) (c : Command) → list_all (λ other. not (test other)) (take k cs) ≡ true → k < length cs → get_or cs k c ≡ c → test c ≡ true → find test cs ≡ Some c
+found_at test [] k c others lt same passes = absurd (omega arith)
+found_at test (x ∷ cs) zero c others lt same passes = cond-true (test x) (Some x) (find test cs) (ap test same ∙ passes) ∙ ap Some same
 found_at test (x ∷ cs) (suc k) c others lt same passes =
     let parts = and_parts (not (test x)) (list_all (λ other. not (test other)) (take k cs)) others in
     cond-false (test x) (Some x) (find test cs) (not-true (test x) parts.0) ∙ found_at test cs k c parts.1 (omega arith) same passes
-found_at test _ k c others lt same passes = search rules
 
 position_back : (d : ℕ) (p : List ℕ) → 1 ≤ d → has_axes d p ≡ true → numbers_in comma (numbers_text comma p) ≡ p
 position_back d p some ok =
@@ -193,7 +195,8 @@ read_line_iff d line c some =
     (read_line-Some d line c, λ is. ap (read_line d) is.1 ∙ read_line-line_of d c some is.0)
 
 option_none : (o : Option Command) → ((c : Command) → o ≡ Some c → ⊥) → o ≡ None
-option_none _ none = search rules
+option_none None none = refl
+option_none (Some c) none = absurd (none c refl)
 
 -- no command is read off a line that is the text of none
 pub read_line-None : (d : ℕ) (line : List ℕ) → ((c : Command) → is_writable d c ≡ true → line ≡ line_of c → ⊥) → read_line d line ≡ None

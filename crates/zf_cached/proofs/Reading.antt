@@ -87,7 +87,8 @@ module _ (line : Line) {Code : Type 0} (setting : Setting Code) (cached : IsCach
   script-stays starved s script reads h = lines-stay starved 0 (lines_of script) _ reads (record { sizes = refl; state = h; alone = refl })
 
   none_there : (o : Option (List View)) → (elim o as (λ x. Bool) [ Some x ↦ true | None ↦ false ]) ≡ false → length (views_in o) ≡ 0
-  none_there _ e = search rules
+  none_there None e = refl
+  none_there (Some views) e = absurd (cc)
 
   ended-stays : (s : Session Code) → Stays s → Stays (ended setting s)
   unfolding ended joined flushed_views

@@ -27,14 +27,16 @@ pub step-refused : {Code : Type 0} (setting : Setting Code) (s : Session Code) (
 step-refused setting s c starving why e = step_by setting s c starving (λ r. r ≡ (s, Some (Reply.refused why))) (λ y is. let same : y ≡ why = cc in ap (λ x. (s, Some (Reply.refused x))) same) (λ none. absurd (cc))
 
 refusal_memory : (p a b v t m : Bool) → first_refusal p a b v (t && m) ≡ Some Refusal.memory → (t ≡ true) × (m ≡ true) × (first_refusal p a b v (t && false) ≡ None)
-refusal_memory p a b v t m e = search rules
+refusal_memory false false false false true true e = (refl, refl, refl)
+refusal_memory p a b v t m e = absurd (cc)
 
 pub refusal-memory : {Code : Type 0} (setting : Setting Code) (s : Session Code) (c : Command) (starving : Bool) → refusal setting s c starving ≡ Some Refusal.memory → ((tests setting s c).memory ≡ true) × (starving ≡ true) × (refusal setting s c false ≡ None)
 unfolding refusal
 refusal-memory setting s c starving e = refusal_memory (refuses_split s c) (tests setting s c).size (tests setting s c).range (tests setting s c).value (tests setting s c).memory starving e
 
 refusal_word : (p a b v m : Bool) → first_refusal p a b v m ≡ Some Refusal.word → ⊥
-refusal_word p a b v m e = search rules
+refusal_word false false false false true e = cc
+refusal_word p a b v m e = cc
 
 pub refusal-word : {Code : Type 0} (setting : Setting Code) (s : Session Code) (c : Command) (starving : Bool) → refusal setting s c starving ≡ Some Refusal.word → ⊥
 unfolding refusal

@@ -23,7 +23,8 @@ use Rattle.zf_cached.proofs.Acting.{acted-codes, acted-consistent}
 
 -- a command that is not refused though it needs no split: there is none
 alone : (t : Bool) → elim t as (λ x. Bool) [ true ↦ true | false ↦ false ] ≡ false → t ≡ false
-alone _ e = search rules
+alone true e = absurd (cc)
+alone false e = refl
 
 as_many : (d : ℕ) (ns : List ℕ) → has_axes d ns ≡ true → length ns ≡ d
 as_many d ns h = eqb-true (length ns) d (and_parts (eqb (length ns) d) (list_all is_number ns) h).0
@@ -39,7 +40,8 @@ pub record IsTaken {Code : Type 0} (setting : Setting Code) (s : Session Code) (
   pub range : (tests setting s c).range ≡ false
 
 refusal_none : (p a b v m : Bool) → first_refusal p a b v m ≡ None → (p ≡ false) × (a ≡ false) × (b ≡ false)
-refusal_none p a b v m e = search rules
+refusal_none false false false v m e = (refl, refl, refl)
+refusal_none p a b v m e = absurd (cc)
 
 -- a step by whether the command is refused
 pub step_by : {Code : Type 0} (setting : Setting Code) (s : Session Code) (c : Command) (starving : Bool) (P : Session Code × Option Reply → Type 0)
@@ -56,7 +58,8 @@ step_by {Code} setting s c starving P refuses takes = by (refusal setting s c st
 
 -- an array that isn't split has no views
 pub no_views : (o : Option (List View)) → is_some o ≡ false → (i : ℕ) → i < length (views_in o) → ⊥
-no_views _ none i lt = search rules
+no_views None none i lt = omega (arith, lt)
+no_views (Some views) none i lt = cc
 
 -- the blocks of view i
 abbrev owner_in : {Code : Type 0} → Setting Code → Session Code → ℕ → ℕ → Bool

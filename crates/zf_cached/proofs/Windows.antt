@@ -8,6 +8,9 @@ use Rattle.zf_cached.specs.Windows.{Window, LiesIn, stepped, mapped, whole, slic
 -- each position lies in the array where the last one does
 stepped_inside : (ns os sizes ts ps : List ℕ) → is_inside ns (stepped os ts (map (λ n. n - 1) sizes)) ≡ true → is_inside sizes ps ≡ true → length ps ≡ length sizes
     → is_inside ns (stepped os ts ps) ≡ true
+stepped_inside [] os sizes ts ps h p l = refl
+stepped_inside (n ∷ ns) (o ∷ os) [] (t ∷ ts) ps h p l = absurd (cc)
+stepped_inside (n ∷ ns) (o ∷ os) (m ∷ sizes) (t ∷ ts) [] h p l = absurd (cc)
 stepped_inside (n ∷ ns) (o ∷ os) (m ∷ sizes) (t ∷ ts) (q ∷ ps) h p l =
     let parts = and_parts (ltb (o + (m - 1) * t) n) (is_inside ns (stepped os ts (map (λ n. n - 1) sizes))) h in
     let first = ltb-true (o + (m - 1) * t) n parts.0 in
@@ -17,7 +20,7 @@ stepped_inside (n ∷ ns) (o ∷ os) (m ∷ sizes) (t ∷ ts) (q ∷ ps) h p l =
     let reach : q * t ≤ (m - 1) * t = mul-le-mul_right t short in
     let fits : o + q * t < n = omega arith in
     and_from (ltb (o + q * t) n) (is_inside ns (stepped os ts ps)) (lt-ltb (o + q * t) n fits) (stepped_inside ns os sizes ts ps parts.1 both.1 (omega arith))
-stepped_inside x os sizes ts ps h p l = search rules
+stepped_inside x y sizes ts ps h p l = h
 
 module _ (ns : List ℕ) (w : Window) (h : LiesIn ns w) where
   -- a position of the window is one of the array
@@ -27,8 +30,9 @@ module _ (ns : List ℕ) (w : Window) (h : LiesIn ns w) where
       stepped_inside ns w.origin w.size w.step ps lies inside same
 
 pub length-stepped : (os ts ps : List ℕ) (n : ℕ) → length os ≡ n → length ts ≡ n → length ps ≡ n → length (stepped os ts ps) ≡ n
+length-stepped [] ts ps n o t p = o
 length-stepped (o ∷ os) (t ∷ ts) (p ∷ ps) (suc n) a b c = ap suc (length-stepped os ts ps n (omega arith) (omega arith) (omega arith))
-length-stepped x ts ps n o t p = search rules
+length-stepped x y ps n a b c = absurd (omega arith)
 
 pub length-mapped : (ns : List ℕ) (w : Window) (ps : List ℕ) → LiesIn ns w → length ps ≡ length w.size → length (mapped w ps) ≡ length ns
 length-mapped ns w ps h same = length-stepped w.origin w.step ps (length ns) h.origins h.steps (same ∙ h.sizes)
@@ -80,17 +84,19 @@ LiesIn-whole ns h =
 
 slice_inside : (ns os sizes ts : List ℕ) (axis at : ℕ) → is_inside ns (stepped os ts (map (λ n. n - 1) sizes)) ≡ true → axis < length sizes → at < get_or sizes axis 0 → length os ≡ length sizes → length ts ≡ length sizes
     → is_inside ns (stepped (set os axis (get_or os axis 0 + at * get_or ts axis 0)) ts (map (λ n. n - 1) (set sizes axis 1))) ≡ true
+slice_inside [] (o ∷ os) (m ∷ sizes) (t ∷ ts) axis at h a b l k = refl
 slice_inside (n ∷ ns) (o ∷ os) (m ∷ sizes) (t ∷ ts) zero at h a b l k =
     search (rules, and_parts, ltb-true, mul-le-mul_right, and_from, lt-ltb)
 slice_inside (n ∷ ns) (o ∷ os) (m ∷ sizes) (t ∷ ts) (suc axis) at h a b l k =
     let parts = and_parts (ltb (o + (m - 1) * t) n) (is_inside ns (stepped os ts (map (λ n. n - 1) sizes))) h in
     and_from (ltb (o + (m - 1) * t) n) (is_inside ns (stepped (set os axis (get_or os axis 0 + at * get_or ts axis 0)) ts (map (λ n. n - 1) (set sizes axis 1))))
     parts.0 (slice_inside ns os sizes ts axis at parts.1 (omega arith) b (omega arith) (omega arith))
-slice_inside ns os x ts axis at h a b l k = search rules
+slice_inside ns os x ts axis at h a b l k = absurd (omega arith)
 
 none_zero-set : (ns : List ℕ) (axis : ℕ) → none_zero ns ≡ true → none_zero (set ns axis 1) ≡ true
+none_zero-set [] axis h = refl
+none_zero-set (n ∷ ns) zero h = (and_parts (leb 1 n) (none_zero ns) h).1
 none_zero-set (n ∷ ns) (suc axis) h = let parts = and_parts (leb 1 n) (none_zero ns) h in and_from (leb 1 n) (none_zero (set ns axis 1)) parts.0 (none_zero-set ns axis parts.1)
-none_zero-set _ axis h = search rules
 
 -- a slice of a window lies in the array
 pub LiesIn-sliced : (ns : List ℕ) (w : Window) (axis at : ℕ) → LiesIn ns w → has_place w axis at ≡ true → LiesIn ns (sliced w axis at)

@@ -1,7 +1,8 @@
 -- The first fault of lists of lines, and the faults of sizes that were read from their fields.
-use Rattle.std.proofs.Common.{rules, ◌≡◌, ℕ, suc, ◌/◌, ◌^◌, ◌≤◌, ◌==◌, Bool, true, false, cond, nat_lt, List, [], ◌∷◌, ◌++◌, map, take, Some, None, Result, Ok, refl, ◌∙◌, arith}
+use Rattle.std.proofs.Common.{rules, ◌≡◌, ℕ, zero, suc, ◌/◌, ◌^◌, ◌≤◌, ◌==◌, Bool, true, false, cond, nat_lt, List, [], ◌∷◌, ◌++◌, map, take, Some, None, Result, Ok, Err, refl, ap, ◌∙◌, arith}
 use Rattle.std.{specs.List.{list_any}, proofs.lemmas.Nat.{pow_pos}, proofs.lemmas.Bool.{le-ltb}}
-use Rattle.std.{specs.Result.{MatchResult, IsErrAnd, result_err}}
+use Rattle.std.{proofs.lemmas.Bool.Decides.{nat_tests}, specs.Result.{MatchResult, IsErrAnd, result_err}}
+use Rattle.std.proofs.lemmas.Result.{err_from_is_err_and}
 use Rattle.zf_base.{specs.declared.shape.ShapeFault.{ShapeFault}, specs.Shapes.{shape_fault}}
 use Rattle.zf_header.{specs.declared.header.HeaderFault.TheVariants.{TooLarge}, proofs.Bits.{number_at_below}}
 use Rattle.zf_header.{specs.declared.header.HeaderFault.{HeaderFault}, specs.HeaderFields.{size_in, sizes_in}}
@@ -42,8 +43,12 @@ size_bounds d axis s = search (rules, number_at_below, pow_pos)
 
 -- the sizes along four axes, and those along the first d
 pub take-sizes : (d : ℕ) (size : ℕ → ℕ) → d ≤ 4 → take d (size 0 ∷ size 1 ∷ size 2 ∷ size 3 ∷ []) ≡ map size (upto d)
+take-sizes zero size four = refl
+take-sizes (suc zero) size four = refl
+take-sizes (suc (suc zero)) size four = refl
+take-sizes (suc (suc (suc zero))) size four = refl
+take-sizes (suc (suc (suc (suc zero)))) size four = refl
 take-sizes (suc (suc (suc (suc (suc d))))) size four = absurd (omega arith)
-take-sizes _ size four = refl
 
 list_any-none : (p : ℕ → Bool) (f : ℕ → ℕ) (ks : List ℕ) → ((k : ℕ) → p (f k) ≡ false) → list_any p (map f ks) ≡ false
 list_any-none p f [] none = refl
@@ -59,4 +64,8 @@ shape_fault-sizes_in s = search (rules, length-map-upto, list_any-none, not_zero
 -- the fault that each fault of the sizes becomes
 pub too_large : {X : Type 0} (made : Result X ShapeFault) (result : Result X HeaderFault) (Becomes : ShapeFault → HeaderFault → Type 0) (large : Bool) → ((e : ShapeFault) (f : HeaderFault) → Becomes e f → f ≡ TooLarge)
     → MatchResult made (λ x. result ≡ Ok x) (λ e. IsErrAnd result (Becomes e)) → result_err made ≡ cond large (Some shape.TooLarge) None → result_err result ≡ cond large (Some TooLarge) None
-too_large _ result _ _ only cases fault = search rules
+too_large (Ok x) result Becomes true only cases fault = absurd cc
+too_large (Ok x) result Becomes false only cases fault = ap result_err cases
+too_large (Err e) result Becomes true only cases fault =
+    let p = err_from_is_err_and result cases in ap result_err p.1 ∙ ap (λ f. Some f) (only e p.0 p.2)
+too_large (Err e) result Becomes false only cases fault = absurd cc

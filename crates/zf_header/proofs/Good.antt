@@ -40,7 +40,8 @@ not_false a b e = grind (arith, nat_tests)
 
 -- a test that holds only beside another
 beside : (t x : Bool) → (t && x) ≡ false → t ≡ true → x ≡ false
-beside _ x e h = search rules
+beside true x e h = e
+beside false x e h = absurd cc
 
 outside : (a m b : ℕ) → (nat_le a m && nat_le m b) ≡ false → a ≤ m → b < m
 outside a m b e above = grind (arith, nat_tests)

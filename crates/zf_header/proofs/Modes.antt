@@ -2,7 +2,7 @@
 use Rattle.std.proofs.Common.{rules, ◌≡◌, ℕ, ◌+◌, ◌-◌, ◌<◌, ◌≤◌, ◌^◌, Bool, true, false, ◌&&◌, nat_le, List, refl, le-leb, arith}
 use Rattle.std.proofs.lemmas.Bool.{cases_lt, ne_eqb, lt-leb, and_from, and_left, and_parts, leb-true}
 use Rattle.zf_spec.specs.Stream.{mode_number}
-use Rattle.zf_header.{specs.declared.header.Mode.{Mode}}
+use Rattle.zf_header.{specs.declared.header.Mode.{Mode}, proofs.Parts.{short_number, long_number}}
 use Rattle.zf_header.specs.declared.header.Mode.TheVariants.{Reversible, Rate, Precision}
 use Rattle.zf_header.{specs.HeaderBits.{coding, IsMode, IsRate, block_bits}, proofs.Bits.{number_at_below}}
 use Rattle.zf_header.specs.HeaderFields.{mode_in, long_rate_in, is_long_rate, mode_said, header_in}

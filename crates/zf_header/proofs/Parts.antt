@@ -1,9 +1,10 @@
 -- A header field by field, and how long it is.
 use Rattle.std.proofs.Common.{rules, ◌≡◌, ◌≢◌, ℕ, ◌+◌, ◌-◌, ◌/◌, ◌<◌, ◌≤◌, Bool, cond, List, [], ◌++◌, length, refl, ap, arith, le-leb}
-use Rattle.std.{proofs.lemmas.Bool.{lt-leb}, specs.List.{flat_map}}
+use Rattle.std.{proofs.lemmas.Bool.{lt-leb, cases_lt}, specs.List.{flat_map}}
 use Rattle.zf_base.specs.Widths.{width_of}
-use Rattle.zf_spec.{specs.Numbers.{field}, specs.Grid.{IsShape}, proofs.RawValues.{length-header}}
+use Rattle.zf_spec.{specs.Numbers.{field}, specs.Grid.{IsShape}}
 use Rattle.zf_spec.specs.Stream.{magic, codec, type_number, mode_number, all_planes, no_exponent, long_form, header, fixed_rate}
+use Rattle.zf_spec.proofs.RawValues.{length-header, length-long_form, length-short_form}
 use Rattle.zf_header.{specs.declared.header.Header.{Header}, specs.declared.header.Mode.{Mode}}
 use Rattle.zf_header.specs.HeaderBits.{coding, IsMode, header_bits}
 

@@ -1,6 +1,7 @@
 -- Bits that end to end make up a list, and fields among them.
 use Rattle.std.proofs.Common.{◌≡◌, ℕ, ◌+◌, ◌^◌, ◌<◌, ◌≤◌, Bool, List, ◌++◌, length, take, drop, sym, ap, ◌∙◌, length-drop, rules}
-use Rattle.std.{proofs.Math.Seq.{take-add}, proofs.lemmas.List.{take_at, drop_at, drop-drop, length-take-le}}
+use Rattle.std.proofs.Math.Seq.{take-add}
+use Rattle.std.proofs.lemmas.List.{take_at, drop_at, drop-drop, length-take-le}
 use Rattle.zf_spec.{specs.Numbers.{field}, proofs.Fields.{length-field, field-number}}
 use Rattle.zf_bits.proofs.Fields.{number-field_whole}
 use Rattle.zf_header.specs.HeaderFields.{number_at}

@@ -14,7 +14,7 @@ use Rattle.zf_header.specs.HeaderFields.{number_at, magic_in, codec_in, type_in,
 use Rattle.zf_header.{specs.HeaderFaults.{header_fault}, proofs.Pieces.{number_at_field, behind_piece}}
 use Rattle.zf_header.proofs.Parts.{size_bits, long_fields, header_bits-parts, length-header_bits, short_number, long_number, long_form_long, length-long_form_begun}
 use Rattle.zf_header.{proofs.Sizes.{length-size_bits, sizes-size_bits}, proofs.Modes.{mode_again}}
-use Rattle.zf_header.proofs.Good.{GoodMode, Good, no_fault_of_good}
+use Rattle.zf_header.proofs.Good.{GoodMode, short, precise, without_loss, long, Good, no_fault_of_good}
 
 abbrev header_of : Ty → List ℕ → Mode → Header
 header_of ty ns mode = record { ty = ty; shape = ns; mode = mode }
@@ -23,7 +23,8 @@ same_header : {t u : Ty} {ns ms : List ℕ} {a b : Mode} → t ≡ u → ns ≡ 
 same_header p q r = cc
 
 type_le : (ty : Ty) → type_number (width_of ty) - 1 ≤ 1
-type_le _ = search rules
+type_le I32 = lit≤ tt
+type_le I64 = lit≤ tt
 
 -- the fields say what the header does
 pub record Says (s : List Bool) (h : Header) : Type 0 where
@@ -40,7 +41,8 @@ codec_small : (d : ℕ) → codec d < 2 ^ 8
 codec_small d = elim (nat_le d 2) as (λ t. cond t 5 69 < 2 ^ 8) [ true ↦ lit< tt | false ↦ lit< tt ]
 
 type_small : (ty : Ty) → type_number (width_of ty) - 1 < 2 ^ 2
-type_small _ = search rules
+type_small I32 = lit< tt
+type_small I64 = lit< tt
 
 mode_small : (mode : Mode) → IsMode mode → mode_number (coding mode) < 2 ^ 12
 mode_small mode has = search (rules, cases_lt, long_number, short_number)

@@ -35,10 +35,12 @@ pub use denote.Triple.Entry.{on_entry}
 pub use denote.Triple.Spec.{triple_of}
 pub use denote.Triple.Table.{entered, run_framed}
 pub use denote.Triple.Walked.{says, needs, Stays, stay_dropped, walk_of, ends_at, Goes-dropped, Goes-spent_ref, walk_Meets}
-pub use Rattle.std_alloc.{proofs.VecSteps.Shapes.{after}, proofs.RcSteps.{word, word-Good, Good}}
+pub use Rattle.std_alloc.proofs.VecSteps.Shapes.{after}
+pub use Rattle.std_alloc.proofs.RcSteps.{word, word-Good, Good}
 pub use lib.ListN.{length, set, get_or, length-set, take, length-take, length-drop, drop as drop_l}
 pub use Rattle.std.specs.Prelude.{Some, None}
-pub use Rattle.core.{proofs.mem.Param.{El, R, args, el_x, elτ}, proofs.ptr.Rows.{times_below, one_below}}
+pub use Rattle.core.proofs.mem.Param.{El, R, args, el_x, elτ}
+pub use Rattle.core.proofs.ptr.Rows.{times_below, one_below}
 pub use denote.Follow.{follows}
 pub use Rattle.std_alloc.proofs.RawLayout.{as_written}
 pub use Rattle.std.proofs.lemmas.List.{length-map}

@@ -1,6 +1,7 @@
 -- What a source that promotes has given, of what it has read.
-use Rattle.std.{proofs.lemmas.List.{nil_from_length, append_cancel_right}, specs.Int.{byte_len}}
-use Rattle.std.proofs.Common.{length-append, rules, ◌≡◌, refl, sym, ap, ◌∙◌, ℕ, ◌*◌, ◌%◌, ◌≤◌, ◌<◌, ◌⊎◌, Bool, true, false, IsTrue, List, [], ◌++◌, length, replicate, Option, Some, None, append_assoc, append-nil, mul_comm, arith}
+use Rattle.std.{proofs.lemmas.List.{nil_from_length}, proofs.Common.{length-append}, specs.Int.{byte_len}}
+use Rattle.std.proofs.Common.{rules, ◌≡◌, refl, sym, ap, ◌∙◌, ℕ, ◌*◌, ◌%◌, ◌≤◌, ◌<◌, ◌⊎◌, Bool, true, false, IsTrue, List, [], ◌++◌, length, replicate, Option, Some, None, append_assoc, append-nil, mul_comm, arith}
+use Rattle.std.proofs.lemmas.List.{append_cancel_right}
 use Rattle.zf_spec.specs.Grid.{product}
 use Rattle.zf_base.specs.Widths.{width_of}
 use Rattle.zf_header.specs.declared.header.Header.{Header}

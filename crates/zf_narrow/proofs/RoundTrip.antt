@@ -1,7 +1,8 @@
 -- Raw narrow bytes and the values that stand for them, there and back.
-use Rattle.std.{proofs.lemmas.List.Elements.{All-map, All-head, All-tail}, proofs.lemmas.Int.{ints}}
-use Rattle.std.{proofs.lemmas.List.Folds.{flat_map-map}, specs.Int.{w8, w16, w32, to_le_bytes, cast_unsigned}}
+use Rattle.std.{proofs.lemmas.List.Elements.{All-map}, proofs.lemmas.List.Folds.{flat_map-map}}
 use Rattle.std.proofs.Common.{rules, FitsSigned, ◌≡◌, refl, ℕ, ◌/◌, ◌%◌, ◌<◌, ℤ, List, [], ◌∷◌, All, map, length, arith}
+use Rattle.std.{proofs.lemmas.Int.{ints}, proofs.lemmas.List.Elements.{All-head, All-tail}}
+use Rattle.std.specs.Int.{w8, w16, w32, to_le_bytes, cast_unsigned}
 use Rattle.zf_spec.{specs.Stream.{raw, values_from}, proofs.Bytes.{first_bytes-all}}
 use Rattle.zf_spec.proofs.RawValues.{length-raw, values_from_fit, values_from-raw, raw-values_from}
 use Rattle.zf_narrow.specs.RawNarrow.{of_signed, narrow_bytes, promoted_bytes, demoted_bytes}

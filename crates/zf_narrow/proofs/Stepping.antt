@@ -1,6 +1,7 @@
 -- One read of a source that promotes: what is given is gone from what is to come.
-use Rattle.std.{proofs.lemmas.List.{nil_from_length, length-take-le}, specs.Prelude.{IfOk, ◌↔◌}}
+use Rattle.std.proofs.lemmas.List.{nil_from_length}
 use Rattle.std.proofs.Common.{rules, ◌≡◌, refl, sym, ap, ◌∙◌, ℕ, zero, ◌%◌, ◌≤◌, ◌<◌, Bool, true, false, IsTrue, List, [], ◌∷◌, ◌++◌, length, take, replicate, Option, Some, None, Result, Ok, Err, append_assoc, append-nil, arith}
+use Rattle.std.{specs.Prelude.{IfOk, ◌↔◌}, proofs.lemmas.List.{length-take-le}}
 use Rattle.zf_dev.specs.Source.{Takes, IsAtEnd, EndsAt}
 use Rattle.zf_narrow.{specs.declared.narrow.Narrow.{Narrow}, specs.declared.narrow.Narrow.TheVariants.{I8}}
 use Rattle.zf_narrow.{specs.Values.{size_of}, specs.RawNarrow.{promoted_bytes, promoted_all}}

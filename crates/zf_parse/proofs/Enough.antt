@@ -14,8 +14,9 @@ use Rattle.zf_header.{specs.declared.header.Header.{Header}}
 use Rattle.zf_header.{specs.declared.header.Mode.{Mode}, specs.HeaderFaults.{header_fault}}
 use Rattle.zf_header.specs.declared.header.Mode.TheVariants.{Reversible, Rate, Precision}
 use Rattle.zf_block.specs.Room.{longest_rev, longest_prec}
-use Rattle.zf_parse.{specs.Raw.{raw_len}, proofs.Steps.{with_block, read_next, read_codes-suc}}
+use Rattle.zf_parse.specs.Raw.{raw_len}
 use Rattle.zf_parse.specs.Parsing.{read_code, read_codes, values_of_blocks, header_of, code_bits, longest_code, longest_codes, restored_text}
+use Rattle.zf_parse.proofs.Steps.{with_block, read_next, read_codes-suc}
 
 -- ---- one code
 

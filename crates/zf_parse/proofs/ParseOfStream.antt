@@ -1,6 +1,7 @@
 -- A stream parses to what its codes say.
 use Rattle.std.proofs.Common.{◌≡◌, refl, ap, ◌∙◌, ℕ, zero, suc, ◌+◌, ◌%◌, ◌<◌, ◌≤◌, Bool, false, le-ltb, ℤ, Some, Ok, List, ◌++◌, map, length, take, drop, replicate, append_assoc, length-append, arith, rules}
-use Rattle.std.{specs.List.{flat_map}, proofs.lemmas.Simd.{map-map}, proofs.lemmas.List.{length-replicate}}
+use Rattle.std.{specs.List.{flat_map}, proofs.lemmas.Simd.{map-map}}
+use Rattle.std.proofs.lemmas.List.{length-replicate}
 use Rattle.std.proofs.Math.Seq.{take-append_seam, drop-append_seam, take-length}
 use Rattle.zf_spec.{specs.Grid.{count_from, upto, blocks, extent_of}, proofs.Reach.{has_one-zeros}}
 use Rattle.zf_spec.specs.Stream.{fill_len, with_fill, to_bytes, to_bits}

@@ -3,7 +3,8 @@ use Rattle.std.proofs.Common.{◌≡◌, refl, ap, subst, ℕ, suc, ◌-◌, Boo
 use Rattle.std.{specs.Result.{result_map_both}, proofs.lemmas.List.Elements.{All-nil, All-cons}}
 use Rattle.zf_spec.specs.Grid.{product, blocks, extent_of}
 use Rattle.zf_base.specs.Widths.{width_of}
-use Rattle.zf_header.{specs.declared.header.Header.{Header}, specs.HeaderFaults.{header_fault}}
+use Rattle.zf_header.{specs.declared.header.Header.{Header}}
+use Rattle.zf_header.specs.HeaderFaults.{header_fault}
 use Rattle.zf_parse.{specs.declared.fault.StreamFault.{StreamFault}, specs.Raw.{raw_bytes}}
 use Rattle.zf_parse.specs.Parsing.{coded_blocks, values_of_blocks, fill_answer, header_of, code_bits, Said, parse, longest_codes, restored_text}
 use Rattle.zf_parse.proofs.Steps.{Coded, codes_in, blocks_in, by_coded, values_in, values_said, read_coded}

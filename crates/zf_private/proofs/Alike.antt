@@ -159,7 +159,8 @@ module _ {Code : Type 0} (f : Format Code) (owned : ℕ → Type 0) where
   -- states that are alike give the same answer
   pub alike-answered : (s t : State Code) (a : Act) → IsWithin owned a → AreAlike owned s t → answered s a ≡ answered t a
   unfolding answered
-  alike-answered s t x o h = search rules
+  alike-answered s t (Act.get b p) o h = ap (λ vs. Some (get_or vs p (pos 0))) (h.values b o)
+  alike-answered s t x o h = refl
 
   pub alike-refl : (s : State Code) → AreAlike owned s s
   alike-refl s = record { lines = refl; held = refl; dirty = refl; counts = refl; values = λ b o. refl; codes = λ b o. refl }

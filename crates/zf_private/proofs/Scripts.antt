@@ -152,7 +152,8 @@ module _ {Code : Type 0} (setting : Setting Code) (ns : List ℕ) (n : ℕ) (som
     both_refuse s s' why v h = inl (record { together = h; replies = refl; here = refl })
 
     accepted_number : (o : Option ℤ) → is_accepted (option_map Reply.number o) ≡ true
-    accepted_number _ = search rules
+    accepted_number None = refl
+    accepted_number (Some x) = refl
 
     away_is : (j : ℕ) (reply : Option Reply) → is_accepted reply ≡ true → (j ≡ i → ⊥) → is_away (Some j) reply ≡ true
     away_is j reply accepted ne = ap (λ t. t && (true && not (eqb j i))) accepted ∙ ap not (ne_eqb j i ne)
@@ -236,7 +237,8 @@ module _ {Code : Type 0} (setting : Setting Code) (ns : List ℕ) (n : ℕ) (som
     read_stepped s s' h (Some c) x y other = search (rules, stepped, other, both_refuse)
 
     empty_text : (c : Command) → [] ≡ line_of c → ⊥
-    empty_text c e = search rules
+    empty_text (Command.get ps) e = omega (arith, ap length e)
+    empty_text c e = omega (arith, ap length e)
 
     no_line : read_line d [] ≡ None
     no_line = read_line-None d [] (λ c ok e. empty_text c e)
@@ -273,7 +275,8 @@ module _ {Code : Type 0} (setting : Setting Code) (ns : List ℕ) (n : ℕ) (som
 
 module _ {Code : Type 0} (setting : Setting Code) (start : Session Code) (n lines : ℕ) (taken : refusal setting start (Command.split n lines) false ≡ None) where
   size_false : (p a b v m : Bool) → first_refusal p a b v m ≡ None → a ≡ false
-  size_false x a b v m e = search rules
+  size_false false false b v m e = refl
+  size_false x a b v m e = absurd (cc)
 
   counted : is_view_count (format_of setting start).blocks n && is_line_count lines ≡ true
   unfolding refusal

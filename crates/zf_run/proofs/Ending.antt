@@ -1,5 +1,6 @@
 -- How a run over an array ends.
-use Rattle.std.{proofs.Common.{rules, ◌≡◌, ℕ, Bool, List, Option, ℤ, None}, specs.Int.{Width}}
+use Rattle.std.proofs.Common.{rules, ◌≡◌, ℕ, Bool, List, Option, ℤ, None}
+use Rattle.std.specs.Int.{Width}
 use Rattle.zf_cached.{specs.Windows.{Window, whole}, specs.Commands.{Command}}
 use Rattle.zf_cached.specs.Steps.{Setting, Session, flushed_views, joined, done}
 use Rattle.zf_cached.specs.Runs.{run_script, ended, run, look}

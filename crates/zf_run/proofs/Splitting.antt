@@ -3,15 +3,17 @@ use Rattle.std.proofs.Common.{rules, ◌≡◌, refl, sym, ap, subst, ◌∙◌,
 use Rattle.std.{specs.Int.{Width}, proofs.Math.Path.{fun_ext}}
 use Rattle.std.proofs.lemmas.Bool.{and_from, ne_eqb, cases_lt}
 use Rattle.std.proofs.lemmas.List.{length-map, length-replicate, get_or_append_left, get_or_push}
-use Rattle.zf_spec.{specs.Grid.{blocks}, proofs.Counting.{from_places}}
+use Rattle.zf_spec.specs.Grid.{blocks}
+use Rattle.zf_spec.proofs.Counting.{from_places}
 use Rattle.zf_base.{specs.Widths.{width_of}, specs.Formats.{Format}, specs.declared.lane.Ty.{Ty}}
 use Rattle.zf_header.{specs.declared.header.Header.{Header}, specs.declared.header.Mode.{Mode}}
 use Rattle.zf_header.specs.HeaderBits.{block_bits}
 use Rattle.zf_cached.{specs.State.{State, no_counts}, specs.Changes.{flush, opened, raised}, specs.Acts.{Act}}
 use Rattle.zf_cached.{specs.Arrays.{rate_coding, array_format}, specs.Windows.{Window}}
-use Rattle.zf_cached.{specs.Commands.{Command}, specs.Runs.{array_setting, ended}, proofs.States.{same_state}}
+use Rattle.zf_cached.{specs.Commands.{Command}}
 use Rattle.zf_cached.specs.Splits.{is_view_count, is_owner, opened_view, opened_views, no_view}
 use Rattle.zf_cached.specs.Steps.{Setting, Session, format_of, by_view, split_into, flushed_views, joined, is_line_count, done}
+use Rattle.zf_cached.{specs.Runs.{array_setting, ended}, proofs.States.{same_state}}
 use Rattle.zf_cache.{specs.Kept.{Kept, IsEmpty}, specs.Standing.{state_of, HasRoom}, proofs.Stands.{standing}}
 use Rattle.zf_cache.{proofs.Steps.{empty_fits}, proofs.Touches.{state_is, no_tag, all_meant}}
 use Rattle.zf_private.specs.Standing as private

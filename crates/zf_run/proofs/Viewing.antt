@@ -4,6 +4,7 @@ use Rattle.std.{specs.Int.{Width}, specs.Option.{option_map}, proofs.Math.Path.{
 use Rattle.std.proofs.Math.Bool.{and-false}
 use Rattle.std.proofs.lemmas.Bool.{false≢true, and_from, and_parts, lt-ltb, ltb-true, le-ltb, le-leb, leb-true, cases_eq}
 use Rattle.std.proofs.lemmas.List.{get_or-map, get_or_default, map-set, length-map, length-set, get_or-set_other, get_or-set_same, ext_get_or}
+use Rattle.std.proofs.lemmas.Grind.{get_or-set_at}
 use Rattle.zf_spec.specs.Grid.{blocks, is_inside}
 use Rattle.zf_base.{specs.Widths.{width_of}, specs.Places.{block_number}, specs.declared.position.Pos.{Pos}}
 use Rattle.zf_base.{specs.Positions.{used_axes, with_unused, IsPosition}, specs.Formats.{Format, meant}}

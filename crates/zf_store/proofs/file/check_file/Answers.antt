@@ -1,4 +1,5 @@
-use Rattle.std.{proofs.Common.{◌≡◌, ◌≢◌, refl, ℕ, false, IsTrue, arith, rules}, proofs.lemmas.Bool.{cases_eq}}
+use Rattle.std.proofs.Common.{◌≡◌, ◌≢◌, refl, ℕ, false, IsTrue, arith, rules}
+use Rattle.std.proofs.lemmas.Bool.{cases_eq}
 use Rattle.zf_store.proofs.Opened.{parse_one, parse_more, whole_file}
 use Rattle.zf_store.proofs.file.check_file.Goals as goal
 

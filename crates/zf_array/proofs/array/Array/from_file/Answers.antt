@@ -1,7 +1,8 @@
 use Rattle.std.{proofs.Common.{◌≡◌, sym, ap, subst, ◌∙◌, length, rules}, specs.Vec.{vec_len}}
 use Rattle.zf_spec.specs.Grid.{blocks, IsShape}
 use Rattle.zf_header.{specs.declared.header.Header.{Header}, specs.HeaderBits.{IsRate, rate_bytes_of}}
-use Rattle.zf_store.{specs.Stored.{Stored, code_at, format_of}, proofs.Opened.{is_header}}
+use Rattle.zf_store.specs.Stored.{Stored, code_at, format_of}
+use Rattle.zf_store.proofs.Opened.{is_header}
 use Rattle.zf_base.specs.Widths.{width_of}
 use Rattle.zf_cached.specs.Changes.{opened, raised}
 use Rattle.zf_array.{specs.Parts.{held_by}, proofs.Standing.{stored_held}}

@@ -1,4 +1,5 @@
-use Rattle.std.{proofs.Common.{refl, sym, ap, ◌∙◌, rules}, proofs.lemmas.List.{take_at}}
+use Rattle.std.proofs.Common.{refl, sym, ap, ◌∙◌, rules}
+use Rattle.std.proofs.lemmas.List.{take_at}
 use Rattle.zf_store.specs.Stored.{file_of}
 use Rattle.zf_array.{proofs.Standing.{stored_now, header_now}, proofs.Steps.{saved_is}}
 use Rattle.zf_array.proofs.array.Array.save_bytes.Goals as goal

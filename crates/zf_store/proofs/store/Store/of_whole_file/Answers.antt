@@ -1,6 +1,7 @@
 use Rattle.std.proofs.Common.{◌<◌, lit<, rules}
 use Rattle.std.{proofs.lemmas.Result.{IfOk-weaker}, proofs.lemmas.List.Elements.{All-from_get_or}}
-use Rattle.zf_store.{specs.Files.{IsOpened}, proofs.Kept.{blank_behind}, proofs.Opened.{enough_bits, opened}}
+use Rattle.zf_store.specs.Files.{IsOpened}
+use Rattle.zf_store.{proofs.Kept.{blank_behind}, proofs.Opened.{enough_bits, opened}}
 use Rattle.zf_store.proofs.store.Store.of_whole_file.Goals as goal
 
 pub with_words-requires : goal.with_words-requires

@@ -1,6 +1,8 @@
-use Rattle.std.{proofs.Common.{◌≡◌, replicate, lit<, arith, rules}, proofs.lemmas.Result.{IfOk-weaker}}
+use Rattle.std.proofs.Common.{◌≡◌, replicate, lit<, arith, rules}
+use Rattle.std.proofs.lemmas.Result.{IfOk-weaker}
 use Rattle.zf_spec.specs.Grid.{blocks}
-use Rattle.zf_store.{proofs.Cut.{codes_in-zeros}, proofs.Kept.{blank_words}}
+use Rattle.zf_store.proofs.Cut.{codes_in-zeros}
+use Rattle.zf_store.proofs.Kept.{blank_words}
 use Rattle.zf_store.proofs.store.Store.zeros.Goals as goal
 
 pub with_words-requires : goal.with_words-requires
