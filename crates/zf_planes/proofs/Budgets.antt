@@ -59,6 +59,3 @@ Remains-through {old} {now} {new} {budget} {left} {after} {whole} code rest more
     let short = length-append rest more in
     search (rules, take_append, append_assoc)
 
--- all of the rest is written but for its end
-pub Remains-but : {old now new : Writer} {budget left after : ℕ} {whole : List Bool} (code rest : List Bool) → Remains old now budget left whole code → Remains now new left after code rest → Remains old new budget after whole rest
-Remains-but code rest outer inner = Remains-same (Remains-through code rest [] (Remains-same outer (sym (append-nil code))) inner) (append-nil rest)

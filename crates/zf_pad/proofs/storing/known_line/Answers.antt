@@ -13,7 +13,6 @@ sizes ny nz nw y z w e f g = ap (λ k. k * (nz * (nw * 1))) e ∙ ap (λ k. y * 
 pub along-requires-3-clause-fits : goal.along-requires-3-clause-fits
 along-requires-3-clause-fits c = search (rules, chain, sizes, others_fit)
 
-
 pub returns-clause-known : goal.returns-clause-known
 returns-clause-known c =
     let ny = c.size-ny.result in
