@@ -58,4 +58,3 @@ Remains-through {old} {now} {new} {budget} {left} {after} {whole} code rest more
     let long = length-append code more in
     let short = length-append rest more in
     search (rules, take_append, append_assoc)
-
