@@ -1,10 +1,10 @@
 //! The blocks of the format's worked rows, and blocks of both types against a program that was written from
 //! the definitions alone.
 
-ghost use Rattle.std.specs.Prelude.{◌≡◌, ◌≤◌, ◌^◌, length};
-ghost use Rattle.zf_base.specs.Positions.{IsExtent};
+ghost use Rattle.std.specs.Prelude.{◌≡◌, ◌^◌, vec_len};
 
 use std::alloc::{AllocError, Global};
+use std::marker::Model;
 use std::process::Abort;
 use std::test::Fail;
 use zf_base::{Extent, Lane, Shape, block_len};
@@ -49,123 +49,129 @@ enum Code {
     Precision(u32),
 }
 
+/// The part that exists of the block of an array of one block. Contracts see of how many dimensions.
+#[derive(Drop)]
+struct Part {
+    d: u8,
+    e: Extent,
+}
+
+impl Model for Part {
+    ghost use Rattle.std.specs.Prelude.{ℕ, ◌≤◌};
+    ghost use Rattle.zf_base.specs.Positions.{IsExtent};
+
+    ghost Value = { ℕ };
+
+    ghost view = { λ p. p.d };
+
+    ghost invariant = { λ p. (1 ≤ p.d) × (p.d ≤ 4) × IsExtent p.d p.e };
+}
+
+/// The part that exists of the block of an array of these sizes.
+fn part_of(rt: &impl Abort, dims: u8, sizes: &[u64; 4]) -> Part {
+    assert!(rt; 1 <= dims && dims <= 4);
+    let [x, y, z, w] = *sizes;
+    let Ok(shape) = Shape::new(dims, x, y, z, w) else {
+        panic!(rt; "no shape");
+    };
+    assert!(rt; shape.blocks() == 1);
+    Part {
+        d: dims,
+        e: shape.extent(0),
+    }
+}
+
+/// A block: the part of it that exists, the values at all places, and the room that it is written and read in.
+#[derive(Drop)]
+struct Block<T: Lane> {
+    part: Part,
+    values: Vec<T>,
+    scratch: Scratch<T>,
+    ghost whole: { vec_len values ≡ 4 ^ part },
+    ghost room: { scratch ≡ part },
+}
+
+/// A block of zeros, of which this part exists.
+fn block_of<T: Lane>(alloc: Global, part: Part) -> Result<Block<T>, AllocError> {
+    let values = vec![in alloc; T::zero(); block_len(part.d)]?;
+    let scratch = Scratch::new(alloc, part.d)?;
+    Ok(Block {
+        part,
+        values,
+        scratch,
+    })
+}
+
+/// Writes the code of a block of so many bits.
+fn write_at_rate<T: Lane>(
+    block: &mut Block<T>,
+    bits: u32,
+    out: &mut BitWriter,
+) -> Result<(), AllocError> {
+    out.reserve(u64::from(bits))?;
+    let Part { d, e } = &block.part;
+    encode_rate(*d, e, bits, &block.values, &mut block.scratch, out);
+    Ok(())
+}
+
 /// Writes the code of a block.
 fn write<T: Lane>(
-    d: u8,
-    e: &Extent,
+    block: &mut Block<T>,
     code: &Code,
-    block: &[T],
-    s: &mut Scratch<T>,
     out: &mut BitWriter,
-) -> Result<(), AllocError>
-    requires dimension { (1 ≤ d) × (d ≤ 4) }
-    requires extent { IsExtent d e.now }
-    requires block { length block.now ≡ 4 ^ d }
-    requires scratch { s.old ≡ d }
-    ensures scratch { s.new ≡ d }
-{
+) -> Result<(), AllocError> {
+    let Part { d, e } = &block.part;
     match *code {
-        Code::Reversible => encode_rev(d, e, block, s, out),
-        Code::Rate(bits, _) => {
-            out.reserve(u64::from(bits))?;
-            encode_rate(d, e, bits, block, s, out);
-            Ok(())
-        }
-        Code::Precision(prec) => encode_prec(d, e, prec, block, s, out),
+        Code::Reversible => encode_rev(*d, e, &block.values, &mut block.scratch, out),
+        Code::Rate(bits, _) => write_at_rate(block, bits, out),
+        Code::Precision(prec) => encode_prec(*d, e, prec, &block.values, &mut block.scratch, out),
     }
 }
 
 /// Reads the block of a code of so many bits. The answer is whether they were there, and the planes from this
 /// one on are whole and no others.
 fn read_at_rate<T: Lane>(
-    d: u8,
+    block: &mut Block<T>,
     bits: u32,
     plane: u32,
     reader: &mut BitReader<'_>,
-    s: &mut Scratch<T>,
-    block: &mut [T],
-) -> bool
-    requires dimension { (1 ≤ d) × (d ≤ 4) }
-    requires block { length block.old ≡ 4 ^ d }
-    requires scratch { s.old ≡ d }
-{
+) -> bool {
     if reader.left() < u64::from(bits) {
         return false;
     }
+    let d = block.part.d;
     let mut again = reader.another();
-    decode_rate(d, bits, reader, block);
-    whole_planes(d, bits, &mut again, s) == plane && again.left() == 0
+    decode_rate(d, bits, reader, &mut block.values);
+    whole_planes(d, bits, &mut again, &mut block.scratch) == plane && again.left() == 0
 }
 
 /// Reads the block of a code. The answer is whether the code was there, and no more.
-fn read<T: Lane>(d: u8, code: &Code, bits: &BitWriter, s: &mut Scratch<T>, block: &mut [T]) -> bool
-    requires dimension { (1 ≤ d) × (d ≤ 4) }
-    requires block { length block.old ≡ 4 ^ d }
-    requires scratch { s.old ≡ d }
-{
+fn read<T: Lane>(block: &mut Block<T>, code: &Code, bits: &BitWriter) -> bool {
+    let d = block.part.d;
     let mut reader = BitReader::new(bits.words(), bits.len());
     let found = match *code {
-        Code::Reversible => decode_rev(d, &mut reader, block).is_some(),
-        Code::Rate(bits, plane) => read_at_rate(d, bits, plane, &mut reader, s, block),
-        Code::Precision(prec) => decode_prec(d, prec, &mut reader, block).is_some(),
+        Code::Reversible => decode_rev(d, &mut reader, &mut block.values).is_some(),
+        Code::Rate(bits, plane) => read_at_rate(block, bits, plane, &mut reader),
+        Code::Precision(prec) => decode_prec(d, prec, &mut reader, &mut block.values).is_some(),
     };
     found && reader.left() == 0
 }
 
-/// Writes a block and reads it again, as `both_ways` says. `known` is the length and the digest of its code.
-fn there_and_back<T: Lane>(
-    d: u8,
-    e: &Extent,
-    code: &Code,
-    known: (u64, u64),
-    block: &mut [T],
-    s: &mut Scratch<T>,
-    out: &mut BitWriter,
-) -> Result<bool, AllocError>
-    requires dimension { (1 ≤ d) × (d ≤ 4) }
-    requires extent { IsExtent d e.now }
-    requires block { length block.old ≡ 4 ^ d }
-    requires scratch { s.old ≡ d }
-{
-    write(d, e, code, block, s, out)?;
-    clear(block);
-    Ok(read(d, code, out, s, block) && out.len() == known.0 && digest(out.words()) == known.1)
-}
-
-/// Writes a block of which this part exists, and reads it again. The answer is whether the code has this
-/// length and this digest, and was there.
+/// Writes a block and reads it again. The answer is whether the code has this length and this digest, and was
+/// there.
 fn both_ways<T: Lane>(
     alloc: Global,
-    d: u8,
-    e: &Extent,
+    block: &mut Block<T>,
     code: &Code,
     len: u64,
     sum: u64,
-    block: &mut [T],
-) -> Result<bool, AllocError>
-    requires dimension { (1 ≤ d) × (d ≤ 4) }
-    requires extent { IsExtent d e.now }
-    requires block { length block.old ≡ 4 ^ d }
-{
-    let mut s = Scratch::new(alloc, d)?;
+) -> Result<bool, AllocError> {
     let mut out = BitWriter::new(alloc);
-    let same = there_and_back(d, e, code, (len, sum), block, &mut s, &mut out);
+    write(block, code, &mut out)?;
+    clear(&mut block.values);
+    let same = read(block, code, &out) && out.len() == len && digest(out.words()) == sum;
     drop(out);
-    drop(s);
-    same
-}
-
-/// The part that exists of the block of an array of one block.
-fn extent_of(rt: &impl Abort, dims: u8, sizes: &[u64; 4]) -> Extent
-    requires { (1 ≤ dims) × (dims ≤ 4) }
-    ensures { IsExtent dims result }
-{
-    let [x, y, z, w] = *sizes;
-    let Ok(shape) = Shape::new(dims, x, y, z, w) else {
-        panic!(rt; "no shape");
-    };
-    assert!(rt; shape.blocks() == 1);
-    shape.extent(0)
+    Ok(same)
 }
 
 /// A row of one dimension: how many values exist, the block, the code, its length and its digest, and what
@@ -479,11 +485,22 @@ static WIDE_FOURS: [Line<i64>; 12] = [
     ),
 ];
 
+/// Gives a block these values. The answer is whether they are as many as it has.
+fn put<T: Lane>(block: &mut Block<T>, values: &[T]) -> bool {
+    if block.values.len() != values.len() {
+        return false;
+    }
+    block.values.copy_from_slice(values);
+    true
+}
+
 fn lines_are<T: Lane>(rt: &impl Abort, alloc: Global, rows: &[Line<T>]) -> Result<(), AllocError> {
     for (n, values, code, len, sum, back) in rows {
-        let e = extent_of(rt, 1, &[*n, 1, 1, 1]);
-        let mut block: [T; 4] = *values;
-        assert!(rt; both_ways(alloc, 1, &e, code, *len, *sum, &mut block)? && block == *back);
+        let mut block = block_of(alloc, part_of(rt, 1, &[*n, 1, 1, 1]))?;
+        assert!(rt; put(&mut block, values));
+        assert!(rt; both_ways(alloc, &mut block, code, *len, *sum)?);
+        assert!(rt; block.values.as_slice() == back.as_slice());
+        drop(block);
     }
     Ok(())
 }
@@ -697,47 +714,26 @@ static WIDE: [Row; 4] = [
     },
 ];
 
-/// Whether a block of which this part exists has these codes, each length, digest and block that comes back.
+/// Whether a block has these codes, each length, digest and block that comes back.
 fn has_codes<T: Lane>(
     alloc: Global,
-    d: u8,
-    e: &Extent,
+    block: &mut Block<T>,
     codes: &[(Code, u64, u64, u64)],
-    block: &mut [T],
-) -> Result<bool, AllocError>
-    requires dimension { (1 ≤ d) × (d ≤ 4) }
-    requires extent { IsExtent d e.now }
-    requires block { length block.old ≡ 4 ^ d }
-{
+) -> Result<bool, AllocError> {
     for (code, len, sum, back) in codes {
-        fill(block);
-        if !both_ways(alloc, d, e, code, *len, *sum, block)? || digest_of(block) != *back {
+        fill(&mut block.values);
+        if !both_ways(alloc, block, code, *len, *sum)? || digest_of(&block.values) != *back {
             return Ok(false);
         }
     }
     Ok(true)
 }
 
-fn is_as_in<T: Lane>(
-    alloc: Global,
-    d: u8,
-    e: &Extent,
-    codes: &[(Code, u64, u64, u64)],
-) -> Result<bool, AllocError>
-    requires dimension { (1 ≤ d) × (d ≤ 4) }
-    requires extent { IsExtent d e.now }
-{
-    let mut block = vec![in alloc; T::zero(); block_len(d)]?;
-    let same = has_codes(alloc, d, e, codes, &mut block);
-    drop(block);
-    same
-}
-
 fn are_as_in<T: Lane>(rt: &impl Abort, alloc: Global, rows: &[Row]) -> Result<(), AllocError> {
     for row in rows {
-        assert!(rt; 1 <= row.dims && row.dims <= 4);
-        let e = extent_of(rt, row.dims, &row.sizes);
-        assert!(rt; is_as_in::<T>(alloc, row.dims, &e, row.codes)?);
+        let mut block = block_of::<T>(alloc, part_of(rt, row.dims, &row.sizes))?;
+        assert!(rt; has_codes(alloc, &mut block, row.codes)?);
+        drop(block);
     }
     Ok(())
 }

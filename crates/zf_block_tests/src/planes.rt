@@ -1,10 +1,11 @@
 //! Values of the format's table of plane codes, and of a program that computes the definitions digit by
 //! digit.
 
-ghost use Rattle.std.specs.Prelude.{◌≡◌, ◌<◌, ◌≤◌, ◌⊎◌, IsTrue};
+ghost use Rattle.std.specs.Prelude.{◌<◌, ◌≤◌};
 
-use crate::support::{is_block_size, with_room};
+use crate::support::with_room;
 use std::alloc::{AllocError, Global};
+use std::marker::Model;
 use std::process::Abort;
 use std::test::Fail;
 use zf_bits::{BitReader, BitWriter};
@@ -148,92 +149,93 @@ fn has_ones(bits: &BitWriter, ones: &[u64]) -> bool {
     all
 }
 
+// The planes of a case whose size is one that a block can have.
+#[derive(Drop)]
+struct Planes<'a> {
+    case: &'a Case,
+    words: [[u64; 4]; 3],
+}
+
+impl<'a> Model for Planes<'a> {
+    ghost use Rattle.std.specs.Prelude.{ℕ, ◌≡◌, ◌⊎◌};
+
+    ghost Value = { ℕ };
+
+    ghost view = { λ p. p.case.now.size };
+
+    ghost invariant = { λ p. (p.case.now.size ≡ 4) ⊎ (p.case.now.size ≡ 16) ⊎ (p.case.now.size ≡ 64)
+        ⊎ (p.case.now.size ≡ 256) };
+}
+
+// The planes of a case, where its size is one that a block can have.
+fn planes_of<'a>(rt: &impl Abort, case: &'a Case) -> Option<Planes<'a>> {
+    let words = planes_with(rt, case.ones);
+    match case.size {
+        4 | 16 | 64 | 256 => Some(Planes { case, words }),
+        _ => None,
+    }
+}
+
 // Whether a code gives back these planes.
-fn gives_back(budget: u64, size: usize, code: &BitWriter, kept: &[[u64; 4]; 3]) -> bool
-    requires { (size ≡ 4) ⊎ (size ≡ 16) ⊎ (size ≡ 64) ⊎ (size ≡ 256) }
-{
+fn gives_back(budget: u64, planes: &Planes<'_>, code: &BitWriter, kept: &[[u64; 4]; 3]) -> bool {
     let len = code.len();
     let mut reader = BitReader::new(code.words(), len);
     let mut again = [[u64::MAX; 4]; 4];
-    let count = decode(budget, 3, size, &mut reader, &mut again);
+    let count = decode(budget, 3, planes.case.size, &mut reader, &mut again);
     count == Some(len) && reader.at() == len && again == [[0; 4], kept[0], kept[1], kept[2]]
 }
 
 // Whether a code gives nothing where its last bit is not there.
-fn wants_its_last_bit(budget: u64, size: usize, code: &BitWriter) -> bool
-    requires { (size ≡ 4) ⊎ (size ≡ 16) ⊎ (size ≡ 64) ⊎ (size ≡ 256) }
-{
+fn wants_its_last_bit(budget: u64, planes: &Planes<'_>, code: &BitWriter) -> bool {
     let len = code.len();
     if len == 0 {
         return true;
     }
     let mut short = BitReader::new(code.words(), len - 1);
     let mut again = [[0; 4]; 4];
-    decode(budget, 3, size, &mut short, &mut again).is_none() && short.at() == 0
+    decode(budget, 3, planes.case.size, &mut short, &mut again).is_none() && short.at() == 0
 }
 
-// Whether the planes have this code, as far as a budget reaches, and it gives back what is kept.
+// Whether the planes have their code, as far as a budget reaches, and it gives back what is kept.
 fn is_kept(
     alloc: Global,
     budget: u64,
-    size: usize,
-    planes: &[[u64; 4]; 3],
-    len: u64,
-    ones: &[u64],
+    planes: &Planes<'_>,
     kept: &[[u64; 4]; 3],
-) -> Result<bool, AllocError>
-    requires { (size ≡ 4) ⊎ (size ≡ 16) ⊎ (size ≡ 64) ⊎ (size ≡ 256) }
-{
+) -> Result<bool, AllocError> {
+    let case = planes.case;
     let mut code = with_room(alloc, 1024)?;
-    let count = encode(budget, 3, size, planes, &mut code);
-    let is_same = count == len.min(budget)
+    let count = encode(budget, 3, case.size, &planes.words, &mut code);
+    let is_same = count == case.code_len.min(budget)
         && code.len() == count
-        && has_ones(&code, ones)
-        && gives_back(budget, size, &code, kept)
-        && wants_its_last_bit(budget, size, &code);
+        && has_ones(&code, case.code)
+        && gives_back(budget, planes, &code, kept)
+        && wants_its_last_bit(budget, planes, &code);
     drop(code);
     Ok(is_same)
 }
 
 // Writes the planes and reads them again at each budget.
-fn are_kept(
-    rt: &impl Abort,
-    alloc: Global,
-    size: usize,
-    planes: &[[u64; 4]; 3],
-    len: u64,
-    ones: &[u64],
-    rows: &[(u64, &[(usize, usize)])],
-) -> Result<(), AllocError>
-    requires { (size ≡ 4) ⊎ (size ≡ 16) ⊎ (size ≡ 64) ⊎ (size ≡ 256) }
-{
-    for (budget, ones_kept) in rows {
+fn are_kept(rt: &impl Abort, alloc: Global, planes: &Planes<'_>) -> Result<(), AllocError> {
+    for (budget, ones_kept) in planes.case.kept {
         let kept = planes_with(rt, ones_kept);
-        assert!(rt; is_kept(alloc, *budget, size, planes, len, ones, &kept)?);
+        assert!(rt; is_kept(alloc, *budget, planes, &kept)?);
     }
     Ok(())
 }
 
-// Whether the planes have a code of so many bits.
-fn has_len(size: usize, planes: &[[u64; 4]; 3], len: u64) -> bool
-    ensures { IsTrue result → (size ≡ 4) ⊎ (size ≡ 16) ⊎ (size ≡ 64) ⊎ (size ≡ 256) }
-{
-    is_block_size(size) && code_len(3, size, planes) == len
+// Whether the planes have a code of so many bits as their case says.
+fn has_len(planes: &Planes<'_>) -> bool {
+    code_len(3, planes.case.size, &planes.words) == planes.case.code_len
 }
 
 fn all_are_kept(rt: &impl Abort, alloc: Global, cases: &[Case]) -> Result<(), AllocError> {
     for case in cases {
-        let planes = planes_with(rt, case.ones);
-        assert!(rt; has_len(case.size, &planes, case.code_len));
-        are_kept(
-            rt,
-            alloc,
-            case.size,
-            &planes,
-            case.code_len,
-            case.code,
-            case.kept,
-        )?;
+        let Some(planes) = planes_of(rt, case) else {
+            panic!(rt; "no block has planes of this size");
+        };
+        assert!(rt; has_len(&planes));
+        are_kept(rt, alloc, &planes)?;
     }
     Ok(())
 }
@@ -291,36 +293,47 @@ fn first_words(planes: &[[u64; 4]; 3]) -> [u64; 3] {
     [planes[0][0], planes[1][0], planes[2][0]]
 }
 
+// The planes of a case of a size that goes into a word, one word each.
+#[derive(Drop)]
+struct Words<'a> {
+    case: &'a Case,
+    planes: [u64; 3],
+    ghost some: { 0 < case.now.size },
+    ghost in_word: { case.now.size ≤ 64 },
+}
+
+// The planes of a case as words, where its size goes into one.
+fn words_of<'a>(rt: &impl Abort, case: &'a Case) -> Option<Words<'a>> {
+    let planes = first_words(&planes_with(rt, case.ones));
+    if 0 < case.size && case.size <= 64 {
+        Some(Words { case, planes })
+    } else {
+        None
+    }
+}
+
 // Whether a code gives back these planes of one word each.
-fn gives_back_words(budget: u64, size: usize, code: &BitWriter, kept: &[u64; 3]) -> bool
-    requires some { 0 < size }
-    requires in_word { size ≤ 64 }
-{
+fn gives_back_words(budget: u64, words: &Words<'_>, code: &BitWriter, kept: &[u64; 3]) -> bool {
     let mut reader = BitReader::new(code.words(), code.len());
     let mut again = [0; 4];
-    let count = read_planes(budget, 3, size, &mut reader, &mut again);
+    let count = read_planes(budget, 3, words.case.size, &mut reader, &mut again);
     count == Some(code.len()) && again == [0, kept[0], kept[1], kept[2]]
 }
 
-// Whether planes of one word each have this code, as far as a budget reaches, and it gives back what is kept.
+// Whether planes of one word each have their code, as far as a budget reaches, and it gives back what is kept.
 fn words_are_kept(
     alloc: Global,
     budget: u64,
-    size: usize,
-    planes: &[u64; 3],
-    len: u64,
-    ones: &[u64],
+    words: &Words<'_>,
     kept: &[u64; 3],
-) -> Result<bool, AllocError>
-    requires some { 0 < size }
-    requires in_word { size ≤ 64 }
-{
+) -> Result<bool, AllocError> {
+    let case = words.case;
     let mut code = with_room(alloc, 256)?;
-    let count = write_planes_below(0, budget, 3, size, planes, &mut code);
-    let is_same = count == len.min(budget)
+    let count = write_planes_below(0, budget, 3, case.size, &words.planes, &mut code);
+    let is_same = count == case.code_len.min(budget)
         && code.len() == count
-        && has_ones(&code, ones)
-        && gives_back_words(budget, size, &code, kept);
+        && has_ones(&code, case.code)
+        && gives_back_words(budget, words, &code, kept);
     drop(code);
     Ok(is_same)
 }
@@ -329,43 +342,27 @@ fn words_are_kept(
 fn words_are_kept_at_each(
     rt: &impl Abort,
     alloc: Global,
-    size: usize,
-    planes: &[u64; 3],
-    len: u64,
-    ones: &[u64],
-    rows: &[(u64, &[(usize, usize)])],
-) -> Result<(), AllocError>
-    requires some { 0 < size }
-    requires in_word { size ≤ 64 }
-{
-    for (budget, ones_kept) in rows {
+    words: &Words<'_>,
+) -> Result<(), AllocError> {
+    for (budget, ones_kept) in words.case.kept {
         let kept = first_words(&planes_with(rt, ones_kept));
-        assert!(rt; words_are_kept(alloc, *budget, size, planes, len, ones, &kept)?);
+        assert!(rt; words_are_kept(alloc, *budget, words, &kept)?);
     }
     Ok(())
 }
 
-// Whether planes of one word each have a code of so many bits.
-fn words_have_len(size: usize, planes: &[u64; 3], len: u64) -> bool
-    ensures some { IsTrue result → 0 < size }
-    ensures in_word { IsTrue result → size ≤ 64 }
-{
-    0 < size && size <= 64 && planes_len(3, size, planes) == len
+// Whether planes of one word each have a code of so many bits as their case says.
+fn words_have_len(words: &Words<'_>) -> bool {
+    planes_len(3, words.case.size, &words.planes) == words.case.code_len
 }
 
 fn all_words_are_kept(rt: &impl Abort, alloc: Global, cases: &[Case]) -> Result<(), AllocError> {
     for case in cases {
-        let planes = first_words(&planes_with(rt, case.ones));
-        assert!(rt; words_have_len(case.size, &planes, case.code_len));
-        words_are_kept_at_each(
-            rt,
-            alloc,
-            case.size,
-            &planes,
-            case.code_len,
-            case.code,
-            case.kept,
-        )?;
+        let Some(words) = words_of(rt, case) else {
+            panic!(rt; "planes of this size go into no word");
+        };
+        assert!(rt; words_have_len(&words));
+        words_are_kept_at_each(rt, alloc, &words)?;
     }
     Ok(())
 }
@@ -414,25 +411,37 @@ static SEVERAL: [Several; 2] = [
     },
 ];
 
-// Whether eight planes have this code, as far as a budget reaches, and it gives back what is kept.
+// A case of eight planes whose size is 1 to 16.
+#[derive(Drop)]
+struct Eight<'a> {
+    case: &'a Several,
+    ghost some: { 0 < case.now.size },
+    ghost small: { case.now.size ≤ 16 },
+}
+
+// The case, where its size is 1 to 16, and its code goes into a word.
+fn eight_of<'a>(case: &'a Several) -> Option<Eight<'a>> {
+    if 0 < case.size && case.size <= 16 && case.len <= 64 {
+        Some(Eight { case })
+    } else {
+        None
+    }
+}
+
+// Whether eight planes have their code, as far as a budget reaches, and it gives back what is kept.
 fn have_one_code(
     alloc: Global,
     budget: u64,
-    size: usize,
-    planes: &[u64; 8],
-    len: u64,
-    number: u64,
+    eight: &Eight<'_>,
     kept: &[u64; 8],
-) -> Result<bool, AllocError>
-    requires some { 0 < size }
-    requires small { size ≤ 16 }
-{
+) -> Result<bool, AllocError> {
+    let case = eight.case;
     let mut code = with_room(alloc, 256)?;
-    let count = write_planes_below(0, budget, 8, size, planes, &mut code);
-    let is_same = count == len.min(budget)
+    let count = write_planes_below(0, budget, 8, case.size, &case.planes, &mut code);
+    let is_same = count == case.len.min(budget)
         && code.len() == count
-        && has_low_bits(&code, count, number)
-        && gives_back_eight(budget, size, &code, kept);
+        && has_low_bits(&code, count, case.code)
+        && gives_back_eight(budget, eight, &code, kept);
     drop(code);
     Ok(is_same)
 }
@@ -443,13 +452,10 @@ fn has_low_bits(bits: &BitWriter, count: u64, number: u64) -> bool {
 }
 
 // Whether a code gives back these eight planes.
-fn gives_back_eight(budget: u64, size: usize, code: &BitWriter, kept: &[u64; 8]) -> bool
-    requires some { 0 < size }
-    requires small { size ≤ 16 }
-{
+fn gives_back_eight(budget: u64, eight: &Eight<'_>, code: &BitWriter, kept: &[u64; 8]) -> bool {
     let mut reader = BitReader::new(code.words(), code.len());
     let mut again = [0; 8];
-    let count = read_planes(budget, 8, size, &mut reader, &mut again);
+    let count = read_planes(budget, 8, eight.case.size, &mut reader, &mut again);
     count == Some(code.len()) && again == *kept
 }
 
@@ -457,33 +463,20 @@ fn gives_back_eight(budget: u64, size: usize, code: &BitWriter, kept: &[u64; 8])
 fn have_one_code_at_each(
     rt: &impl Abort,
     alloc: Global,
-    size: usize,
-    planes: &[u64; 8],
-    len: u64,
-    number: u64,
-    rows: &[(u64, [u64; 8])],
-) -> Result<(), AllocError>
-    requires some { 0 < size }
-    requires small { size ≤ 16 }
-{
-    for (budget, kept) in rows {
-        assert!(rt; have_one_code(alloc, *budget, size, planes, len, number, kept)?);
+    eight: &Eight<'_>,
+) -> Result<(), AllocError> {
+    for (budget, kept) in eight.case.kept {
+        assert!(rt; have_one_code(alloc, *budget, eight, kept)?);
     }
     Ok(())
 }
 
 fn all_have_one_code(rt: &impl Abort, alloc: Global, cases: &[Several]) -> Result<(), AllocError> {
     for case in cases {
-        assert!(rt; 0 < case.size && case.size <= 16 && case.len <= 64);
-        have_one_code_at_each(
-            rt,
-            alloc,
-            case.size,
-            &case.planes,
-            case.len,
-            case.code,
-            case.kept,
-        )?;
+        let Some(eight) = eight_of(case) else {
+            panic!(rt; "no code of eight planes in a word");
+        };
+        have_one_code_at_each(rt, alloc, &eight)?;
     }
     Ok(())
 }
@@ -495,18 +488,18 @@ fn several_planes_have_one_code(rt: HostRuntime) -> Result<(), Fail> {
 }
 
 // Whether budgets reach so many whole planes.
-fn reach(rt: &impl Abort, size: usize, planes: &[[u64; 4]; 3], rows: &[(u64, u32)])
-    requires { size ≤ 256 }
-{
-    for (budget, count) in rows {
-        assert!(rt; planes_within(*budget, size, planes) == *count);
+fn reach(rt: &impl Abort, planes: &Planes<'_>) {
+    for (budget, count) in planes.case.within {
+        assert!(rt; planes_within(*budget, planes.case.size, &planes.words) == *count);
     }
 }
 
 fn fit_whole(rt: &impl Abort, cases: &[Case]) {
     for case in cases {
-        assert!(rt; case.size <= 256);
-        reach(rt, case.size, &planes_with(rt, case.ones), case.within);
+        let Some(planes) = planes_of(rt, case) else {
+            panic!(rt; "no block has planes of this size");
+        };
+        reach(rt, &planes);
     }
 }
 

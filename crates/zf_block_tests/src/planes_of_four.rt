@@ -78,6 +78,23 @@ static CASES: [Case; 5] = [
     },
 ];
 
+// A case whose planes a digit has, and whose code has no more of them.
+#[derive(Drop)]
+struct Four<'a> {
+    case: &'a Case,
+    ghost in_word: { case.now.width ≤ 64 },
+    ghost planes: { case.now.prec ≤ case.now.width },
+}
+
+// The case, where a digit has so many planes, and the code no more.
+fn four_of<'a>(case: &'a Case) -> Option<Four<'a>> {
+    if case.width <= 64 && case.prec <= case.width {
+        Some(Four { case })
+    } else {
+        None
+    }
+}
+
 // The planes that the digits of ranks 0 to 3 make.
 fn planes_by_digits(digits: &[u64; 4]) -> [u64; 64] {
     let mut planes = [0; 64];
@@ -91,20 +108,18 @@ fn planes_by_digits(digits: &[u64; 4]) -> [u64; 64] {
 
 // Writes the code of the case, as far as a budget reaches. The answer is whether as many bits were written as
 // it says.
-fn write(budget: u64, case: &Case, out: &mut BitWriter) -> bool
-    requires width { case.now.width ≤ 64 }
-    requires planes { case.now.prec ≤ case.now.width }
+fn write(budget: u64, four: &Four<'_>, out: &mut BitWriter) -> bool
     requires room { 512 ≤ out.old.room }
 {
+    let case = four.case;
     write_four(0, budget, case.prec, case.width, &case.digits, out) == out.len()
 }
 
 // The same by way of planes in words.
-fn write_as_planes(budget: u64, case: &Case, out: &mut BitWriter) -> bool
-    requires width { case.now.width ≤ 64 }
-    requires planes { case.now.prec ≤ case.now.width }
+fn write_as_planes(budget: u64, four: &Four<'_>, out: &mut BitWriter) -> bool
     requires room { 512 ≤ out.old.room }
 {
+    let case = four.case;
     let planes = planes_by_digits(&case.digits);
     let used = &planes[..case.width as usize];
     write_planes_below(0, budget, case.prec, 4, used, out) == out.len()
@@ -127,16 +142,13 @@ static BUDGETS: [u64; 12] = [0, 1, 17, 31, 40, 63, 64, 65, 129, 200, 258, 259];
 fn keeps_a_part(
     alloc: Global,
     budget: u64,
-    case: &Case,
+    four: &Four<'_>,
     all: &BitWriter,
-) -> Result<bool, AllocError>
-    requires width { case.now.width ≤ 64 }
-    requires planes { case.now.prec ≤ case.now.width }
-{
+) -> Result<bool, AllocError> {
     let mut part = with_room(alloc, 512)?;
     let mut by_planes = with_room(alloc, 512)?;
-    let same = write(budget, case, &mut part)
-        && write_as_planes(budget, case, &mut by_planes)
+    let same = write(budget, four, &mut part)
+        && write_as_planes(budget, four, &mut by_planes)
         && begins(&part, all)
         && part.len() == all.len().min(budget)
         && by_planes.words() == part.words();
@@ -146,33 +158,30 @@ fn keeps_a_part(
 }
 
 // The same of each budget.
-fn all_keep_a_part(alloc: Global, case: &Case, all: &BitWriter) -> Result<bool, AllocError>
-    requires width { case.now.width ≤ 64 }
-    requires planes { case.now.prec ≤ case.now.width }
-{
+fn all_keep_a_part(alloc: Global, four: &Four<'_>, all: &BitWriter) -> Result<bool, AllocError> {
     let mut same = true;
     for budget in BUDGETS.iter() {
-        same &= keeps_a_part(alloc, *budget, case, all)?;
+        same &= keeps_a_part(alloc, *budget, four, all)?;
     }
     Ok(same)
 }
 
 // Whether the digits have their code, and each budget keeps what it reaches.
-fn have_their_code(alloc: Global, case: &Case) -> Result<bool, AllocError>
-    requires width { case.now.width ≤ 64 }
-    requires planes { case.now.prec ≤ case.now.width }
-{
+fn have_their_code(alloc: Global, four: &Four<'_>) -> Result<bool, AllocError> {
+    let case = four.case;
     let mut all = with_room(alloc, 512)?;
-    let same = write(400, case, &mut all) && all.len() == case.len && all.words() == case.code;
-    let parts = all_keep_a_part(alloc, case, &all);
+    let same = write(400, four, &mut all) && all.len() == case.len && all.words() == case.code;
+    let parts = all_keep_a_part(alloc, four, &all);
     drop(all);
     Ok(same && parts?)
 }
 
 fn all_have_their_code(rt: &impl Abort, alloc: Global, cases: &[Case]) -> Result<(), AllocError> {
     for case in cases {
-        assert!(rt; case.width <= 64 && case.prec <= case.width);
-        assert!(rt; have_their_code(alloc, case)?);
+        let Some(four) = four_of(case) else {
+            panic!(rt; "a digit has no such planes");
+        };
+        assert!(rt; have_their_code(alloc, &four)?);
     }
     Ok(())
 }

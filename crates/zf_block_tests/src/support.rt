@@ -1,6 +1,6 @@
 //! What the tests of planes share.
 
-ghost use Rattle.std.specs.Prelude.{◌≡◌, ◌^◌, ◌≤◌, ◌⊎◌, [], IsTrue, IfOk};
+ghost use Rattle.std.specs.Prelude.{◌≡◌, ◌^◌, ◌≤◌, [], IfOk};
 
 use std::alloc::{AllocError, Global};
 use zf_bits::BitWriter;
@@ -14,11 +14,4 @@ pub(crate) fn with_room(alloc: Global, bits: u64) -> Result<BitWriter, AllocErro
     let mut writer = BitWriter::new(alloc);
     writer.reserve(bits)?;
     Ok(writer)
-}
-
-/// Whether a block can have so many digits in a plane.
-pub(crate) fn is_block_size(size: usize) -> bool
-    ensures { IsTrue result → (size ≡ 4) ⊎ (size ≡ 16) ⊎ (size ≡ 64) ⊎ (size ≡ 256) }
-{
-    size == 4 || size == 16 || size == 64 || size == 256
 }
