@@ -227,11 +227,10 @@ impl<T: Lane, const D: usize> Cache<T, D> {
         requires backed { Backed B.Reading (Fits T.value) D self.old back.old }
         requires count { IsLineCount lines }
         ensures fits { Fits T.value self.new (B.format back.new) (B.codes back.new) }
-        ensures ok { OnOk result (state_of T.value self.new (B.format back.new) (B.codes back.new)
+        ensures ok { OnOk result ((state_of T.value self.new (B.format back.new) (B.codes back.new)
             ≡ relined (B.format back.old)
-            (state_of T.value self.old (B.format back.old) (B.codes back.old)) lines) }
-        ensures empty { OnOk result (IsEmpty self.new lines) }
-        ensures rows { OnOk result (length self.new.lines ≡ min lines (B.format back.old).blocks) }
+            (state_of T.value self.old (B.format back.old) (B.codes back.old)) lines)
+            × IsEmpty self.new lines × (length self.new.lines ≡ min lines (B.format back.old).blocks)) }
         ensures err { OnErr result ((self.new ≡ self.old) × (B.codes back.new ≡ B.codes back.old)) }
         ensures keeps { KeepsFormat B.Reading back.old back.new }
     {

@@ -13,7 +13,7 @@ invariant_of-self g c = search (rules, joined_after)
 pub returns-clause-ok : goal.returns-clause-ok
 returns-clause-ok g c =
     let F = λ (f : Format (List Bool)) (u : State (List Bool)). relined f u c.raised.result in
-    on_ok_weaker c.relined.result (λ is. step _ _ _ _ _ _ c.self.invariant c.args.self.now c.self.view_is c.relined.new.back c.relined.new.self c.relined.ensures.keeps.kept c.relined.ensures.fits F is
+    on_ok_weaker c.relined.result (λ is. step _ _ _ _ _ _ c.self.invariant c.args.self.now c.self.view_is c.relined.new.back c.relined.new.self c.relined.ensures.keeps.kept c.relined.ensures.fits F is.0
     ∙ ap (relined (format c.args.self.now) (state c.args.self.now)) c.raised.ensures.value) c.relined.ensures.ok
 
 pub returns-clause-header : goal.returns-clause-header

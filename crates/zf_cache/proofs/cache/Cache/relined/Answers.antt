@@ -23,6 +23,10 @@ returns-clause-ok g c =
     let f = g.B.Reading.format c.args.back.now in let k = g.B.Reading.codes c.args.back.now in let value = g.T.Lane.value in
     let o = c.self.inside.body in let e = c.flush.ensures in
     let h = g.B.Reading.format c.flush.new.back in let j = g.B.Reading.codes c.flush.new.back in
-    reline one_line value f h j (kept_of c.flush.new.self) (kept_of c.replace.new.self)
-    (length o.tags.items) c.args.lines (state_at one_line value (kept_of o) f k) e.empty (c.replace.ensures.tags ∙ c.in_ok-taken.ensures.empty) (ap counts_of c.replace.ensures.counts) e.step.state
-    ∙ ap (λ (q : Kept g.row.T.Denot). relined f (state_of value q f k) c.args.lines) c.self.view_is
+    (
+      reline one_line value f h j (kept_of c.flush.new.self) (kept_of c.replace.new.self)
+      (length o.tags.items) c.args.lines (state_at one_line value (kept_of o) f k) e.empty (c.replace.ensures.tags ∙ c.in_ok-taken.ensures.empty) (ap counts_of c.replace.ensures.counts) e.step.state
+      ∙ ap (λ (q : Kept g.row.T.Denot). relined f (state_of value q f k) c.args.lines) c.self.view_is,
+      search rules,
+      search rules,
+    )

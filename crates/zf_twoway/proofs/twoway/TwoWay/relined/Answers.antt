@@ -31,6 +31,10 @@ returns-clause-ok g c =
     let f = g.B.Reading.format c.args.back.now in let k = g.B.Reading.codes c.args.back.now in let value = g.T.Lane.value in
     let o = kept_of c.self.inside.body in let is = c.self.view_is in
     let e = c.flush.ensures in
-    reline skewed value f (g.B.Reading.format c.flush.new.back) (g.B.Reading.codes c.flush.new.back) (kept_of c.flush.new.self) (kept_of c.replace.new.self)
-    (length o.tags) c.args.lines (state_of value o f k) e.empty (c.replace.ensures.tags ∙ c.in_ok-taken.ensures.empty) (ap counts_of c.replace.ensures.counts) e.step.state
-    ∙ ap (λ (q : Kept g.row.T.Denot). relined f (state_of value q f k) c.args.lines) is
+    (
+      reline skewed value f (g.B.Reading.format c.flush.new.back) (g.B.Reading.codes c.flush.new.back) (kept_of c.flush.new.self) (kept_of c.replace.new.self)
+      (length o.tags) c.args.lines (state_of value o f k) e.empty (c.replace.ensures.tags ∙ c.in_ok-taken.ensures.empty) (ap counts_of c.replace.ensures.counts) e.step.state
+      ∙ ap (λ (q : Kept g.row.T.Denot). relined f (state_of value q f k) c.args.lines) is,
+      search rules,
+      search rules,
+    )
