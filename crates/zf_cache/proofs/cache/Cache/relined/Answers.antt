@@ -1,4 +1,4 @@
-use Rattle.std.{proofs.Common.{ap, ◌∙◌, ℕ, length, min, sym}, proofs.lemmas.List.{length-replicate}}
+use Rattle.std.{proofs.Common.{rules, ap, ◌∙◌, ℕ, length, min, sym}, proofs.lemmas.List.{length-replicate}}
 use Rattle.zf_base.specs.Formats.{Format}
 use Rattle.zf_cached.{specs.Changes.{relined}, specs.Placing.{IsDirect}}
 use Rattle.zf_cache.{specs.Kept.{Kept}, specs.Bodies.{kept_of, counts_of}, proofs.Lent.{reline}}

@@ -1,4 +1,4 @@
-use Rattle.std.{proofs.Common.{sym, ap, ◌∙◌, ℕ, length, min}, proofs.lemmas.List.{length-replicate}}
+use Rattle.std.{proofs.Common.{rules, sym, ap, ◌∙◌, ℕ, length, min}, proofs.lemmas.List.{length-replicate}}
 use Rattle.zf_base.specs.Formats.{Format}
 use Rattle.zf_cache.{specs.Kept.{Kept}, specs.Bodies.{kept_of, counts_of}, proofs.Lent.{reline}}
 use Rattle.zf_cache.{proofs.Rooms.{room_for_blocks}, proofs.Steps.{empty_fits_at}, proofs.Tags.{counts_lines}}
