@@ -36,7 +36,8 @@ pub(crate) fn first_code(prec: u32, reader: &BitReader<'_>) -> Option<FirstCode>
     code_behind(zeros, prec, reader)
 }
 
-/// The same, where so many planes of zeros may come first. It stands apart, so that other blocks do not enter it.
+/// That code behind so many planes of zeros, digit by digit. It stands apart, so that other blocks do not
+/// enter it.
 #[inline(never)]
 fn code_behind(zeros: u32, prec: u32, reader: &BitReader<'_>) -> Option<FirstCode>
     requires in_word { prec ≤ 64 }

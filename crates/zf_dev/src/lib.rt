@@ -25,6 +25,6 @@ pub use real::{RealSink, RealSource};
 pub use real_shelf::RealShelf;
 pub use shelf::Shelf;
 pub use sink::{Sink, write_all};
-pub use source::{Source, fill};
+pub use source::Source;
 pub use until_end::{Begun, UntilEnd};
-pub use whole::take_all;
+pub use whole::{fill, take_all};

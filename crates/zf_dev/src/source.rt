@@ -2,7 +2,7 @@
 
 ghost use Rattle.std.specs.Prelude.{◌≡◌, ℕ, ◌<◌, ◌≤◌, List, [], Option, length, take, drop, IsOk, IsErr, IfOk, OnOk, OnErr};
 ghost use Rattle.zf_dev.specs.Faults.{HasCause};
-ghost use Rattle.zf_dev.specs.Source.{Takes, TakesAtMost, Gives, GivesSome, IsAtEnd, EndsAt, SeesEnd, IsFill};
+ghost use Rattle.zf_dev.specs.Source.{Takes, Gives, EndsAt, SeesEnd};
 
 use crate::Failed;
 
@@ -58,37 +58,4 @@ pub trait Source {
         ensures kept { kept self.new ≡ kept self.old }
         ensures sure { never_fails self.old → never_fails self.new }
     {}
-}
-
-/// Reads until `buf` is full or the source is at its end, and says how many bytes it read: fewer than `buf`
-/// has only at the end.
-///
-/// `Failed`: the source failed. The bytes read so far can't be told from what stood in `buf` before.
-pub fn fill<S: Source>(src: &mut S, buf: &mut [u8]) -> Result<usize, Failed>
-    ensures bound { IfOk result (λ n. n ≤ length buf.old) }
-    ensures taken { IfOk result (λ n. Takes (S.contents src.old) (S.contents src.new) (take n buf.new)) }
-    ensures rest { IfOk result (λ n. drop n buf.new ≡ drop n buf.old) }
-    ensures filled { IfOk result (λ n. IsFill (S.contents src.old) (length buf.old) n) }
-    ensures end { IfOk result (λ n. n < length buf.old → IsAtEnd (S.contents src.new)) }
-    // After a fault, some of the next bytes are gone, at most as many as there was room for.
-    ensures lost { OnErr result (TakesAtMost (S.contents src.old) (S.contents src.new) (length buf.old)) }
-    ensures gave { IfOk result (λ n. Gives (S.gave src.old) (S.gave src.new) (take n buf.new)) }
-    ensures gave_some { GivesSome (S.gave src.old) (S.gave src.new) }
-    // It reads no more once it saw the end.
-    ensures seen { IfOk result (λ n. SeesEnd (n < length buf.old) (S.ends_seen src.old) (S.ends_seen src.new)) }
-    ensures unseen { OnErr result (S.ends_seen src.new ≤ S.ends_seen src.old) }
-    ensures unchanged { OnOk result (S.faults src.new ≡ S.faults src.old) }
-    ensures same_source { S.kept src.new ≡ S.kept src.old }
-    ensures cause { HasCause (IsErr result) (S.faults src.old) (S.faults src.new) }
-    ensures sure { S.never_fails src.old → IsOk result × S.never_fails src.new }
-{
-    let mut filled = 0;
-    while filled < buf.len() {
-        let n = src.read(&mut buf[filled..])?;
-        if n == 0 {
-            return Ok(filled);
-        }
-        filled += n;
-    }
-    Ok(filled)
 }

@@ -196,10 +196,7 @@ pub fn read_planes<P: Plane>(
     reader: &mut BitReader<'_>,
     planes: &mut [P],
 ) -> Option<u64>
-    requires some { 0 < size }
-    requires words { size ≤ 64 * P.word_count }
-    requires planes { prec ≤ length planes.old }
-    requires blank { map P.words planes.old ≡ replicate (length planes.old) (replicate P.word_count 0) }
+    requires { HasBlanks size prec P.word_count (length planes.old) (map P.words planes.old) }
 
     ensures short { IsNone result ↔ (length (rest reader.old) < coded_bits budget prec size (rest reader.old)) }
     ensures unread { IfNone result (reader.new ≡ reader.old) }

@@ -3,7 +3,7 @@ use Rattle.std.proofs.Common.{◌≡◌, ℕ, ◌≤◌, length, take, ◌+◌, 
 use borrow.Rule.Slice.PartMut.{put_mid}
 use Rattle.zf_dev.{specs.Source.{Gives}, proofs.Pieces.{take-put_mid_part, rest_more, end_in_range}}
 use Rattle.zf_dev.{proofs.Taking.{Takes-append}, proofs.Giving.{Gives-append, Gives-still}}
-use Rattle.zf_dev.proofs.source.fill.Goals as goal
+use Rattle.zf_dev.proofs.whole.fill.Goals as goal
 
 pub loop-filled-preserved : goal.loop-filled-preserved
 loop-filled-preserved g c =

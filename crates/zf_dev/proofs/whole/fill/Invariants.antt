@@ -1,6 +1,6 @@
 use Rattle.std.proofs.Common.{length, ◌-◌, ◌≡◌, ◌≤◌, take, drop}
 use Rattle.zf_dev.specs.Source.{Takes, Gives}
-use Rattle.zf_dev.proofs.source.fill.Given as goal
+use Rattle.zf_dev.proofs.whole.fill.Given as goal
 
 abbrev pub invariant-loop-filled : goal.invariant-loop-filled
 invariant-loop-filled g l = record {
