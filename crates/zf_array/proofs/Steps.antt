@@ -16,7 +16,7 @@ use Rattle.zf_cache.{specs.Kept.{Kept, IsEmpty}, proofs.Stands.{standing}}
 use Rattle.zf_cache.{specs.Standing.{state_of, Fits, HasRoom, state_at}, proofs.Steps.{empty_fits}}
 use Rattle.zf_cache.proofs.Touches.{state_is, no_tag, all_meant}
 use Rattle.zf_store.specs.Stored as store
-use Rattle.zf_store.{specs.Stored.{Stored, code_at, format_of, frame_of, rate_of}, proofs.Kept.{blocks_is}}
+use Rattle.zf_store.{specs.Stored.{Stored, code_at, format_of, rate_of}, proofs.Kept.{blocks_is}}
 use Rattle.zf_array.specs.Standing.{Held, stored, format, state}
 use Rattle.zf_array.specs.Parts.{held_by}
 use Rattle.zf_array.proofs.Standing.{zero_meant, stored_held, state_held}

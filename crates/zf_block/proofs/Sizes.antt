@@ -1,5 +1,5 @@
 -- The sizes of blocks.
-use Rattle.std.proofs.Common.{◌≡◌, ℕ, zero, suc, ◌^◌, ◌≤◌, ◌*◌, ◌%◌, ◌⊎◌, inl, inr, arith}
+use Rattle.std.proofs.Common.{◌≡◌, ℕ, zero, suc, ◌^◌, ◌≤◌, ◌%◌, ◌⊎◌, inl, inr, arith}
 
 pub block_sizes : (d n : ℕ) → 1 ≤ d → d ≤ 4 → n ≡ 4 ^ d → (n ≡ 4) ⊎ (n ≡ 16) ⊎ (n ≡ 64) ⊎ (n ≡ 256)
 block_sizes (suc zero) n some four e = inl e

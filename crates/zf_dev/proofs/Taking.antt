@@ -1,6 +1,6 @@
 -- How what is taken from a source adds up over several calls.
-use Rattle.std.proofs.Common.{◌≡◌, ℕ, List, [], ◌++◌, Option, Some, None, refl, ap, sym, ◌∙◌, append_assoc, append-nil}
-use Rattle.zf_dev.specs.Source.{Takes, IsAtEnd}
+use Rattle.std.proofs.Common.{ℕ, List, [], ◌++◌, Option, Some, None, refl, ap, sym, ◌∙◌, append_assoc}
+use Rattle.zf_dev.specs.Source.{Takes}
 
 -- nothing was taken
 pub Takes-none : (known : Option (List ℕ)) → Takes known known []

@@ -1,5 +1,5 @@
 -- The lines of an array whose values are kept in the order of blocks.
-use Rattle.std.proofs.Common.{rules, ◌≡◌, ◌≢◌, refl, sym, ap, subst, ◌∙◌, ℕ, zero, suc, ◌+◌, ◌-◌, ◌*◌, ◌/◌, ◌%◌, ◌<◌, ◌≤◌, ◌^◌, ◌⊎◌, ⊎_elim, min, ℤ, pos, List, [], ◌∷◌, ◌++◌, length, get_or, map, take, drop, replicate, mod-eq_of_lt, mul-le-mul_left, arith, ext_get_or, length-drop, lit≤}
+use Rattle.std.proofs.Common.{rules, ◌≡◌, ◌≢◌, refl, sym, ap, ◌∙◌, ℕ, zero, suc, ◌+◌, ◌-◌, ◌*◌, ◌/◌, ◌%◌, ◌<◌, ◌≤◌, ◌^◌, ◌⊎◌, ⊎_elim, min, ℤ, pos, List, [], ◌∷◌, ◌++◌, length, get_or, map, take, drop, replicate, mod-eq_of_lt, mul-le-mul_left, arith, ext_get_or, length-drop, lit≤}
 use Rattle.std.proofs.Math.Nat.{add-mul-mod_self_left, add-mul-div_left, div-eq_of_lt, div-add-mod, mul-mod_right, mul-le-mul_right, le-mul_of_pos_right}
 use Rattle.std.{proofs.lemmas.Bool.{cases_lt}, proofs.lemmas.Nat.{div_below}, proofs.Math.Seq.{take-take}}
 use Rattle.std.proofs.lemmas.List.{length-map, get_or-take, get_or-drop, get_or-append_right, length-take-le, take-append-le, take-map, drop-map, map-append}

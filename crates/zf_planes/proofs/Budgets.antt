@@ -1,5 +1,5 @@
 -- A list that is written in parts, as far as a budget of bits reaches.
-use Rattle.std.proofs.Common.{rules, ◌≡◌, ℕ, suc, zero, ◌-◌, ◌<◌, ◌≤◌, min, Bool, List, [], ◌∷◌, ◌++◌, length, take, refl, sym, ap, subst, arith, append_assoc, length-append}
+use Rattle.std.proofs.Common.{rules, ◌≡◌, ℕ, suc, zero, ◌-◌, ◌<◌, ◌≤◌, min, Bool, List, [], ◌∷◌, ◌++◌, length, take, refl, ap, subst, arith, append_assoc, length-append}
 use Rattle.std.proofs.lemmas.List.{length-take, append-nil}
 use Rattle.zf_bits.specs.Writer.{Writer, Appends}
 use Rattle.zf_planes.specs.Writes.{Remains}

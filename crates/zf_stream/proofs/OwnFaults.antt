@@ -1,9 +1,9 @@
 -- What is said of the bytes of a stream is never a fault of a device, nor one of raw values; what is said of codes is none of a header either.
-use Rattle.std.proofs.Common.{rules, ◌≡◌, ℕ, ℤ, Bool, true, false, cond, List, Option, Result, Ok, Err, ◌⊎◌, subst, ⊎_elim}
+use Rattle.std.proofs.Common.{rules, ◌≡◌, ℕ, ℤ, Bool, true, false, List, Option, Result, Ok, Err, ◌⊎◌, subst, ⊎_elim}
 use Rattle.std.specs.Prelude.{IfErr}
 use Rattle.zf_header.{specs.declared.header.Header.{Header}, specs.declared.header.HeaderFault.{HeaderFault}}
 use Rattle.zf_parse.{specs.declared.fault.StreamFault.{StreamFault}, specs.Parsing.{restore_answer}}
-use Rattle.zf_parse.proofs.Steps.{values_said, values_said-is, values_behind, header_or, codes_answer, values_or_fault, without_values, restore_answer-values}
+use Rattle.zf_parse.proofs.Steps.{values_said, values_said-is, values_behind, header_or, codes_answer, without_values, restore_answer-values}
 use Rattle.zf_parse.specs.declared.fault.StreamFault.TheVariants as faults
 use Rattle.zf_stream.{specs.Outcomes.{IsBeforeWriting}, specs.Windows.{Window}, specs.Restoring.{Refuses}}
 

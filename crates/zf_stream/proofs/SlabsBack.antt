@@ -12,7 +12,7 @@ use Rattle.zf_pad.proofs.Slabs.{product-rows, product-with_rows, length-with_row
 use Rattle.zf_pad.proofs.Blocks.{value_of_block}
 use Rattle.zf_header.specs.declared.header.Header.{Header}
 use Rattle.zf_parse.specs.Parsing.{read_code, read_codes, values_of_blocks}
-use Rattle.zf_parse.proofs.Steps.{read_next, with_block, read_codes-suc}
+use Rattle.zf_parse.proofs.Steps.{read_next, read_codes-suc}
 use Rattle.zf_stream.{specs.Restoring.{blocks_of_rows}, proofs.Rows.{map-count_from}}
 use Rattle.zf_stream.proofs.Slabwise.{with_shape}
 

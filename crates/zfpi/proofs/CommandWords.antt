@@ -14,7 +14,7 @@ use Rattle.zfpi.specs.declared.command.Command.TheVariants.{Compress, CompressNa
 use Rattle.zfpi.{specs.declared.words.Task.{Task}, specs.declared.words.Script.{Script}}
 use Rattle.zfpi.{specs.declared.words.Stage.{Stage}, proofs.Completed.{header_with, BeginsCommand-reached}}
 use Rattle.zfpi.specs.Words.{type_word, narrow_word, shape_word, mode_words, IsLines, lines_words, IsCaching, caching_words, IsOnScript, IsAskable, IsSpelled, BeginsCommand, IsUsage}
-use Rattle.zfpi.specs.Stages.{LeadsTo, IsBegun, script_word, IsRateWord, IsLinesWord, IsPrecisionWord}
+use Rattle.zfpi.specs.Stages.{LeadsTo, IsBegun, IsRateWord, IsLinesWord, IsPrecisionWord}
 use Rattle.zfpi.proofs.ShapeWords.{parts_of-shape, decimals_injective, sizes_small}
 use Rattle.zfpi.specs.declared.words.Task.TheVariants as tasks
 use Rattle.zfpi.specs.declared.words.Script.TheVariants as scripts

@@ -16,7 +16,7 @@ use Rattle.zfpi.{specs.Certified.{certified_status}, specs.World.{Seen, seen, co
 use Rattle.zfpi.{proofs.Ends.{IsPossible}, specs.Sending.{IsDone, EndsSent, HandsOn}}
 use Rattle.zfpi.{specs.Steps.{is_work_done, IsShelfless}, specs.Calls.{Streams, Fulfils}}
 use Rattle.zfpi.specs.Headline.{IsSent, Writes, Saves, Behaves, HasCauses, IsIdle, StopsAtEnd, Sends}
-use Rattle.zfpi.{proofs.Stepping.{Steps-none}, proofs.Loading.{ComesFirst, by_first}}
+use Rattle.zfpi.{proofs.Stepping.{Steps-none}, proofs.Loading.{ComesFirst}}
 use Rattle.zfpi.proofs.Promises.{IsRefusal, opened_first_array, IsPossible-behaves}
 
 -- ---- what was written stays what it was

@@ -15,7 +15,7 @@ use Rattle.zf_narrow.proofs.StreamsBack.{answer-narrow_text, text-narrow_text}
 use Rattle.zf_narrow.specs.Texts.{narrow_text, answer_behind, restore_narrow_answer, narrow_restored}
 use Rattle.zfpi.{specs.Faults.{status_of, narrow_status_of, header_status}, specs.Words.{IsSpelled}}
 use Rattle.zfpi.{specs.declared.status.Status.{Status}, specs.declared.command.Command.{Command}}
-use Rattle.zfpi.specs.declared.status.Status.TheVariants.{Done, Usage, NotRate, Missing, ScriptLong, FileLong, ReadFault, WriteFault, LoadFault, SaveFault, Memory}
+use Rattle.zfpi.specs.declared.status.Status.TheVariants.{Done, NotRate, Missing, ScriptLong, FileLong, ReadFault, WriteFault, LoadFault, SaveFault, Memory}
 use Rattle.zfpi.specs.declared.command.Command.TheVariants.{Compress, Restore, RestoreNarrow, Run, Look, Bound}
 use Rattle.zfpi.{specs.World.{World, Seen, Counts, ExposesInput}, specs.Certified.{certified_status}}
 use Rattle.zfpi.specs.Opened.{array_in, stream_in, opened, said_or_status, said_at_rate, array_behind}

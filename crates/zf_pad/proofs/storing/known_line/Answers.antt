@@ -1,4 +1,4 @@
-use Rattle.std.proofs.Common.{rules, ◌≡◌, ℕ, ◌+◌, ◌*◌, ◌/◌, ◌%◌, ◌<◌, ◌≤◌, List, [], ◌∷◌, ap, sym, subst, ◌∙◌, mul-le-mul_left, arith}
+use Rattle.std.proofs.Common.{rules, ◌≡◌, ℕ, ◌+◌, ◌*◌, ◌/◌, ◌%◌, ◌<◌, ◌≤◌, [], ◌∷◌, ap, sym, subst, ◌∙◌, mul-le-mul_left, arith}
 use Rattle.zf_spec.specs.Grid.{product, coordinates}
 use Rattle.zf_pad.{specs.Stored.{other_sizes, IsLine, IsKnown}, proofs.StoredLines.{others_fit, lines_behind, left_below, left_within}}
 use Rattle.zf_pad.proofs.storing.known_line.Goals as goal

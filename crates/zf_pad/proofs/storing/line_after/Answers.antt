@@ -1,4 +1,4 @@
-use Rattle.std.proofs.Common.{◌+◌, arith}
+use Rattle.std.proofs.Common.{arith}
 use Rattle.zf_pad.proofs.StoredLines.{others_fit, known_next}
 use Rattle.zf_pad.proofs.storing.line_after.Goals as goal
 
