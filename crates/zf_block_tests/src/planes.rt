@@ -167,11 +167,14 @@ impl<'a> Model for Planes<'a> {
         ⊎ (p.case.now.size ≡ 256) };
 }
 
-// The planes of a case, where its size is one that a block can have.
+// The planes of a case, where its size is one that a block can have, and their code has as many bits as it
+// says.
 fn planes_of<'a>(rt: &impl Abort, case: &'a Case) -> Option<Planes<'a>> {
     let words = planes_with(rt, case.ones);
     match case.size {
-        4 | 16 | 64 | 256 => Some(Planes { case, words }),
+        4 | 16 | 64 | 256 if code_len(3, case.size, &words) == case.code_len => {
+            Some(Planes { case, words })
+        }
         _ => None,
     }
 }
@@ -224,17 +227,11 @@ fn are_kept(rt: &impl Abort, alloc: Global, planes: &Planes<'_>) -> Result<(), A
     Ok(())
 }
 
-// Whether the planes have a code of so many bits as their case says.
-fn has_len(planes: &Planes<'_>) -> bool {
-    code_len(3, planes.case.size, &planes.words) == planes.case.code_len
-}
-
 fn all_are_kept(rt: &impl Abort, alloc: Global, cases: &[Case]) -> Result<(), AllocError> {
     for case in cases {
         let Some(planes) = planes_of(rt, case) else {
-            panic!(rt; "no block has planes of this size");
+            panic!(rt; "no size of a block, or a code of another length");
         };
-        assert!(rt; has_len(&planes));
         are_kept(rt, alloc, &planes)?;
     }
     Ok(())
@@ -302,10 +299,10 @@ struct Words<'a> {
     ghost in_word: { case.now.size ≤ 64 },
 }
 
-// The planes of a case as words, where its size goes into one.
+// The planes of a case as words, where its size goes into one, and their code has as many bits as it says.
 fn words_of<'a>(rt: &impl Abort, case: &'a Case) -> Option<Words<'a>> {
     let planes = first_words(&planes_with(rt, case.ones));
-    if 0 < case.size && case.size <= 64 {
+    if 0 < case.size && case.size <= 64 && planes_len(3, case.size, &planes) == case.code_len {
         Some(Words { case, planes })
     } else {
         None
@@ -320,7 +317,8 @@ fn gives_back_words(budget: u64, words: &Words<'_>, code: &BitWriter, kept: &[u6
     count == Some(code.len()) && again == [0, kept[0], kept[1], kept[2]]
 }
 
-// Whether planes of one word each have their code, as far as a budget reaches, and it gives back what is kept.
+// Whether planes of one word each have their code, as far as a budget reaches, and it gives back what is
+// kept.
 fn words_are_kept(
     alloc: Global,
     budget: u64,
@@ -351,17 +349,11 @@ fn words_are_kept_at_each(
     Ok(())
 }
 
-// Whether planes of one word each have a code of so many bits as their case says.
-fn words_have_len(words: &Words<'_>) -> bool {
-    planes_len(3, words.case.size, &words.planes) == words.case.code_len
-}
-
 fn all_words_are_kept(rt: &impl Abort, alloc: Global, cases: &[Case]) -> Result<(), AllocError> {
     for case in cases {
         let Some(words) = words_of(rt, case) else {
-            panic!(rt; "planes of this size go into no word");
+            panic!(rt; "no size in a word, or a code of another length");
         };
-        assert!(rt; words_have_len(&words));
         words_are_kept_at_each(rt, alloc, &words)?;
     }
     Ok(())
@@ -497,7 +489,7 @@ fn reach(rt: &impl Abort, planes: &Planes<'_>) {
 fn fit_whole(rt: &impl Abort, cases: &[Case]) {
     for case in cases {
         let Some(planes) = planes_of(rt, case) else {
-            panic!(rt; "no block has planes of this size");
+            panic!(rt; "no size of a block, or a code of another length");
         };
         reach(rt, &planes);
     }

@@ -166,22 +166,21 @@ fn all_keep_a_part(alloc: Global, four: &Four<'_>, all: &BitWriter) -> Result<bo
     Ok(same)
 }
 
-// Whether the digits have their code, and each budget keeps what it reaches.
-fn have_their_code(alloc: Global, four: &Four<'_>) -> Result<bool, AllocError> {
-    let case = four.case;
+// Whether a digit has so many planes, the digits have their code, and each budget keeps what it reaches.
+fn have_their_code(alloc: Global, case: &Case) -> Result<bool, AllocError> {
+    let Some(four) = four_of(case) else {
+        return Ok(false);
+    };
     let mut all = with_room(alloc, 512)?;
-    let same = write(400, four, &mut all) && all.len() == case.len && all.words() == case.code;
-    let parts = all_keep_a_part(alloc, four, &all);
+    let same = write(400, &four, &mut all) && all.len() == case.len && all.words() == case.code;
+    let parts = all_keep_a_part(alloc, &four, &all);
     drop(all);
     Ok(same && parts?)
 }
 
 fn all_have_their_code(rt: &impl Abort, alloc: Global, cases: &[Case]) -> Result<(), AllocError> {
     for case in cases {
-        let Some(four) = four_of(case) else {
-            panic!(rt; "a digit has no such planes");
-        };
-        assert!(rt; have_their_code(alloc, &four)?);
+        assert!(rt; have_their_code(alloc, case)?);
     }
     Ok(())
 }
