@@ -102,29 +102,28 @@ fn block_of<T: Lane>(alloc: Global, part: Part) -> Result<Block<T>, AllocError> 
     })
 }
 
-/// Writes the code of a block of so many bits.
-fn write_at_rate<T: Lane>(
-    block: &mut Block<T>,
-    bits: u32,
-    out: &mut BitWriter,
-) -> Result<(), AllocError> {
-    out.reserve(u64::from(bits))?;
-    let Part { d, e } = &block.part;
-    encode_rate(*d, e, bits, &block.values, &mut block.scratch, out);
-    Ok(())
-}
-
 /// Writes the code of a block.
 fn write<T: Lane>(
     block: &mut Block<T>,
     code: &Code,
     out: &mut BitWriter,
 ) -> Result<(), AllocError> {
-    let Part { d, e } = &block.part;
     match *code {
-        Code::Reversible => encode_rev(*d, e, &block.values, &mut block.scratch, out),
-        Code::Rate(bits, _) => write_at_rate(block, bits, out),
-        Code::Precision(prec) => encode_prec(*d, e, prec, &block.values, &mut block.scratch, out),
+        Code::Reversible => {
+            let Part { d, e } = &block.part;
+            encode_rev(*d, e, &block.values, &mut block.scratch, out)
+        }
+        Code::Rate(bits, _) => {
+            // Before the block is touched: where there is no memory, it is as it was.
+            out.reserve(u64::from(bits))?;
+            let Part { d, e } = &block.part;
+            encode_rate(*d, e, bits, &block.values, &mut block.scratch, out);
+            Ok(())
+        }
+        Code::Precision(prec) => {
+            let Part { d, e } = &block.part;
+            encode_prec(*d, e, prec, &block.values, &mut block.scratch, out)
+        }
     }
 }
 
@@ -147,12 +146,13 @@ fn read_at_rate<T: Lane>(
 
 /// Reads the block of a code. The answer is whether the code was there, and no more.
 fn read<T: Lane>(block: &mut Block<T>, code: &Code, bits: &BitWriter) -> bool {
-    let d = block.part.d;
     let mut reader = BitReader::new(bits.words(), bits.len());
     let found = match *code {
-        Code::Reversible => decode_rev(d, &mut reader, &mut block.values).is_some(),
+        Code::Reversible => decode_rev(block.part.d, &mut reader, &mut block.values).is_some(),
         Code::Rate(bits, plane) => read_at_rate(block, bits, plane, &mut reader),
-        Code::Precision(prec) => decode_prec(d, prec, &mut reader, &mut block.values).is_some(),
+        Code::Precision(prec) => {
+            decode_prec(block.part.d, prec, &mut reader, &mut block.values).is_some()
+        }
     };
     found && reader.left() == 0
 }
