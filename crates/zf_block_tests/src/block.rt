@@ -81,7 +81,7 @@ fn part_of(rt: &impl Abort, dims: u8, sizes: &[u64; 4]) -> Part {
     }
 }
 
-/// A block: the part of it that exists, the values at all places, and the room that it is written and read in.
+/// A block: the part of it that exists, the values at all places, and the room for its code.
 #[derive(Drop)]
 struct Block<T: Lane> {
     part: Part,
@@ -102,29 +102,28 @@ fn block_of<T: Lane>(alloc: Global, part: Part) -> Result<Block<T>, AllocError> 
     })
 }
 
-/// Writes the code of a block of so many bits.
-fn write_at_rate<T: Lane>(
-    block: &mut Block<T>,
-    bits: u32,
-    out: &mut BitWriter,
-) -> Result<(), AllocError> {
-    out.reserve(u64::from(bits))?;
-    let Part { d, e } = &block.part;
-    encode_rate(*d, e, bits, &block.values, &mut block.scratch, out);
-    Ok(())
-}
-
 /// Writes the code of a block.
 fn write<T: Lane>(
     block: &mut Block<T>,
     code: &Code,
     out: &mut BitWriter,
 ) -> Result<(), AllocError> {
-    let Part { d, e } = &block.part;
     match *code {
-        Code::Reversible => encode_rev(*d, e, &block.values, &mut block.scratch, out),
-        Code::Rate(bits, _) => write_at_rate(block, bits, out),
-        Code::Precision(prec) => encode_prec(*d, e, prec, &block.values, &mut block.scratch, out),
+        Code::Reversible => {
+            let Part { d, e } = &block.part;
+            encode_rev(*d, e, &block.values, &mut block.scratch, out)
+        }
+        Code::Rate(bits, _) => {
+            // Before the block is touched: where there is no memory, it is as it was.
+            out.reserve(u64::from(bits))?;
+            let Part { d, e } = &block.part;
+            encode_rate(*d, e, bits, &block.values, &mut block.scratch, out);
+            Ok(())
+        }
+        Code::Precision(prec) => {
+            let Part { d, e } = &block.part;
+            encode_prec(*d, e, prec, &block.values, &mut block.scratch, out)
+        }
     }
 }
 
@@ -147,12 +146,13 @@ fn read_at_rate<T: Lane>(
 
 /// Reads the block of a code. The answer is whether the code was there, and no more.
 fn read<T: Lane>(block: &mut Block<T>, code: &Code, bits: &BitWriter) -> bool {
-    let d = block.part.d;
     let mut reader = BitReader::new(bits.words(), bits.len());
     let found = match *code {
-        Code::Reversible => decode_rev(d, &mut reader, &mut block.values).is_some(),
+        Code::Reversible => decode_rev(block.part.d, &mut reader, &mut block.values).is_some(),
         Code::Rate(bits, plane) => read_at_rate(block, bits, plane, &mut reader),
-        Code::Precision(prec) => decode_prec(d, prec, &mut reader, &mut block.values).is_some(),
+        Code::Precision(prec) => {
+            decode_prec(block.part.d, prec, &mut reader, &mut block.values).is_some()
+        }
     };
     found && reader.left() == 0
 }
@@ -494,13 +494,29 @@ fn put<T: Lane>(block: &mut Block<T>, values: &[T]) -> bool {
     true
 }
 
+/// Whether the block of a line has its code, and comes back as the line says.
+fn comes_back<T: Lane>(
+    alloc: Global,
+    block: &mut Block<T>,
+    line: &Line<T>,
+) -> Result<bool, AllocError> {
+    let (_, values, code, len, sum, back) = line;
+    let same = put(block, values) && both_ways(alloc, block, code, *len, *sum)?;
+    Ok(same && block.values.as_slice() == back.as_slice())
+}
+
+/// The same in a block of its own, of which this part exists.
+fn line_is_as_in<T: Lane>(alloc: Global, part: Part, line: &Line<T>) -> Result<bool, AllocError> {
+    let mut block = block_of(alloc, part)?;
+    let same = comes_back(alloc, &mut block, line);
+    drop(block);
+    same
+}
+
 fn lines_are<T: Lane>(rt: &impl Abort, alloc: Global, rows: &[Line<T>]) -> Result<(), AllocError> {
-    for (n, values, code, len, sum, back) in rows {
-        let mut block = block_of(alloc, part_of(rt, 1, &[*n, 1, 1, 1]))?;
-        assert!(rt; put(&mut block, values));
-        assert!(rt; both_ways(alloc, &mut block, code, *len, *sum)?);
-        assert!(rt; block.values.as_slice() == back.as_slice());
-        drop(block);
+    for line in rows {
+        let part = part_of(rt, 1, &[line.0, 1, 1, 1]);
+        assert!(rt; line_is_as_in(alloc, part, line)?);
     }
     Ok(())
 }
@@ -729,11 +745,22 @@ fn has_codes<T: Lane>(
     Ok(true)
 }
 
+/// The same of a block of its own, of which this part exists.
+fn is_as_in<T: Lane>(
+    alloc: Global,
+    part: Part,
+    codes: &[(Code, u64, u64, u64)],
+) -> Result<bool, AllocError> {
+    let mut block = block_of::<T>(alloc, part)?;
+    let same = has_codes(alloc, &mut block, codes);
+    drop(block);
+    same
+}
+
 fn are_as_in<T: Lane>(rt: &impl Abort, alloc: Global, rows: &[Row]) -> Result<(), AllocError> {
     for row in rows {
-        let mut block = block_of::<T>(alloc, part_of(rt, row.dims, &row.sizes))?;
-        assert!(rt; has_codes(alloc, &mut block, row.codes)?);
-        drop(block);
+        let part = part_of(rt, row.dims, &row.sizes);
+        assert!(rt; is_as_in::<T>(alloc, part, row.codes)?);
     }
     Ok(())
 }

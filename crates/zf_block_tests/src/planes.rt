@@ -167,12 +167,14 @@ impl<'a> Model for Planes<'a> {
         ⊎ (p.case.now.size ≡ 256) };
 }
 
-// The planes of a case, where its size is one that a block can have.
-fn planes_of<'a>(rt: &impl Abort, case: &'a Case) -> Option<Planes<'a>> {
+// The planes of a case; its size is one that a block can have, and their code has as many bits as it says.
+fn planes_of<'a>(rt: &impl Abort, case: &'a Case) -> Planes<'a> {
     let words = planes_with(rt, case.ones);
     match case.size {
-        4 | 16 | 64 | 256 => Some(Planes { case, words }),
-        _ => None,
+        4 | 16 | 64 | 256 if code_len(3, case.size, &words) == case.code_len => {
+            Planes { case, words }
+        }
+        _ => panic!(rt; "no size of a block, or a code of another length"),
     }
 }
 
@@ -224,18 +226,9 @@ fn are_kept(rt: &impl Abort, alloc: Global, planes: &Planes<'_>) -> Result<(), A
     Ok(())
 }
 
-// Whether the planes have a code of so many bits as their case says.
-fn has_len(planes: &Planes<'_>) -> bool {
-    code_len(3, planes.case.size, &planes.words) == planes.case.code_len
-}
-
 fn all_are_kept(rt: &impl Abort, alloc: Global, cases: &[Case]) -> Result<(), AllocError> {
     for case in cases {
-        let Some(planes) = planes_of(rt, case) else {
-            panic!(rt; "no block has planes of this size");
-        };
-        assert!(rt; has_len(&planes));
-        are_kept(rt, alloc, &planes)?;
+        are_kept(rt, alloc, &planes_of(rt, case))?;
     }
     Ok(())
 }
@@ -302,14 +295,12 @@ struct Words<'a> {
     ghost in_word: { case.now.size ≤ 64 },
 }
 
-// The planes of a case as words, where its size goes into one.
-fn words_of<'a>(rt: &impl Abort, case: &'a Case) -> Option<Words<'a>> {
+// The planes of a case as words; its size goes into one, and their code has as many bits as it says.
+fn words_of<'a>(rt: &impl Abort, case: &'a Case) -> Words<'a> {
     let planes = first_words(&planes_with(rt, case.ones));
-    if 0 < case.size && case.size <= 64 {
-        Some(Words { case, planes })
-    } else {
-        None
-    }
+    assert!(rt; 0 < case.size && case.size <= 64);
+    assert!(rt; planes_len(3, case.size, &planes) == case.code_len);
+    Words { case, planes }
 }
 
 // Whether a code gives back these planes of one word each.
@@ -320,7 +311,8 @@ fn gives_back_words(budget: u64, words: &Words<'_>, code: &BitWriter, kept: &[u6
     count == Some(code.len()) && again == [0, kept[0], kept[1], kept[2]]
 }
 
-// Whether planes of one word each have their code, as far as a budget reaches, and it gives back what is kept.
+// Whether planes of one word each have their code, as far as a budget reaches, and it gives back what is
+// kept.
 fn words_are_kept(
     alloc: Global,
     budget: u64,
@@ -351,18 +343,9 @@ fn words_are_kept_at_each(
     Ok(())
 }
 
-// Whether planes of one word each have a code of so many bits as their case says.
-fn words_have_len(words: &Words<'_>) -> bool {
-    planes_len(3, words.case.size, &words.planes) == words.case.code_len
-}
-
 fn all_words_are_kept(rt: &impl Abort, alloc: Global, cases: &[Case]) -> Result<(), AllocError> {
     for case in cases {
-        let Some(words) = words_of(rt, case) else {
-            panic!(rt; "planes of this size go into no word");
-        };
-        assert!(rt; words_have_len(&words));
-        words_are_kept_at_each(rt, alloc, &words)?;
+        words_are_kept_at_each(rt, alloc, &words_of(rt, case))?;
     }
     Ok(())
 }
@@ -419,15 +402,6 @@ struct Eight<'a> {
     ghost small: { case.now.size ≤ 16 },
 }
 
-// The case, where its size is 1 to 16, and its code goes into a word.
-fn eight_of<'a>(case: &'a Several) -> Option<Eight<'a>> {
-    if 0 < case.size && case.size <= 16 && case.len <= 64 {
-        Some(Eight { case })
-    } else {
-        None
-    }
-}
-
 // Whether eight planes have their code, as far as a budget reaches, and it gives back what is kept.
 fn have_one_code(
     alloc: Global,
@@ -473,10 +447,8 @@ fn have_one_code_at_each(
 
 fn all_have_one_code(rt: &impl Abort, alloc: Global, cases: &[Several]) -> Result<(), AllocError> {
     for case in cases {
-        let Some(eight) = eight_of(case) else {
-            panic!(rt; "no code of eight planes in a word");
-        };
-        have_one_code_at_each(rt, alloc, &eight)?;
+        assert!(rt; 0 < case.size && case.size <= 16 && case.len <= 64);
+        have_one_code_at_each(rt, alloc, &Eight { case })?;
     }
     Ok(())
 }
@@ -496,10 +468,7 @@ fn reach(rt: &impl Abort, planes: &Planes<'_>) {
 
 fn fit_whole(rt: &impl Abort, cases: &[Case]) {
     for case in cases {
-        let Some(planes) = planes_of(rt, case) else {
-            panic!(rt; "no block has planes of this size");
-        };
-        reach(rt, &planes);
+        reach(rt, &planes_of(rt, case));
     }
 }
 

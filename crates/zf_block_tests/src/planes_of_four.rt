@@ -86,15 +86,6 @@ struct Four<'a> {
     ghost planes: { case.now.prec ≤ case.now.width },
 }
 
-// The case, where a digit has so many planes, and the code no more.
-fn four_of<'a>(case: &'a Case) -> Option<Four<'a>> {
-    if case.width <= 64 && case.prec <= case.width {
-        Some(Four { case })
-    } else {
-        None
-    }
-}
-
 // The planes that the digits of ranks 0 to 3 make.
 fn planes_by_digits(digits: &[u64; 4]) -> [u64; 64] {
     let mut planes = [0; 64];
@@ -166,22 +157,22 @@ fn all_keep_a_part(alloc: Global, four: &Four<'_>, all: &BitWriter) -> Result<bo
     Ok(same)
 }
 
-// Whether the digits have their code, and each budget keeps what it reaches.
-fn have_their_code(alloc: Global, four: &Four<'_>) -> Result<bool, AllocError> {
-    let case = four.case;
+// Whether a digit has so many planes, the digits have their code, and each budget keeps what it reaches.
+fn have_their_code(alloc: Global, case: &Case) -> Result<bool, AllocError> {
+    if case.width > 64 || case.prec > case.width {
+        return Ok(false);
+    }
+    let four = Four { case };
     let mut all = with_room(alloc, 512)?;
-    let same = write(400, four, &mut all) && all.len() == case.len && all.words() == case.code;
-    let parts = all_keep_a_part(alloc, four, &all);
+    let same = write(400, &four, &mut all) && all.len() == case.len && all.words() == case.code;
+    let parts = all_keep_a_part(alloc, &four, &all);
     drop(all);
     Ok(same && parts?)
 }
 
 fn all_have_their_code(rt: &impl Abort, alloc: Global, cases: &[Case]) -> Result<(), AllocError> {
     for case in cases {
-        let Some(four) = four_of(case) else {
-            panic!(rt; "a digit has no such planes");
-        };
-        assert!(rt; have_their_code(alloc, &four)?);
+        assert!(rt; have_their_code(alloc, case)?);
     }
     Ok(())
 }
