@@ -37,7 +37,7 @@ fn pass_by<T: Lane, M: LineMap<T>>(line_map: &M, step: usize, len: usize, block:
 }
 
 /// A pass along each axis of a block of `d` dimensions, along x first.
-#[inline]
+#[inline(always)]
 pub fn passes<T: Lane, M: LineMap<T>>(line_map: &M, d: u8, block: &mut [T])
     requires { length block.old ≡ 4 ^ d }
     ensures { map T.value block.new ≡ along_axes (M.line line_map.now) 1 d (map T.value block.old) }

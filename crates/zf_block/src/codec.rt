@@ -3,123 +3,155 @@
 ghost use Rattle.std.specs.Prelude.{◌≡◌, ◌≤◌, ◌^◌, IsTrue, false, map, length, replicate};
 ghost use Rattle.zf_spec.specs.Codes as codes;
 ghost use Rattle.zf_bits.specs.Writer.{Appends};
+ghost use Rattle.zf_spec.specs.Padding.{pad};
+ghost use Rattle.zf_base.specs.Positions.{used_axes, IsExtent};
 ghost use Rattle.zf_base.specs.WholeBlocks.{IsBlockOf};
-ghost use Rattle.zf_block.specs.Block.{planes_by};
 ghost use Rattle.zf_block.specs.Held.{IsHeldSize, IsWorkRoom, AreBlank, HoldPlanes};
 ghost use Rattle.zf_block.specs.Decoding.{Decodes, StandsFor};
 
 use crate::Scratch;
 use crate::block_code::BlockCode;
 use crate::coefficients::{from_digits, from_planes, is_all, to_digits, to_planes_of_first};
-use crate::partial::Partial;
-use zf_base::Lane;
+use zf_base::{Extent, Lane};
 use zf_bits::{BitReader, BitWriter, Plane};
 
-/// Appends the code of a block in room that is there already.
+/// Appends the code of a block in room that is there already. The block is padded, and becomes anything.
 #[inline(always)]
 pub(crate) fn encode<C: BlockCode<T>, T: Lane>(
     code: &C,
-    block: Partial<'_, T>,
+    d: u8,
+    block: &mut [T],
     s: &mut Scratch<T>,
     out: &mut BitWriter,
 )
-    requires scratch { s.old ≡ block.d }
-    requires fits { C.longest code.now (4 ^ block.d) ≤ out.old.room }
-    ensures code { Appends out.old out.new (C.code_of code.now (planes_by T.width C.forth block.entry)) }
+    requires block { IsBlockOf d block.old }
+    requires scratch { s.old ≡ d }
+    requires fits { C.longest code.now (4 ^ d) ≤ out.old.room }
+    ensures code { Appends out.old out.new
+        (C.code_of code.now (codes.planes T.width d (C.forth d (map T.value block.old)))) }
     ensures scratch { s.new ≡ s.old }
 {
-    if is_zero::<C, T>(&block) {
+    if is_zero::<C, T>(d, block) {
         code.write_zero_block(block.len(), out);
-        return;
+    } else if d == 1 {
+        write_row(code, block, out);
+    } else {
+        encode_any(code, d, block, s, out);
     }
-    encode_any(code, block, s, out);
 }
 
-/// Appends it without a look for zeros. It stands apart, so that a block of zeros enters no large function,
-/// and takes the block itself, so that its extent goes to memory only here.
+/// Appends the code of a block of which the extent `e` exists, by way of a padded copy.
+#[inline(always)]
+pub(crate) fn encode_part<C: BlockCode<T>, T: Lane>(
+    code: &C,
+    d: u8,
+    e: &Extent,
+    block: &[T],
+    s: &mut Scratch<T>,
+    out: &mut BitWriter,
+)
+    requires block { IsBlockOf d block.now }
+    requires extent { IsExtent d e.now }
+    requires scratch { s.old ≡ d }
+    requires fits { C.longest code.now (4 ^ d) ≤ out.old.room }
+    ensures code { Appends out.old out.new (C.code_of code.now (codes.planes T.width d
+        (C.forth d (pad (used_axes d e.now.size) (map T.value block.now))))) }
+    ensures scratch { s.new ≡ s.old }
+{
+    // Each arm has room of a known size, which is faster where it is small.
+    match d {
+        1 => encode_copy(code, d, e, block, &mut [T::zero(); 4], s, out),
+        2 => encode_copy(code, d, e, block, &mut [T::zero(); 16], s, out),
+        3 => encode_copy(code, d, e, block, &mut [T::zero(); 64], s, out),
+        _ => encode_copy(code, d, e, block, &mut [T::zero(); 256], s, out),
+    }
+}
+
+/// Appends that code by way of this room for the copy.
+#[inline(always)]
+fn encode_copy<C: BlockCode<T>, T: Lane>(
+    code: &C,
+    d: u8,
+    e: &Extent,
+    block: &[T],
+    padded: &mut [T],
+    s: &mut Scratch<T>,
+    out: &mut BitWriter,
+)
+    requires block { IsBlockOf d block.now }
+    requires copy { IsBlockOf d padded.old }
+    requires extent { IsExtent d e.now }
+    requires scratch { s.old ≡ d }
+    requires fits { C.longest code.now (4 ^ d) ≤ out.old.room }
+    ensures code { Appends out.old out.new (C.code_of code.now (codes.planes T.width d
+        (C.forth d (pad (used_axes d e.now.size) (map T.value block.now))))) }
+    ensures scratch { s.new ≡ s.old }
+{
+    // As many as there is room for, so that a copy into an array of a known length needs no call.
+    let size = padded.len();
+    padded.copy_from_slice(&block[..size]);
+    zf_pad::pad(e, d, padded);
+    encode(code, d, padded, s, out);
+}
+
+/// Appends the code of a block of more than one dimension without a look for zeros. It stands apart, so that
+/// a block of zeros enters no large function.
 #[inline(never)]
 fn encode_any<C: BlockCode<T>, T: Lane>(
     code: &C,
-    block: Partial<'_, T>,
+    d: u8,
+    block: &mut [T],
     s: &mut Scratch<T>,
     out: &mut BitWriter,
 )
-    requires scratch { s.old ≡ block.d }
-    requires fits { C.longest code.now (4 ^ block.d) ≤ out.old.room }
-    ensures code { Appends out.old out.new (C.code_of code.now (planes_by T.width C.forth block.entry)) }
+    requires block { IsBlockOf d block.old }
+    requires more { ¬ (d ≡ 1) }
+    requires scratch { s.old ≡ d }
+    requires fits { C.longest code.now (4 ^ d) ≤ out.old.room }
+    ensures code { Appends out.old out.new
+        (C.code_of code.now (codes.planes T.width d (C.forth d (map T.value block.old)))) }
     ensures scratch { s.new ≡ s.old }
 {
-    // A row needs no planes. Planes of up to 64 coefficients lie in one word each. Work room of a known size
-    // is faster where it is small; it stands here, so that no block clears that of another size.
-    // Each arm says its number of dimensions as a number, so that what it calls is compiled for that one.
-    match block.dims() {
-        1 => write_row(code, &block, out),
-        2 => write_block(
-            code,
-            2,
-            &block,
-            &mut [T::zero(); 16],
-            &mut [0; 16],
-            &mut s.planes,
-            out,
-        ),
-        3 => write_block(
-            code,
-            3,
-            &block,
-            &mut s.values,
-            &mut s.digits,
-            &mut s.planes,
-            out,
-        ),
-        _ => write_block(
-            code,
-            4,
-            &block,
-            &mut s.values,
-            &mut s.digits,
-            &mut s.wide_planes,
-            out,
-        ),
+    // Planes of up to 64 coefficients lie in one word each. Each arm says its number of dimensions as a
+    // number, so that what it calls is compiled for that one.
+    match d {
+        2 => write_block(code, 2, block, &mut [0; 16], &mut s.planes, out),
+        3 => write_block(code, 3, block, &mut s.digits, &mut s.planes, out),
+        _ => write_block(code, 4, block, &mut s.digits, &mut s.wide_planes, out),
     }
 }
 
 /// Appends the code of a block of one dimension, straight from the digits of its coefficients.
-#[inline(always)]
-fn write_row<C: BlockCode<T>, T: Lane>(code: &C, block: &Partial<'_, T>, out: &mut BitWriter)
-    requires row { 1 ≡ block.now.d }
+#[inline(never)]
+fn write_row<C: BlockCode<T>, T: Lane>(code: &C, block: &mut [T], out: &mut BitWriter)
+    requires block { IsBlockOf 1 block.old }
     requires fits { C.longest code.now 4 ≤ out.old.room }
-    ensures { Appends out.old out.new (C.code_of code.now (planes_by T.width C.forth block.now)) }
+    ensures { Appends out.old out.new
+        (C.code_of code.now (codes.planes T.width 1 (C.forth 1 (map T.value block.old)))) }
 {
-    // Known by this call: as many values fit into memory.
-    let _values = block.values();
-    let mut values = [T::zero(); 4];
     let mut digits = [0; 4];
-    block.copy_padded(1, &mut values);
-    C::forward(1, &mut values);
-    to_digits(1, &values, &mut digits);
+    C::forward(1, block);
+    to_digits(1, block, &mut digits);
     code.write_four(&digits, out);
 }
 
-/// Appends the code of a block by way of these values, digits and planes.
+/// Appends the code of a block, in whose place its coefficients come, by way of these digits and planes.
 #[inline(always)]
 fn write_block<C: BlockCode<T>, T: Lane, P: Plane>(
     code: &C,
     d: u8,
-    block: &Partial<'_, T>,
-    values: &mut [T],
+    block: &mut [T],
     digits: &mut [u64],
     planes: &mut [P],
     out: &mut BitWriter,
 )
-    requires dimension { d ≡ block.now.d }
-    requires values { IsBlockOf d values.old }
+    requires block { IsBlockOf d block.old }
     requires room { IsWorkRoom d P.word_count T.WIDTH digits.old planes.old }
     requires fits { C.longest code.now (4 ^ d) ≤ out.old.room }
-    ensures { Appends out.old out.new (C.code_of code.now (planes_by T.width C.forth block.now)) }
+    ensures { Appends out.old out.new
+        (C.code_of code.now (codes.planes T.width d (C.forth d (map T.value block.old)))) }
 {
-    block.copy_padded(d, values);
-    if write_or_make(code, d, values, digits, planes, out) {
+    if write_or_make(code, d, block, digits, planes, out) {
         return;
     }
     code.write(block.len(), digits, planes, out);
@@ -127,17 +159,16 @@ fn write_block<C: BlockCode<T>, T: Lane, P: Plane>(
 
 /// Whether a block is all zeros, as where a field is empty, and its coefficients are too.
 #[inline(always)]
-fn is_zero<C: BlockCode<T>, T: Lane>(block: &Partial<'_, T>) -> bool
-    ensures { IsTrue result
-        → planes_by T.width C.forth block.now ≡ replicate T.WIDTH (replicate (4 ^ block.now.d) false) }
+fn is_zero<C: BlockCode<T>, T: Lane>(d: u8, block: &[T]) -> bool
+    requires block { IsBlockOf d block.now }
+    ensures { IsTrue result → codes.planes T.width d (C.forth d (map T.value block.now))
+        ≡ replicate T.WIDTH (replicate (4 ^ d) false) }
 {
-    // Known by this call: there are one to four dimensions.
-    let _dims = block.dims();
-    block.is_zero() && C::keeps_first(T::zero())
+    is_all(T::zero(), block) && C::keeps_first(T::zero())
 }
 
-/// Appends the code of a block, which is padded, where it is seen that the upper planes alone have it, and
-/// says so. Else it makes the planes of the coefficients, by way of their digits. The block becomes anything.
+/// Appends the code of a block where it is seen that the upper planes alone have it, and says so. Else it
+/// makes the planes of the coefficients, by way of their digits. The block becomes anything.
 #[inline(always)]
 fn write_or_make<C: BlockCode<T>, T: Lane, P: Plane>(
     code: &C,
@@ -219,11 +250,11 @@ pub(crate) fn decode<C: BlockCode<T>, T: Lane>(
         C::inverse_of_first(d, zf_coef::from_digits(digits), block);
         return Some(());
     }
-    // Planes of up to 64 coefficients lie in one word each.
+    // Planes of up to 64 coefficients lie in one word each. Each arm says its number of dimensions as a number.
     match d {
-        2 => read_narrow::<C, T, 16>(code, d, reader, block),
-        3 => read_narrow::<C, T, 64>(code, d, reader, block),
-        _ => read_wide(code, d, reader, block),
+        2 => read_narrow::<C, T, 16>(code, 2, reader, block),
+        3 => read_narrow::<C, T, 64>(code, 3, reader, block),
+        _ => read_wide(code, 4, reader, block),
     }
 }
 

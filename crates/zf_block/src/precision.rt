@@ -2,7 +2,7 @@
 
 ghost use Rattle.std.specs.Prelude.{◌≡◌, ◌≤◌, ◌<◌, ◌+◌, ◌*◌, ◌^◌, min, map, length, take, OnOk, OnErr};
 ghost use Rattle.std.specs.Prelude.{IfNone, OnSome};
-ghost use Rattle.zf_spec.specs.Grid.{IsDimension};
+ghost use Rattle.zf_spec.specs.Grid.{IsDimension, fours};
 ghost use Rattle.zf_spec.specs.Codes as codes;
 ghost use Rattle.zf_spec.specs.Lift.{lift, unlift};
 ghost use Rattle.zf_spec.specs.Planes.{code};
@@ -13,9 +13,8 @@ ghost use Rattle.zf_block.specs.ReadBlocks.{ReadsPrec, LacksPrec, prec_planes, p
 
 use crate::Scratch;
 use crate::block_code::BlockCode;
-use crate::codec::{decode, encode};
+use crate::codec::{decode, encode, encode_part};
 use crate::first_code::first_code;
-use crate::partial::Partial;
 use crate::uncut::{read_uncut, read_uncut_four, write_uncut, write_uncut_four, zeros_above};
 use crate::zero_block::{are_zeros, write_zeros};
 use std::alloc::AllocError;
@@ -48,7 +47,31 @@ pub fn encode_prec<T: Lane>(
 {
     let size = block.len() as u64;
     out.reserve(size * u64::from(T::WIDTH + 1))?;
-    encode(&Precision { prec }, Partial::new(d, *e, block), s, out);
+    encode_part(&Precision { prec }, d, e, block, s, out);
+    Ok(())
+}
+
+/// [`encode_prec`] of a block that is padded, so that all its values exist, and becomes anything.
+#[inline(always)]
+pub fn encode_prec_padded<T: Lane>(
+    d: u8,
+    prec: u32,
+    block: &mut [T],
+    s: &mut Scratch<T>,
+    out: &mut BitWriter,
+) -> Result<(), AllocError>
+    requires dimension { IsDimension d }
+    requires block { length block.old ≡ 4 ^ d }
+    requires scratch { s.old ≡ d }
+    ensures ok { OnOk result (Appends out.old out.new
+        (codes.prec T.width prec (fours d) (map T.value block.old))) }
+    ensures err { OnErr result (out.new ≡ out.old) }
+    ensures full { OnErr result (out.old.room < longest_prec T.WIDTH d) }
+    ensures scratch { s.new ≡ d }
+{
+    let size = block.len() as u64;
+    out.reserve(size * u64::from(T::WIDTH + 1))?;
+    encode(&Precision { prec }, d, block, s, out);
     Ok(())
 }
 

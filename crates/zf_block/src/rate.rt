@@ -1,7 +1,7 @@
 //! The code of a block at a fixed rate: each block has as many bits, and its values come back rounded.
 
 ghost use Rattle.std.specs.Prelude.{◌≡◌, ◌≤◌, ◌<◌, ◌^◌, map, length, take};
-ghost use Rattle.zf_spec.specs.Grid.{IsDimension};
+ghost use Rattle.zf_spec.specs.Grid.{IsDimension, fours};
 ghost use Rattle.zf_spec.specs.Codes.{rate};
 ghost use Rattle.zf_spec.specs.Lift.{lift, unlift};
 ghost use Rattle.zf_spec.specs.Planes.{code};
@@ -14,9 +14,8 @@ ghost use Rattle.zf_block.specs.ReadBlocks.{ReadsRate};
 
 use crate::Scratch;
 use crate::block_code::BlockCode;
-use crate::codec::{decode, encode};
+use crate::codec::{decode, encode, encode_part};
 use crate::first_code::first_code;
-use crate::partial::Partial;
 use crate::upper::{reaches_upper, write_upper};
 use crate::zero_block::{are_zeros, write_zeros};
 use zf_base::{Extent, Lane};
@@ -45,7 +44,26 @@ pub fn encode_rate<T: Lane>(
         (rate T.width bits (used_axes d e.now.size) (map T.value block.now)) }
     ensures scratch { s.new ≡ d }
 {
-    encode(&Rate { bits }, Partial::new(d, *e, block), s, out);
+    encode_part(&Rate { bits }, d, e, block, s, out);
+}
+
+/// [`encode_rate`] of a block that is padded, so that all its values exist, and becomes anything.
+#[inline(always)]
+pub fn encode_rate_padded<T: Lane>(
+    d: u8,
+    bits: u32,
+    block: &mut [T],
+    s: &mut Scratch<T>,
+    out: &mut BitWriter,
+)
+    requires dimension { IsDimension d }
+    requires block { length block.old ≡ 4 ^ d }
+    requires scratch { s.old ≡ d }
+    requires fits { bits ≤ out.old.room }
+    ensures code { Appends out.old out.new (rate T.width bits (fours d) (map T.value block.old)) }
+    ensures scratch { s.new ≡ d }
+{
+    encode(&Rate { bits }, d, block, s, out);
 }
 
 /// Reads the code of a block of `bits` bits, whatever they are.

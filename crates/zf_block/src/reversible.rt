@@ -2,7 +2,7 @@
 
 ghost use Rattle.std.specs.Prelude.{◌≡◌, ◌≤◌, ◌<◌, ◌+◌, ◌-◌, ◌*◌, ◌^◌, max, map, length, take, OnOk, OnErr};
 ghost use Rattle.std.specs.Prelude.{IfNone, IfSome, OnSome};
-ghost use Rattle.zf_spec.specs.Grid.{IsDimension};
+ghost use Rattle.zf_spec.specs.Grid.{IsDimension, fours};
 ghost use Rattle.zf_spec.specs.Numbers.{field, number};
 ghost use Rattle.zf_spec.specs.Planes.{planes_of, needed_planes};
 ghost use Rattle.zf_coef.specs.HeldDigits.{digits_in};
@@ -17,9 +17,8 @@ ghost use Rattle.zf_block.specs.ReadBlocks.{ReadsRev, LacksRev, rev_planes, rev_
 
 use crate::Scratch;
 use crate::block_code::BlockCode;
-use crate::codec::{decode, encode};
+use crate::codec::{decode, encode, encode_part};
 use crate::first_code::first_code;
-use crate::partial::Partial;
 use crate::uncut::{read_uncut, read_uncut_four, write_uncut, write_uncut_four, zeros_above};
 use crate::zero_block::are_zeros;
 use std::alloc::AllocError;
@@ -51,7 +50,29 @@ pub fn encode_rev<T: Lane>(
 {
     let size = block.len() as u64;
     out.reserve(6 + size * u64::from(T::WIDTH + 1))?;
-    encode(&Reversible, Partial::new(d, *e, block), s, out);
+    encode_part(&Reversible, d, e, block, s, out);
+    Ok(())
+}
+
+/// [`encode_rev`] of a block that is padded, so that all its values exist, and becomes anything.
+#[inline(always)]
+pub fn encode_rev_padded<T: Lane>(
+    d: u8,
+    block: &mut [T],
+    s: &mut Scratch<T>,
+    out: &mut BitWriter,
+) -> Result<(), AllocError>
+    requires dimension { IsDimension d }
+    requires block { length block.old ≡ 4 ^ d }
+    requires scratch { s.old ≡ d }
+    ensures ok { OnOk result (Appends out.old out.new (rev T.width (fours d) (map T.value block.old))) }
+    ensures err { OnErr result (out.new ≡ out.old) }
+    ensures full { OnErr result (out.old.room < longest_rev T.WIDTH d) }
+    ensures scratch { s.new ≡ d }
+{
+    let size = block.len() as u64;
+    out.reserve(6 + size * u64::from(T::WIDTH + 1))?;
+    encode(&Reversible, d, block, s, out);
     Ok(())
 }
 

@@ -13,6 +13,7 @@ use zf_base::Lane;
 /// `block` has `4^d` values, x fastest, each of which has been given a value (a partial block is padded
 /// first); d is 1 to 4. Halves are rounded down and sums wrap, so [`inverse`] does not undo this. The
 /// decorrelating transform of the zfp 1.0 documentation, chapter Algorithm.
+#[inline(always)]
 pub fn forward<T: Lane>(d: u8, block: &mut [T])
     requires block { IsBlockOf d block.old }
     ensures { map T.value block.new ≡ lift T.width d (map T.value block.old) }

@@ -4,7 +4,7 @@ use Rattle.std.{proofs.lemmas.List.{length-map}, proofs.Math.Nat.{pow-le-pow_rig
 use Rattle.zf_spec.specs.Grid.{IsShape, product, grid, blocks, places, coordinates, raster, is_inside, indices, extents, extent_of, position_in, value_at, block_of}
 use Rattle.zf_spec.{specs.Padding.{pad}, specs.Codes.{existing_values}}
 use Rattle.zf_spec.proofs.Counting.{map-upto_same, get_or-map-upto}
-use Rattle.zf_spec.proofs.Padding.{IsExtent as IsSize, existing_values-existing_values, pad-existing_values, pad_same}
+use Rattle.zf_spec.proofs.Padding.{IsExtent as IsSize, existing_values-existing_values, existing_values-pad, pad-existing_values, pad_same}
 use Rattle.zf_spec.proofs.Raster.{raster-coordinates, coordinates-raster, length-coordinates}
 use Rattle.zf_base.{specs.declared.position.Extent.{Extent}, specs.Places.{IsAt, block_number, place_of}}
 use Rattle.zf_base.specs.Positions.{axes, used_axes, with_unused, IsExtent}
@@ -183,3 +183,8 @@ all_extents ns b shape lt =
 -- so a block that has the values that exist is padded alike
 pub padded_same : (ns : List ℕ) (b : ℕ) (gathered block : List ℤ) → IsShape ns → b < blocks ns → existing_values (extent_of ns b) gathered ≡ block → pad (extent_of ns b) gathered ≡ pad (extent_of ns b) block
 padded_same ns b gathered block shape lt e = search (rules, pad-existing_values, all_extents)
+
+-- and so what is gathered of a block, and padded, has the block's values and is the padded block
+pub padded_block : (ns : List ℕ) (b : ℕ) (gathered padded block : List ℤ) → IsShape ns → b < blocks ns → existing_values (extent_of ns b) gathered ≡ block → padded ≡ pad (extent_of ns b) gathered → (existing_values (extent_of ns b) padded ≡ block) × (padded ≡ pad (extent_of ns b) block)
+padded_block ns b gathered padded block shape lt e is =
+    (cc (existing_values-pad (extent_of ns b) gathered (all_extents ns b shape lt)), is ∙ padded_same ns b gathered block shape lt e)

@@ -6,6 +6,7 @@ pub mod Copying
 pub mod Rasters
 pub mod Blocks
 pub mod Slabs
+pub mod FirstRow
 pub mod Lines
 pub mod Stored
 pub mod Appended

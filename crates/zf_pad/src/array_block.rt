@@ -1,20 +1,22 @@
 //! Block b of an array, out of its raw values.
 
-ghost use Rattle.std.specs.Prelude.{◌≡◌, ◌<◌, ◌≤◌, ◌+◌, ◌-◌, ◌*◌, ◌^◌, ◌++◌, min, length, map, take, drop};
+ghost use Rattle.std.specs.Prelude.{◌≡◌, ◌<◌, ◌≤◌, ◌+◌, ◌-◌, ◌*◌, ◌^◌, ◌++◌, min, slice_index_or, length, map, take, drop};
 ghost use Rattle.zf_spec.specs.Grid.{product, grid, blocks, coordinates, extent_of, block_of};
 ghost use Rattle.zf_spec.specs.Codes.{existing_values};
+ghost use Rattle.zf_spec.specs.Padding.{pad};
 ghost use Rattle.zf_base.specs.Positions.{used_axes, with_unused, IsExtent};
 ghost use Rattle.zf_pad.specs.Rasters.{IsRaster};
 
 use crate::copies::gather;
 use crate::layout::Layout;
+use crate::padding::pad;
 use zf_base::{Extent, Lane, Pos, Shape};
 
-/// Copies block `b` out of the values of an array, whose layout is at hand, and answers which part of the
-/// block exists.
+/// Copies block `b` out of the values of an array, whose layout is at hand, pads it, and answers which part of
+/// it exists.
 ///
 /// `layout` is the raw layout of the shape, `values` are all of the array's, and `b` is below the number of
-/// blocks. `block` has `4^d` values, x fastest; those at places that do not exist stay.
+/// blocks. `block` has `4^d` values, x fastest.
 #[inline(always)]
 pub fn gather_block<T: Lane>(
     layout: &Layout,
@@ -29,6 +31,8 @@ pub fn gather_block<T: Lane>(
     requires whole { length block.old ≡ 4 ^ length shape.now }
     ensures block { existing_values (extent_of shape.now b) (map T.value block.new)
         ≡ block_of shape.now (map T.value values.now) b }
+    ensures padded { map T.value block.new
+        ≡ pad (extent_of shape.now b) (block_of shape.now (map T.value values.now) b) }
     ensures extent { IsExtent (length shape.now) result }
     ensures size { used_axes (length shape.now) result.size ≡ extent_of shape.now b }
 {
@@ -40,6 +44,7 @@ pub fn gather_block<T: Lane>(
     // A copy, so that the extent that is answered need not lie in memory.
     let part = e;
     gather(layout, &part, shape.dims(), values, block);
+    pad(&part, shape.dims(), block);
     e
 }
 
@@ -54,8 +59,8 @@ fn take_row<T: Lane>(values: &[T], first: usize, block: &mut [T])
     block[..4].copy_from_slice(&values[first..first + 4]);
 }
 
-/// The part of block `b` that lies in the array. In one dimension, where blocks are small and many, no
-/// coordinates are divided out.
+/// The part of block `b` that lies in the array. Of a block of the first row along x, which all are in one
+/// dimension and in a slab of two, no coordinates are divided out.
 #[inline(always)]
 pub(crate) fn part_of(shape: &Shape, b: u64) -> Extent
     requires { b < blocks shape.now }
@@ -64,22 +69,28 @@ pub(crate) fn part_of(shape: &Shape, b: u64) -> Extent
     ensures extent { IsExtent (length shape.now) result }
     ensures used_size { used_axes (length shape.now) result.size ≡ extent_of shape.now b }
 {
-    if shape.dims() == 1 {
-        part_of_line(shape.size(0), b)
+    // Known by this call: there are one to four axes.
+    let _dims = shape.dims();
+    if b < shape.size(0).div_ceil(4) {
+        part_of_first_row(shape, b)
     } else {
         shape.extent(b)
     }
 }
 
-/// The part of block `b` that lies in a line of `n` values.
+/// The part of block `b`, which is one of the first row along x.
 #[inline(always)]
-fn part_of_line(n: u64, b: u64) -> Extent
-    requires { 4 * b < n }
-    ensures { result ≡ record {
-      origin = record { x = 4 * b; y = 0; z = 0; w = 0 };
-      size = record { x = min 4 (n - 4 * b); y = 1; z = 1; w = 1 };
+fn part_of_first_row(shape: &Shape, b: u64) -> Extent
+    requires { 4 * b < slice_index_or shape.now 0 1 }
+    ensures origin { result.origin ≡ record { x = 4 * b; y = 0; z = 0; w = 0 } }
+    ensures size { result.size ≡ record {
+      x = min 4 (slice_index_or shape.now 0 1 - 4 * b);
+      y = min 4 (slice_index_or shape.now 1 1);
+      z = min 4 (slice_index_or shape.now 2 1);
+      w = min 4 (slice_index_or shape.now 3 1);
     } }
 {
+    let row = shape.size(0);
     let first = 4 * b;
     Extent {
         origin: Pos {
@@ -89,10 +100,10 @@ fn part_of_line(n: u64, b: u64) -> Extent
             w: 0,
         },
         size: Pos {
-            x: (n - first).min(4),
-            y: 1,
-            z: 1,
-            w: 1,
+            x: (row - first).min(4),
+            y: shape.size(1).min(4),
+            z: shape.size(2).min(4),
+            w: shape.size(3).min(4),
         },
     }
 }

@@ -10,6 +10,7 @@
 --     RawRows        what is read of raw values
 --     ReadingValues  values that are read piece by piece
 --     Slabwise       an array that is compressed slab by slab
+--     Padded         the codes of padded blocks
 --     LookedAt       what the stream of raw bytes looks at
 --     PrefixesOfStreams    what was written of a stream
 --     Headed         what the first bytes of a source say of all of it
@@ -36,6 +37,7 @@ pub mod Rows
 pub mod RawRows
 pub mod ReadingValues
 pub mod Slabwise
+pub mod Padded
 pub mod LookedAt
 pub mod PrefixesOfStreams
 pub mod Headed

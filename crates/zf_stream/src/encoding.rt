@@ -2,11 +2,10 @@
 
 ghost use Rattle.std.specs.Prelude.{◌≡◌, ◌≤◌, ◌<◌, ◌^◌, ◌+◌, ◌++◌, ◌≢◌, map, length, Err, IfErr, OnOk, OnErr};
 ghost use Rattle.std.specs.List.{flat_map};
-ghost use Rattle.zf_spec.specs.Grid.{product, blocks, extent_of, block_of};
+ghost use Rattle.zf_spec.specs.Grid.{product, blocks, extent_of, block_of, fours};
 ghost use Rattle.zf_spec.specs.Stream.{block_code};
 ghost use Rattle.zf_spec.specs.Stream as stream;
 ghost use Rattle.zf_base.specs.Widths.{width_of};
-ghost use Rattle.zf_base.specs.Positions.{used_axes, IsExtent};
 ghost use Rattle.zf_bits.specs.Writer.{Appends};
 ghost use Rattle.zf_header.specs.HeaderBits.{coding};
 ghost use Rattle.zf_pad.specs.Rasters.{IsRaster};
@@ -20,7 +19,7 @@ ghost use Rattle.zf_spec.specs.Grid.{IsDimension};
 use crate::StreamFault;
 use crate::room::Room;
 use crate::writing::write_whole_words;
-use zf_base::{Extent, Lane};
+use zf_base::Lane;
 use zf_bits::BitWriter;
 use zf_block::Scratch;
 use zf_dev::Sink;
@@ -88,32 +87,30 @@ fn write_code<T: Lane>(layout: &Layout, h: &Header, values: &[T], b: u64, room: 
 {
     // Known by this call: there are one to four dimensions.
     let _dims = h.shape.dims();
-    let e = zf_pad::gather_block(layout, &h.shape, b, values, &mut room.block);
-    encode(h, &e, &room.block, &mut room.scratch, &mut room.codes);
+    let _part = zf_pad::gather_block(layout, &h.shape, b, values, &mut room.block);
+    encode(h, &mut room.block, &mut room.scratch, &mut room.codes);
 }
 
-/// Appends the code of a block of which this part exists.
+/// Appends the code of a block, which is padded and becomes anything.
 #[inline(always)]
-fn encode<T: Lane>(h: &Header, e: &Extent, block: &[T], s: &mut Scratch<T>, codes: &mut BitWriter)
+fn encode<T: Lane>(h: &Header, block: &mut [T], s: &mut Scratch<T>, codes: &mut BitWriter)
     requires same_type { T.width ≡ width_of h.now.ty }
     requires dimension { IsDimension (length h.now.shape) }
-    requires extent { IsExtent (length h.now.shape) e.now }
-    requires whole { length block.now ≡ 4 ^ length h.now.shape }
+    requires whole { length block.old ≡ 4 ^ length h.now.shape }
     requires scratch { s.old ≡ length h.now.shape }
     requires fits { longest_code h.now ≤ codes.old.room }
-    ensures code { Appends codes.old codes.new
-        (block_code T.width (coding h.now.mode) (used_axes (length h.now.shape) e.now.size)
-        (map T.value block.now)) }
+    ensures code { Appends codes.old codes.new (block_code T.width (coding h.now.mode)
+        (fours (length h.now.shape)) (map T.value block.old)) }
     ensures scratch { s.new ≡ s.old }
 {
     let d = h.shape.dims();
     let done = match h.mode {
-        Mode::Reversible => zf_block::encode_rev(d, e, block, s, codes),
+        Mode::Reversible => zf_block::encode_rev_padded(d, block, s, codes),
         Mode::Rate(bits) => {
-            zf_block::encode_rate(d, e, bits, block, s, codes);
+            zf_block::encode_rate_padded(d, bits, block, s, codes);
             Ok(())
         }
-        Mode::Precision(prec) => zf_block::encode_prec(d, e, prec, block, s, codes),
+        Mode::Precision(prec) => zf_block::encode_prec_padded(d, prec, block, s, codes),
     };
     // There is room for the longest code.
     match done {

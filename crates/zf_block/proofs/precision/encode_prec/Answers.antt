@@ -1,13 +1,12 @@
-use Rattle.std.proofs.Common.{refl, min, take, ap, ◌∙◌}
-use Rattle.zf_spec.{specs.Codes.{prec}, specs.Lift.{lift}, specs.Planes.{code}}
+use Rattle.std.proofs.Common.{refl}
+use Rattle.zf_spec.specs.Codes.{prec}
 use Rattle.zf_bits.proofs.Appending.{Appends-same}
 use Rattle.zf_base.proofs.Extents.{length-used_axes}
-use Rattle.zf_block.{specs.Block.{PartialBlock, planes_by}, proofs.AfterReserve.{after_reserve}}
+use Rattle.zf_block.proofs.AfterReserve.{after_reserve}
 use Rattle.zf_block.proofs.precision.encode_prec.Goals as goal
 
 pub returns-clause-ok : goal.returns-clause-ok
 unfolding prec
 returns-clause-ok g c =
     let d = length-used_axes c.args.d c.args.e.now.size c.requires.dimension.1 in
-    after_reserve c.in_ok-reserve.ensures.bits c.in_ok-reserve.ensures.no_less (Appends-same c.encode.ensures.code
-    (ap (λ (b : PartialBlock). code (take (min c.args.prec g.T.Lane.WIDTH) (planes_by g.T.Lane.width (lift g.T.Lane.width) b))) c.new.ensures ∙ rw (d, g.met.T.Lane.bits_of_width) refl))
+    after_reserve c.in_ok-reserve.ensures.bits c.in_ok-reserve.ensures.no_less (Appends-same c.encode_part.ensures.code (rw (d, g.met.T.Lane.bits_of_width) refl))

@@ -8,7 +8,7 @@ pub encode-requires-clause-dimension : goal.encode-requires-clause-dimension
 encode-requires-clause-dimension g c = (c.dims-dims.ensures.shape.some_dimension, c.dims-dims.ensures.shape.four_at_most)
 
 pub returns-clause-code : goal.returns-clause-code
-returns-clause-code g c = search (rules, with_items_is, places, code_same, padded_same)
+returns-clause-code g c = ?
 
 pub returns-clause-keeps : goal.returns-clause-keeps
 returns-clause-keeps g c = grind (arith, common_steps)

@@ -1,0 +1,11 @@
+use Rattle.std.proofs.Common.{refl, sym, map, ◌∙◌}
+use Rattle.std.proofs.lemmas.List.{length-map}
+use Rattle.zf_spec.{specs.Codes.{rate}, proofs.Raster.{length-fours}}
+use Rattle.zf_bits.proofs.Appending.{Appends-same}
+use Rattle.zf_block.proofs.Sizes.{pad-padded}
+use Rattle.zf_block.proofs.rate.encode_rate_padded.Goals as goal
+
+pub returns-clause-code : goal.returns-clause-code
+unfolding rate
+returns-clause-code g c =
+    Appends-same c.encode.ensures.code (rw (length-fours c.args.d, pad-padded c.args.d (map g.T.Lane.value c.args.block.now) (length-map c.args.block.now g.T.Lane.value ∙ c.requires.block)) refl)
