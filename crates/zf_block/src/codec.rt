@@ -34,7 +34,7 @@ pub(crate) fn encode<C: BlockCode<T>, T: Lane>(
     if is_zero::<C, T>(d, block) {
         code.write_zero_block(block.len(), out);
     } else if d == 1 {
-        write_row(code, block, out);
+        write_row(code, &mut block[..4], out);
     } else {
         encode_any(code, d, block, s, out);
     }
@@ -112,12 +112,12 @@ fn encode_any<C: BlockCode<T>, T: Lane>(
         (C.code_of code.now (codes.planes T.width d (C.forth d (map T.value block.old)))) }
     ensures scratch { s.new ≡ s.old }
 {
-    // Planes of up to 64 coefficients lie in one word each. Each arm says its number of dimensions as a
-    // number, so that what it calls is compiled for that one.
+    // Planes of up to 64 coefficients lie in one word each. Each arm says its number of dimensions and of values
+    // as numbers, so that what it calls is compiled for these.
     match d {
-        2 => write_block(code, 2, block, &mut [0; 16], &mut s.planes, out),
-        3 => write_block(code, 3, block, &mut s.digits, &mut s.planes, out),
-        _ => write_block(code, 4, block, &mut s.digits, &mut s.wide_planes, out),
+        2 => write_block(code, 2, &mut block[..16], &mut [0; 16], &mut s.planes, out),
+        3 => write_block(code, 3, &mut block[..64], &mut s.digits, &mut s.planes, out),
+        _ => write_block(code, 4, &mut block[..256], &mut s.digits, &mut s.wide_planes, out),
     }
 }
 

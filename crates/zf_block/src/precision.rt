@@ -115,10 +115,12 @@ impl<T: Lane> BlockCode<T> for Precision {
 
     ghost len_at = { λ self size s. prec_len T.width self.prec size s };
 
+    #[inline(always)]
     fn forward(d: u8, block: &mut [T]) {
         zf_lift::forward(d, block);
     }
 
+    #[inline(always)]
     fn inverse(d: u8, block: &mut [T]) {
         zf_lift::inverse(d, block);
     }

@@ -99,10 +99,12 @@ impl<T: Lane> BlockCode<T> for Rate {
 
     ghost len_at = { λ self size s. self.bits };
 
+    #[inline(always)]
     fn forward(d: u8, block: &mut [T]) {
         zf_lift::forward(d, block);
     }
 
+    #[inline(always)]
     fn inverse(d: u8, block: &mut [T]) {
         zf_lift::inverse(d, block);
     }

@@ -1,14 +1,28 @@
-use Rattle.std.{proofs.lemmas.Grind.{common_steps}, proofs.Common.{rules, arith}}
+use Rattle.std.{proofs.lemmas.Grind.{common_steps}, proofs.Common.{rules, ◌≡◌, length, map, ap, sym, ◌∙◌, arith}}
 use Rattle.std.proofs.lemmas.List.{with_items_is, places}
-use Rattle.zf_pad.proofs.Blocks.{padded_same}
-use Rattle.zf_parse.proofs.Codes.{code_same}
+use Rattle.zf_spec.{specs.Grid.{fours, extent_of, block_of}, specs.Padding.{pad}, specs.Stream.{block_code}}
+use Rattle.zf_bits.proofs.Appending.{Appends-same}
+use Rattle.zf_base.proofs.Extents.{length-extent_of}
+use Rattle.zf_header.specs.HeaderBits.{coding}
+use Rattle.zf_stream.proofs.Padded.{code_of_padded}
 use Rattle.zf_stream.proofs.encoding.write_code.Goals as goal
 
 pub encode-requires-clause-dimension : goal.encode-requires-clause-dimension
 encode-requires-clause-dimension g c = (c.dims-dims.ensures.shape.some_dimension, c.dims-dims.ensures.shape.four_at_most)
 
 pub returns-clause-code : goal.returns-clause-code
-returns-clause-code g c = ?
+returns-clause-code g c =
+    let w = g.T.Lane.width in
+    let mode = coding c.args.h.now.mode in
+    let ns = c.args.h.now.shape in
+    let es = extent_of ns c.args.b in
+    let value = g.T.Lane.value in
+    let here : c.deref_mut-2.result.now ≡ c.gather_block-part.new.block = search (rules, with_items_is, places) in
+    Appends-same c.encode.ensures.code
+    (ap (λ vs. block_code w mode (fours (length ns)) (map value vs)) here
+    ∙ ap (block_code w mode (fours (length ns))) c.gather_block-part.ensures.padded
+    ∙ ap (λ d. block_code w mode (fours d) (pad es (block_of ns (map value c.args.values.now) c.args.b))) (sym (length-extent_of ns c.args.b))
+    ∙ code_of_padded w mode es (block_of ns (map value c.args.values.now) c.args.b))
 
 pub returns-clause-keeps : goal.returns-clause-keeps
 returns-clause-keeps g c = grind (arith, common_steps)
