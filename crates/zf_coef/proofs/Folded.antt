@@ -3,7 +3,7 @@ use Rattle.std.proofs.Common.{rules, ◌≡◌, ◌∙◌, ℕ, ◌+◌, ◌-◌
 use Rattle.std.{specs.Int.{bit_at}, specs.Int.RustNames.{bit_or}, proofs.lemmas.Bool.{cases_lt}}
 use Rattle.std.{proofs.lemmas.List.{get_or_past}, proofs.lemmas.Nat.Bits.{bit_at_or, bit_at-zero}}
 use Rattle.zf_coef.{specs.Turned.{bit_of, folded_bit, IsFoldedTurned}, proofs.Halves.{word_of-past}}
-use Rattle.zf_coef.specs.Groups.{word_of, HoldsHalf, IsOfGroup, HoldsFrom, HoldsFolded, IsFoldOf}
+use Rattle.zf_coef.specs.Groups.{word_of, HoldsSome, IsOfGroup, HoldsFrom, HoldsFolded, IsFoldOf}
 use Rattle.zf_coef.proofs.ShiftedBits.{bit_at-shr, bit_at-mod_pow, bit_at-mod_above, bit_at-mod, bit_at-shl_low, bit_at-shl_high}
 
 -- ---- planes of folded rows
@@ -52,8 +52,8 @@ all_folded eight number from words planes all holds = search rules
 -- digits that are folded and turned are their planes
 pub planes_of_folded : (number from : ℕ) (digits fold turned : List ℕ) (planes : List (List ℕ)) → length digits ≡ 16
     → ((r i : ℕ) → r < 8 → i < 64 → bit_of fold r i ≡ bit_of digits (i / 32 * 8 + r) (from + i % 32))
-    → IsFoldedTurned fold turned → HoldsFolded number from 32 turned planes → HoldsHalf number from digits planes
-unfolding IsFoldedTurned HoldsHalf
+    → IsFoldedTurned fold turned → HoldsFolded number from 32 turned planes → HoldsSome 32 number from digits planes
+unfolding IsFoldedTurned HoldsSome
 planes_of_folded number from digits fold turned planes long cut turn holds k r lower upper within small =
     let i = k - from in
     let at : from + i ≡ k = omega arith in

@@ -1,28 +1,38 @@
--- Halves of digits that become planes, 32 at a time, and planes that become halves of digits.
+-- Tiles of digits that become planes, 32 or sixteen at a time, and planes that become halves of digits.
 use Rattle.std.proofs.Common.{rules, ◌≡◌, ap, ◌∙◌, ℕ, ◌+◌, ◌-◌, ◌*◌, ◌/◌, ◌%◌, ◌<◌, ◌≤◌, ⊎_elim, List, [], length, get_or, replicate, arith}
 use Rattle.std.{specs.Int.{bit_at}, proofs.lemmas.Bool.{cases_lt}, proofs.lemmas.Nat.Bits.{bit_at-zero}}
 use Rattle.std.proofs.lemmas.List.{get_or-replicate, get_or_past, length-replicate}
 use Rattle.zf_coef.{specs.Turned.{bit_of, IsTurned}, proofs.Putting.{both_kept}}
-use Rattle.zf_coef.specs.Groups.{word_of, HoldsGroup, HoldsHalf, IsOfGroup, AreHalf, HoldsFrom, IsMoved, PutsGroup, PutsHalf, PutsNone}
+use Rattle.zf_coef.specs.Groups.{word_of, HoldsGroup, HoldsSome, IsOfGroup, AreHalf, HoldsFrom, IsMoved, PutsGroup, PutsHalf, PutsNone}
+
+-- ---- planes of tiles
+
+-- what is known of places in tiles of n rows that stand side by side
+pub record Tile (n : ℕ) : Type 0 where
+  pub column : (r : ℕ) → r % n < n
+  pub place : (r j : ℕ) → j < n → r < 64 → r - r % n + j < 64
+  pub rank : (r j : ℕ) → j < n → r < 64 → (r - r % n + j) / n * n + r % n ≡ r
+  pub row : (r j : ℕ) → j < n → r < 64 → (r - r % n + j) % n ≡ j
+
+-- the turned tiles of 64 digits, which have so many digits of each, are as many of their planes
+pub planes_of_tiles : (n number from : ℕ) (digits tiles turned : List ℕ) (old new : List (List ℕ)) → Tile n
+    → ((r i : ℕ) → r < n → i < 64 → bit_of tiles r i ≡ bit_of digits (i / n * n + r) (from + i % n))
+    → IsTurned n tiles turned → HoldsFrom n number from turned old new → HoldsSome n number from digits new
+unfolding IsTurned HoldsSome
+planes_of_tiles n number from digits tiles turned old new tile cut turn put k r lower upper within small =
+    let j = k - from in
+    let at : from + j ≡ k = omega arith in
+    let less : j < n = omega arith in
+    let digit = cut (r % n) (r - r % n + j) (tile.column r) (tile.place r j less small) in
+    cc (at, put.inside j less (omega arith), turn j r less small, digit, tile.rank r j less small, tile.row r j less small)
 
 -- ---- planes of halves
 
--- the turned halves of 64 digits are 32 of their planes
-pub planes_of_half : (number from : ℕ) (digits half turned : List ℕ) (old new : List (List ℕ)) → length half ≡ 32
-    → ((r i : ℕ) → r < 32 → i < 64 → bit_of half r i ≡ bit_of digits (i / 32 * 32 + r) (from + i % 32))
-    → IsTurned 32 half turned → HoldsFrom 32 number from turned old new → HoldsHalf number from digits new
-unfolding IsTurned HoldsHalf
-planes_of_half number from digits half turned old new long cut turn put k r lower upper within small =
-    let j = k - from in
-    let at : from + j ≡ k = omega arith in
-    let row : (r - r % 32 + j) / 32 * 32 + r % 32 ≡ r = omega arith in
-    let place : from + (r - r % 32 + j) % 32 ≡ k = omega arith in search rules
-
 -- both halves
 planes_of_both : (number : ℕ) (digits : List ℕ) (mid new : List (List ℕ)) → length new ≡ length mid → length new ≤ 64
-    → HoldsHalf number 0 digits mid → HoldsHalf number 32 digits new
+    → HoldsSome 32 number 0 digits mid → HoldsSome 32 number 32 digits new
     → ((k : ℕ) → k < 32 → word_of new number k ≡ word_of mid number k) → HoldsGroup number digits new
-unfolding HoldsHalf HoldsGroup
+unfolding HoldsSome HoldsGroup
 planes_of_both number digits mid new long few lower upper kept k r within small = search (rules, cases_lt)
 
 pub group_of_halves : (number : ℕ) (digits : List ℕ) (old mid new : List (List ℕ)) → length new ≡ length mid → length new ≤ 64
@@ -32,18 +42,18 @@ group_of_halves number digits old mid new long few low high = search (rules, pla
 -- digits without a one in these planes have none to turn
 planes_of_none : (number from : ℕ) (digits : List ℕ) (planes : List (List ℕ))
     → ((r k : ℕ) → from ≤ k → k < 64 → bit_of digits r k ≡ 0) → length planes ≤ 64
-    → ((k : ℕ) → from ≤ k → k < length planes → word_of planes number k ≡ 0) → HoldsHalf number from digits planes
-unfolding HoldsHalf
+    → ((k : ℕ) → from ≤ k → k < length planes → word_of planes number k ≡ 0) → HoldsSome 32 number from digits planes
+unfolding HoldsSome
 planes_of_none number from digits planes none few zeros k r lower upper within small = search (rules, bit_at-zero)
 
 pub half_of_none : (number from : ℕ) (digits : List ℕ) (old new : List (List ℕ))
     → ((r k : ℕ) → from ≤ k → k < 64 → bit_of digits r k ≡ 0) → length new ≤ 64 → PutsNone number from old new → PutsHalf number from digits old new
 half_of_none number from digits old new none few put = search (rules, planes_of_none)
 
--- one half is enough for few planes
-pub planes_of_first : (number : ℕ) (digits : List ℕ) (planes : List (List ℕ)) → length planes ≤ 32 → HoldsHalf number 0 digits planes → HoldsGroup number digits planes
-unfolding HoldsHalf HoldsGroup
-planes_of_first number digits planes few half k r within small = half k r (omega arith) (omega arith) within small
+-- the first planes are enough where there are no others
+pub planes_of_first : (n number : ℕ) (digits : List ℕ) (planes : List (List ℕ)) → length planes ≤ n → HoldsSome n number 0 digits planes → HoldsGroup number digits planes
+unfolding HoldsSome HoldsGroup
+planes_of_first n number digits planes few first k r within small = first k r (omega arith) (omega arith) within small
 
 -- other digits with the same words
 pub group_of_same : (number : ℕ) (digits whole : List ℕ) (planes : List (List ℕ)) → ((r : ℕ) → r < 64 → get_or whole r 0 ≡ get_or digits r 0)

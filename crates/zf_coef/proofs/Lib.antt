@@ -6,7 +6,7 @@
 --     Lanes        words that are swapped in lanes of two
 --     Turns        steps that together turn the tiles of words
 --     Putting      words of planes that are written plane by plane
---     Halves       halves of digits that become planes, 32 at a time, and planes that become halves of digits
+--     Halves       tiles of digits that become planes, and planes that become halves of digits
 --     Folded       sixteen digits that become planes, and planes that become sixteen digits, by way of folded rows
 --     Filling      a list that is filled from the front
 --     ByRank       the digits of a block by rank, and blocks that are filled by rank

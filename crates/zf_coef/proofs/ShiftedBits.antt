@@ -28,18 +28,12 @@ bit_at-shl_low a s i h = search (rules, bit_at_cat_low a s 0 i h, bit_at-zero)
 pub bit_at-shl_high : (a s i : ℕ) → s ≤ i → bit_at (a * 2 ^ s) i ≡ bit_at a (i - s)
 bit_at-shl_high a s i h = search (rules, bit_at_cat_high a s 0 i (pow_pos s) h)
 
--- the low half of a word and, above it, another
-pub low_half : (a b i : ℕ) → i < 32 → bit_at (bit_or (bit_and a 0xffff_ffff) (b * 0x1_0000_0000 % 2 ^ 64)) i ≡ bit_at a i
-low_half a b i h =
-    let low = bit_at-mod_pow a 32 i h in
-    let high = bit_at-shl_low b 32 i h in
-    omega (arith, bit_at_or (bit_and a 0xffff_ffff) (b * 0x1_0000_0000 % 2 ^ 64) i, ap (λ n. bit_at n i) (and_mask a 32), low, bit_at-mod (b * 2 ^ 32) i (omega arith), high)
+-- the w lowest bits of a word and, above them, another
+pub low_part : (w a b i : ℕ) → i < w → i < 64 → bit_at (bit_or (bit_and a (2 ^ w - 1)) (b * 2 ^ w % 2 ^ 64)) i ≡ bit_at a i
+low_part w a b i low h = search (rules, bit_at_or, and_mask, bit_at-mod_pow, bit_at-mod, bit_at-shl_low)
 
-pub high_half : (a b i : ℕ) → 32 ≤ i → i < 64 → bit_at (bit_or (bit_and a 0xffff_ffff) (b * 0x1_0000_0000 % 2 ^ 64)) i ≡ bit_at b (i - 32)
-high_half a b i from h =
-    let low = bit_at-mod_above a 32 i from in
-    let high = bit_at-shl_high b 32 i from in
-    omega (arith, bit_at_or (bit_and a 0xffff_ffff) (b * 0x1_0000_0000 % 2 ^ 64) i, ap (λ n. bit_at n i) (and_mask a 32), low, bit_at-mod (b * 2 ^ 32) i h, high)
+pub high_part : (w a b i : ℕ) → w ≤ i → i < 64 → bit_at (bit_or (bit_and a (2 ^ w - 1)) (b * 2 ^ w % 2 ^ 64)) i ≡ bit_at b (i - w)
+high_part w a b i high h = search (rules, bit_at_or, and_mask, bit_at-mod_above, bit_at-mod, bit_at-shl_high)
 
 -- the same of the high half of a word and that of another
 pub low_of_high : (a b i : ℕ) → a < 2 ^ 64 → i < 32 → bit_at (bit_or (a / 0x1_0000_0000) (b / 0x1_0000_0000 * 0x1_0000_0000 % 2 ^ 64)) i ≡ bit_at a (32 + i)

@@ -12,9 +12,9 @@ unfoldable pub HoldsGroup : ℕ → List ℕ → List (List ℕ) → Type 0
 HoldsGroup number digits planes =
     (k r : ℕ) → k < length planes → r < 64 → bit_at (word_of planes number k) r ≡ bit_of digits r k
 
--- that holds of the 32 planes from `from` on
-unfoldable pub HoldsHalf : ℕ → ℕ → List ℕ → List (List ℕ) → Type 0
-HoldsHalf number from digits planes = (k r : ℕ) → from ≤ k → k < from + 32 → k < length planes → r < 64
+-- that holds of so many planes from `from` on
+unfoldable pub HoldsSome : ℕ → ℕ → ℕ → List ℕ → List (List ℕ) → Type 0
+HoldsSome count number from digits planes = (k r : ℕ) → from ≤ k → k < from + count → k < length planes → r < 64
     → bit_at (word_of planes number k) r ≡ bit_of digits r k
 
 -- digit k of coefficient r is bit r of that word of plane k, or zero where there is no such plane
@@ -48,7 +48,7 @@ pub record PutsGroup (number : ℕ) (digits : List ℕ) (old new : List (List �
 
 -- those of the 32 planes from `from` on are; the planes below and the words of other numbers stay
 pub record PutsHalf (number from : ℕ) (digits : List ℕ) (old new : List (List ℕ)) : Type 0 where
-  pub bits : HoldsHalf number from digits new
+  pub bits : HoldsSome 32 number from digits new
   pub below : (k : ℕ) → k < from → word_of new number k ≡ word_of old number k
   pub others : KeepsOthers number old new
 

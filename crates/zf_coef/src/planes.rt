@@ -11,7 +11,7 @@ ghost use Rattle.zf_coef.specs.Groups.{KeepsOthers, HoldsFrom, HoldsFolded};
 ghost use Rattle.zf_coef.specs.Turned.{bit_of};
 
 use crate::needed::any_digits;
-use crate::turning::{turn_32, turn_folded};
+use crate::turning::{turn_16, turn_32, turn_folded};
 use zf_bits::Plane;
 
 /// How many ranks a word of a plane has.
@@ -103,20 +103,25 @@ fn put_16<P: Plane>(digits: &[u64], number: usize, planes: &mut [P])
 {
     // A number of planes that is known needs no loop.
     match planes.len() {
+        16 => put_halves(16, digits, number, planes),
         32 => put_halves(16, digits, number, planes),
         64 => put_halves(16, digits, number, planes),
         _ => put_halves(16, digits, number, planes),
     }
 }
 
-/// Puts 64 digits.
+/// Puts 64 digits. With at most sixteen planes four of them fit in a word, and there are fewer rows to turn.
 #[inline(never)]
 fn put_64<P: Plane>(digits: &[u64], number: usize, planes: &mut [P])
     requires word { HasWord number P.word_count planes.old }
     requires digits { length digits.now ≡ 64 }
     ensures { PutsGroup number digits.now (map P.words planes.old) (map P.words planes.new) }
 {
-    put_halves(64, digits, number, planes);
+    if planes.len() <= 16 {
+        put_few_of_64(digits, number, planes);
+    } else {
+        put_halves(64, digits, number, planes);
+    }
 }
 
 /// Puts so many digits, 32 planes at a time.
@@ -282,6 +287,35 @@ fn fold<const N: usize>(digits: &[u64], from: usize) -> [u64; N]
     let mut words = [0; N];
     for r in 0..N {
         words[r] = ((digits[r] >> from) & 0xffff_ffff) | (digits[r + N] >> from) << 32;
+    }
+    words
+}
+
+/// All planes of 64 digits, where there are at most sixteen.
+#[inline(always)]
+fn put_few_of_64<P: Plane>(digits: &[u64], number: usize, planes: &mut [P])
+    requires number { number < P.word_count }
+    requires digits { length digits.now ≡ 64 }
+    requires few { length planes.old ≤ 16 }
+    ensures { PutsGroup number digits.now (map P.words planes.old) (map P.words planes.new) }
+{
+    let mut words = fold_four(digits);
+    turn_16(&mut words);
+    put_from(&words, 0, number, planes);
+}
+
+/// The sixteen lowest digits of each of 64 coefficients: word r has those of rank r, and then those of the
+/// ranks 16, 32 and 48 above it.
+#[inline(always)]
+fn fold_four(digits: &[u64]) -> [u64; 16]
+    requires { length digits.now ≡ 64 }
+    ensures { (r i : ℕ) → r < 16 → i < 64 → bit_of result r i ≡ bit_of digits.now (i / 16 * 16 + r) (i % 16) }
+{
+    let mut words = [0; 16];
+    for r in 0..16 {
+        let low = (digits[r] & 0xffff) | digits[r + 16] << 16;
+        let high = (digits[r + 32] & 0xffff) | digits[r + 48] << 16;
+        words[r] = (low & 0xffff_ffff) | high << 32;
     }
     words
 }

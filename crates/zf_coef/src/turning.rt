@@ -103,6 +103,17 @@ pub(crate) fn turn_folded(words: &mut [u64; 8])
     turn_8(words);
 }
 
+/// Turns the tiles of sixteen rows.
+#[inline(always)]
+pub(crate) fn turn_16(words: &mut [u64; 16])
+    ensures { IsTurned 16 words.old words.new }
+{
+    step::<16, 8>(words, 0x00ff_00ff_00ff_00ff);
+    step::<16, 4>(words, 0x0f0f_0f0f_0f0f_0f0f);
+    step::<16, 2>(words, 0x3333_3333_3333_3333);
+    step_next(words, 0x5555_5555_5555_5555);
+}
+
 /// Turns the tiles of 32 rows.
 #[inline(always)]
 pub(crate) fn turn_32(words: &mut [u64; 32])

@@ -1,10 +1,10 @@
 use Rattle.std.proofs.Common.{length-set, get_or-set_same, get_or-set_other, arith}
 use Rattle.zf_coef.proofs.Prefixes.{prefix_tells}
-use Rattle.zf_coef.proofs.ShiftedBits.{low_half, high_half, low_of_high, high_of_high}
+use Rattle.zf_coef.proofs.ShiftedBits.{low_part, high_part, low_of_high, high_of_high}
 use Rattle.zf_coef.proofs.digits.join.Goals as goal
 
 pub loop-r-preserved : goal.loop-r-preserved
-loop-r-preserved g c = grind (arith, get_or-set_other, prefix_tells, low_half, high_half, length-set, get_or-set_same, low_of_high, high_of_high)
+loop-r-preserved g c = grind (arith, get_or-set_other, prefix_tells, low_part 32, high_part 32, length-set, get_or-set_same, low_of_high, high_of_high)
 
 pub returns-clause-lower : goal.returns-clause-lower
 returns-clause-lower g c r k h small = c.loop-r.invariant.lower r k (omega arith) small

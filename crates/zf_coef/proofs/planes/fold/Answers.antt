@@ -1,7 +1,7 @@
 use Rattle.std.proofs.Common.{◌≡◌, ℕ, ◌+◌, ◌*◌, ◌/◌, ◌%◌, ◌^◌, ◌<◌, ◌≤◌, get_or, length-set, ◌∙◌, ⊎_elim, arith, rules}
 use Rattle.std.{proofs.lemmas.Bool.{cases_lt}, specs.Int.{bit_at}}
 use Rattle.zf_coef.{specs.Turned.{bit_of}, proofs.Prefixes.{prefix_tells}}
-use Rattle.zf_coef.proofs.ShiftedBits.{bit_at-shr, low_half, high_half}
+use Rattle.zf_coef.proofs.ShiftedBits.{bit_at-shr, low_part, high_part}
 use Rattle.zf_coef.proofs.planes.fold.Goals as goal
 
 pub loop-r-preserved : goal.loop-r-preserved
@@ -18,10 +18,10 @@ loop-r-preserved g c =
           (λ i h. ⊎_elim
           (λ (low : i < 32).
           let none : i / 32 ≡ 0 = omega arith in
-          rw (none, low_half a b i low) (search (rules, bit_at-shr)))
+          rw (none, low_part 32 a b i low h) (search (rules, bit_at-shr)))
           (λ (high : 32 ≤ i).
           let one : i / 32 ≡ 1 = omega arith in
-          rw (one, high_half a b i high h) (search (rules, bit_at-shr)))
+          rw (one, high_part 32 a b i high h) (search (rules, bit_at-shr)))
           (cases_lt i 32))
           c.loop-r.invariant.cut;
     }
