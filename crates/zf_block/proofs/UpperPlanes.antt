@@ -1,9 +1,9 @@
 -- Planes of which the upper ones alone are reached.
-use Rattle.std.proofs.Common.{rules, ◌≡◌, refl, sym, ap, ◌∙◌, ℕ, zero, suc, ◌+◌, ◌-◌, ◌*◌, ◌/◌, ◌^◌, ◌<◌, ◌≤◌, max, Bool, true, false, List, [], ◌∷◌, map, length, take, drop, get_or, get_or-take, take-append-drop, ext_get_or, arith, pow-suc}
+use Rattle.std.proofs.Common.{rules, ◌≡◌, refl, sym, ap, ◌∙◌, ℕ, zero, suc, ◌+◌, ◌-◌, ◌*◌, ◌/◌, ◌%◌, ◌^◌, ◌<◌, ◌≤◌, max, Bool, true, false, eqb, List, [], ◌∷◌, map, length, take, drop, pow_pos, get_or, get_or-take, take-append-drop, ext_get_or, arith, pow-suc}
 use Rattle.std.{proofs.lemmas.Bool.{cases_lt}, proofs.lemmas.List.Elements.{All-head, All-tail, All-take}}
 use Rattle.std.proofs.lemmas.List.{length-append, length-map, length-take, length-take-le, get_or-map, take_all}
-use Rattle.std.{proofs.lemmas.Nat.{leading_top, shr-shr}, proofs.lemmas.Nat.Bits.{bit_at_cat_high}}
-use Rattle.std.specs.Int.{leading_zeros, w64}
+use Rattle.std.{proofs.lemmas.Nat.{leading_top, shr-shr, div-add-mod'}, proofs.lemmas.Nat.Bits.{bit_at_cat_low, bit_at_cat_high}}
+use Rattle.std.{specs.Int.{leading_zeros, bit_at, w64}, proofs.Math.Nat.{mod-lt}}
 use lib.Count.{leading_of_zero}
 use Rattle.zf_spec.{specs.Numbers.{field, is_odd}, specs.ReadPlanes.{first_bits}}
 use Rattle.zf_spec.specs.Planes.{plane, planes_of, reach, reach_of_all, tail, plane_code, code_from, code, AreOfSize}
@@ -57,28 +57,38 @@ highest v j low high = search (rules, bit_at_cat_high, pow-suc)
 some_digit : (v p : ℕ) → leading_zeros w64 v ≡ p → p < 64 → 0 < v
 some_digit v p is less = grind (arith, leading_of_zero 64)
 
+-- a word that is shifted up has its digits as many places further up
+shifted_up : (v s i : ℕ) → i + s < 64 → is_odd (v * 2 ^ s % 2 ^ 64 / 2 ^ (i + s)) ≡ is_odd (v / 2 ^ i)
+shifted_up v s i within =
+    let n = v * 2 ^ s in
+    let whole : n ≡ n + 0 = omega arith in
+    let place : i + s - s ≡ i = omega arith in
+    let same : bit_at (n % 2 ^ 64) (i + s) ≡ bit_at v i = cc (bit_at_cat_low (n / 2 ^ 64) 64 (n % 2 ^ 64) (i + s) within, div-add-mod' n (2 ^ 64), bit_at_cat_high v s 0 (i + s) (pow_pos s) (omega arith)) in
+    ap (λ b. eqb b 1) same
+
 -- the last rank has a one in the plane behind the leading zeros of its digits
-last_one : (us : List ℕ) (w r v p : ℕ) → w ≡ 64 → r < length us → get_or us r 0 ≡ v → v < 2 ^ 64 → leading_zeros w64 v ≡ p → p < w
+last_one : (us : List ℕ) (w r v p : ℕ) → w ≤ 64 → r < length us → get_or us r 0 ≡ v → leading_zeros w64 (v * 2 ^ (64 - w) % 2 ^ 64) ≡ p → p < w
     → get_or (get_or (planes_of w (digits_in w us)) p []) r false ≡ true
-last_one us w r v p width within is word zeros here =
+last_one us w r v p width within is zeros here =
     let cs = digits_in w us in
-    let top = leading_top 64 v (some_digit v p zeros (omega arith)) word in
-    let j = top.0 in
-    let place : w - 1 - p ≡ j = omega (arith, top.1, zeros) in
-    let small : j < w = omega (arith, top.1, zeros) in
-    search (rules, get_or-planes_of, get_or-plane, get_or-map, get_or-field, highest)
+    let word = v * 2 ^ (64 - w) % 2 ^ 64 in
+    let top = leading_top 64 word (some_digit word p zeros (omega arith)) (mod-lt (v * 2 ^ (64 - w)) (pow_pos 64)) in
+    let place : w - 1 - p + (64 - w) ≡ top.0 = omega (arith, top.1, zeros) in
+    let odd : is_odd (word / 2 ^ top.0) ≡ true = search (rules, highest) in
+    let one : is_odd (v / 2 ^ (w - 1 - p)) ≡ true = sym (shifted_up v (64 - w) (w - 1 - p) (omega arith)) ∙ ap (λ j. is_odd (word / 2 ^ j)) place ∙ odd in
+    search (rules, get_or-planes_of, get_or-plane, get_or-map, get_or-field)
 
 -- so many bits stand in the code of the top planes
-pub top_has : (bits k w size v p : ℕ) (us : List ℕ) → w ≡ 64 → k ≤ w → size ≡ length us → 0 < size → get_or us (size - 1) 0 ≡ v → v < 2 ^ 64 → leading_zeros w64 v ≡ p → p < k
+pub top_has : (bits k w size v p : ℕ) (us : List ℕ) → w ≤ 64 → k ≤ w → size ≡ length us → 0 < size → get_or us (size - 1) 0 ≡ v → leading_zeros w64 (v * 2 ^ (64 - w) % 2 ^ 64) ≡ p → p < k
     → bits ≤ size * (k - 1 - p) → bits ≤ length (top_code k w us)
 unfolding top_code
-top_has bits k w size v p us width top long some is word zeros here enough =
+top_has bits k w size v p us width top long some is zeros here enough =
     let cs = digits_in w us in
     let ps = planes_of w cs in
     let count : length (take k ps) ≡ k = length-take-le k ps (omega (arith, length-planes_of w cs)) in
     let all : AreOfSize size ps = λ i e h. planes_of-length w cs i e h ∙ length-map us (field w) ∙ sym long in
     let one : get_or (get_or (take k ps) p []) (size - 1) false ≡ true =
-    ap (λ ds. get_or ds (size - 1) false) (get_or-take k ps p [] here) ∙ last_one us w (size - 1) v p width (omega arith) is word zeros (omega arith) in
+    ap (λ ds. get_or ds (size - 1) false) (get_or-take k ps p [] here) ∙ last_one us w (size - 1) v p width (omega arith) is zeros (omega arith) in
     let left : length (take k ps) - suc p ≡ k - 1 - p = omega (arith, count) in
     let least = below_whole size p 0 (take k ps) some (omega (arith, count)) (omega arith) (All-take (λ ds. length ds ≡ size) k ps all) one in
     omega (arith, enough, ap (λ n. size * n) left, least)

@@ -136,8 +136,13 @@ impl<T: Lane> BlockCode<T> for Rate {
     ) -> bool {
         let bits = u64::from(self.bits);
         let width = T::WIDTH;
-        if width == 64 && reaches_upper(bits, digits) {
-            write_upper(bits, digits, planes, out);
+        // Half as many planes are turned in half the time.
+        if reaches_upper(bits, 16, width, digits) {
+            write_upper(bits, 16, width, digits, planes, out);
+            return true;
+        }
+        if width == 64 && reaches_upper(bits, 32, width, digits) {
+            write_upper(bits, 32, width, digits, planes, out);
             return true;
         }
         false
