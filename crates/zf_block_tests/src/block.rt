@@ -10,9 +10,10 @@ use std::test::Fail;
 use zf_base::{Extent, Lane, Shape, block_len};
 use zf_bits::{BitReader, BitWriter};
 use zf_block::{
-    Scratch, decode_prec, decode_rate, decode_rev, encode_prec, encode_rate, encode_rev,
-    whole_planes,
+    Scratch, decode_prec, decode_rate, decode_rev, encode_prec, encode_prec_padded, encode_rate,
+    encode_rate_padded, encode_rev, encode_rev_padded, whole_planes,
 };
+use zf_pad::pad;
 
 /// One number that depends on each word and its place; of one word, that word.
 fn digest(words: &[u64]) -> u64 {
@@ -127,6 +128,27 @@ fn write<T: Lane>(
     }
 }
 
+/// Writes the code of a block that is padded before, whose values then are anything.
+fn write_padded<T: Lane>(
+    block: &mut Block<T>,
+    code: &Code,
+    out: &mut BitWriter,
+) -> Result<(), AllocError> {
+    let Part { d, e } = block.part;
+    pad(&e, d, &mut block.values);
+    match *code {
+        Code::Reversible => encode_rev_padded(d, &mut block.values, &mut block.scratch, out),
+        Code::Rate(bits, _) => {
+            out.reserve(u64::from(bits))?;
+            encode_rate_padded(d, bits, &mut block.values, &mut block.scratch, out);
+            Ok(())
+        }
+        Code::Precision(prec) => {
+            encode_prec_padded(d, prec, &mut block.values, &mut block.scratch, out)
+        }
+    }
+}
+
 /// Reads the block of a code of so many bits. The answer is whether they were there, and the planes from this
 /// one on are whole and no others.
 fn read_at_rate<T: Lane>(
@@ -157,8 +179,13 @@ fn read<T: Lane>(block: &mut Block<T>, code: &Code, bits: &BitWriter) -> bool {
     found && reader.left() == 0
 }
 
-/// Writes a block and reads it again. The answer is whether the code has this length and this digest, and was
-/// there.
+/// Whether a code has this length and this digest.
+fn is_code(out: &BitWriter, len: u64, sum: u64) -> bool {
+    out.len() == len && digest(out.words()) == sum
+}
+
+/// Writes a block, padded by the call and padded before, and reads it again. The answer is whether both codes
+/// have this length and this digest, and the code was there.
 fn both_ways<T: Lane>(
     alloc: Global,
     block: &mut Block<T>,
@@ -167,9 +194,12 @@ fn both_ways<T: Lane>(
     sum: u64,
 ) -> Result<bool, AllocError> {
     let mut out = BitWriter::new(alloc);
+    let mut padded = BitWriter::new(alloc);
     write(block, code, &mut out)?;
+    write_padded(block, code, &mut padded)?;
     clear(&mut block.values);
-    let same = read(block, code, &out) && out.len() == len && digest(out.words()) == sum;
+    let same = read(block, code, &out) && is_code(&out, len, sum) && is_code(&padded, len, sum);
+    drop(padded);
     drop(out);
     Ok(same)
 }

@@ -7,7 +7,7 @@ use std::alloc::{AllocError, Global};
 use std::process::Abort;
 use std::test::Fail;
 use zf_base::{Lane, Shape, block_len};
-use zf_pad::{Layout, gather_block, pad, scatter};
+use zf_pad::{Layout, gather, gather_block, pad, scatter};
 
 // A number that tells lists of values apart.
 fn fingerprint<T: Lane>(values: &[T]) -> u64 {
@@ -33,20 +33,29 @@ fn clear<T: Lane>(values: &mut [T]) {
     }
 }
 
-// Of the values 1, 2, 3 and so on: the fingerprints of a padded block, and of the array that has only this
-// block.
-fn read_and_write<T: Lane>(shape: &Shape, b: u64, values: &mut [T], block: &mut [T]) -> (u64, u64)
+// Of the values 1, 2, 3 and so on: the fingerprints of a block that is gathered and then padded, of the block
+// that one call gathers and pads, and of the array that has only this block.
+fn read_and_write<T: Lane>(
+    shape: &Shape,
+    b: u64,
+    values: &mut [T],
+    block: &mut [T],
+) -> (u64, u64, u64)
     requires in_array { b < blocks shape.now }
     requires all { length values.old ≡ product shape.now }
     requires whole { length block.old ≡ 4 ^ length shape.now }
 {
     count_up(values);
     let layout = Layout::raster(shape);
-    let e = gather_block(&layout, shape, b, values, block);
+    let e = shape.extent(b);
+    gather(&layout, &e, shape.dims(), values, block);
     pad(&e, shape.dims(), block);
+    let padded = fingerprint(block);
+    clear(block);
+    let _part = gather_block(&layout, shape, b, values, block);
     clear(values);
-    scatter(&layout, &shape.extent(b), shape.dims(), block, values);
-    (fingerprint(block), fingerprint(values))
+    scatter(&layout, &e, shape.dims(), block, values);
+    (padded, fingerprint(block), fingerprint(values))
 }
 
 // Dimensions and sizes, a block, and its two fingerprints.
@@ -73,8 +82,12 @@ static ROWS: [(u8, [u64; 4], u64, (u64, u64)); 5] = [
     ),
 ];
 
-// The two fingerprints of a block of an array.
-fn fingerprints_of<T: Lane>(alloc: Global, shape: &Shape, b: u64) -> Result<(u64, u64), AllocError>
+// The fingerprints of a block of an array.
+fn fingerprints_of<T: Lane>(
+    alloc: Global,
+    shape: &Shape,
+    b: u64,
+) -> Result<(u64, u64, u64), AllocError>
     requires { b < blocks shape.now }
 {
     let mut values = vec![in alloc; T::zero(); shape.values() as usize]?;
@@ -102,7 +115,8 @@ fn fingerprints_are<T: Lane>(
     for (dims, sizes, b, fingerprints) in rows {
         let shape = shape_of(rt, *dims, *sizes);
         assert!(rt; *b < shape.blocks());
-        assert!(rt; fingerprints_of::<T>(alloc, &shape, *b)? == *fingerprints);
+        let (block, values) = *fingerprints;
+        assert!(rt; fingerprints_of::<T>(alloc, &shape, *b)? == (block, block, values));
     }
     Ok(())
 }
