@@ -1,8 +1,8 @@
 -- The blocks of the first row along x: such a block is told by its number, and no coordinates are divided out.
-use Rattle.std.proofs.Common.{rules, ◌≡◌, ℕ, ◌+◌, ◌-◌, ◌*◌, ◌/◌, ◌<◌, ◌≤◌, min, List, [], ◌∷◌, length, map, replicate, get_or, refl, ap, ◌∙◌, arith}
+use Rattle.std.proofs.Common.{◌≡◌, ℕ, ◌+◌, ◌-◌, ◌*◌, ◌/◌, ◌<◌, ◌≤◌, min, List, [], ◌∷◌, length, map, replicate, get_or, refl, ap, ◌∙◌, arith}
 use Rattle.std.{specs.List.{AllByRecursion}, proofs.Math.Nat.{div-eq_of_lt, mod-eq_of_lt}}
 use Rattle.zf_spec.specs.Grid.{IsShape, grid, coordinates, extents, extent_of}
-use Rattle.zf_base.{specs.declared.position.Pos.{Pos}, specs.Positions.{with_unused}}
+use Rattle.zf_base.specs.Positions.{with_unused}
 
 zero_coordinates : (ns : List ℕ) → AllByRecursion (λ n. 1 ≤ n) ns → coordinates (grid ns) 0 ≡ replicate (length ns) 0
 zero_coordinates [] h = refl

@@ -1,17 +1,12 @@
 -- The blocks of an array of one dimension: where they begin, and what is copied of a whole one, whose values stand beside one another.
-use Rattle.std.proofs.Common.{rules, ◌≡◌, ℕ, ◌+◌, ◌*◌, ◌<◌, ◌≤◌, ℤ, List, [], ◌∷◌, length, get_or, take, drop, ap, arith}
+use Rattle.std.proofs.Common.{rules, ◌≡◌, ℕ, ◌+◌, ◌<◌, ◌≤◌, ℤ, List, [], ◌∷◌, length, take, drop, ap, arith}
 use Rattle.std.proofs.lemmas.List.{get_or-take, get_or-drop}
-use Rattle.zf_spec.{specs.Grid.{product, blocks, extent_of, block_of}, specs.Codes.{existing_values}}
+use Rattle.zf_spec.{specs.Grid.{product, extent_of, block_of}, specs.Codes.{existing_values}}
 use Rattle.zf_base.{specs.declared.position.Pos.{Pos}, specs.declared.position.Extent.{Extent}}
 use Rattle.zf_base.specs.Positions.{IsExtent}
 use Rattle.zf_pad.{specs.declared.layout.Layout.{Layout}, specs.Layouts.{HasPlace, index_at}}
 use Rattle.zf_pad.{specs.Rasters.{IsRasterBlock}, proofs.Blocks.{index_by_raster, block_is}}
 use Rattle.zf_pad.proofs.Existing.{place_below}
-
--- each block begins before the end
-pub line_inside : (ns : List ℕ) (b : ℕ) → length ns ≡ 1 → b < blocks ns → 4 * b < get_or ns 0 1
-line_inside (n ∷ []) b one lt = omega arith
-line_inside ns b one lt = absurd (omega arith)
 
 -- a block is told by its place along the line
 place_on_line : (ns : List ℕ) (b p : ℕ) (layout : Layout) (e : Extent) → length ns ≡ 1 → IsExtent 1 e → IsRasterBlock ns b layout e → HasPlace e p → (p < 4) × (index_at layout e p ≡ e.origin.x + p)

@@ -1,10 +1,8 @@
 -- The codes of blocks, one after another.
-use Rattle.std.proofs.Common.{◌≡◌, ℕ, zero, suc, ◌+◌, ℤ, Bool, List, [], ◌∷◌, ◌++◌, map, ap, arith, rules}
-use Rattle.std.{proofs.lemmas.List.{append-nil, append_assoc, map_push, map-append}, specs.Int.{Width}}
+use Rattle.std.proofs.Common.{◌≡◌, ℕ, zero, suc, ◌+◌, Bool, List, [], ◌∷◌, ◌++◌, map, ap, arith, rules}
+use Rattle.std.{proofs.lemmas.List.{append-nil, append_assoc, map_push, map-append}}
 use Rattle.std.{proofs.lemmas.Grind.{flat_map-append}, specs.List.{flat_map}}
-use Rattle.zf_spec.{proofs.Counting.{count_from-add}, specs.Grid.{count_from, upto}, specs.Padding.{pad}}
-use Rattle.zf_spec.{specs.Codes.{rev, rate, prec}}
-use Rattle.zf_spec.specs.Stream.{Mode, reversible, fixed_rate, fixed_precision, block_code}
+use Rattle.zf_spec.{proofs.Counting.{count_from-add}, specs.Grid.{count_from, upto}}
 
 -- one number more
 count_from-more : (k n : ℕ) → count_from k (n + 1) ≡ count_from k n ++ (k + n) ∷ []
@@ -22,10 +20,3 @@ joined-more f start n = search (rules, append-nil, append_assoc, flat_map-append
 -- those behind the first ones
 pub joined-prefix : (f : ℕ → List Bool) (k m : ℕ) → flat_map (λ c. c) (map f (upto (k + m))) ≡ flat_map (λ c. c) (map f (upto k)) ++ flat_map (λ c. c) (map f (count_from k m))
 joined-prefix f k m = search (rules, count_from-add, map-append, flat_map-append)
-
--- a code says of a block only what its padded block says
-pub code_same : (w : Width) (mode : Mode) (es : List ℕ) (a b : List ℤ) → pad es a ≡ pad es b → block_code w mode es a ≡ block_code w mode es b
-unfolding rev rate prec
-code_same w reversible es a b same = cc
-code_same w (fixed_rate n) es a b same = cc
-code_same w (fixed_precision p) es a b same = cc

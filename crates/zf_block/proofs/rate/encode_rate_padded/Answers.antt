@@ -1,4 +1,4 @@
-use Rattle.std.proofs.Common.{refl, sym, map, ◌∙◌}
+use Rattle.std.proofs.Common.{refl, map, ◌∙◌}
 use Rattle.std.proofs.lemmas.List.{length-map}
 use Rattle.zf_spec.{specs.Codes.{rate}, proofs.Raster.{length-fours}}
 use Rattle.zf_bits.proofs.Appending.{Appends-same}

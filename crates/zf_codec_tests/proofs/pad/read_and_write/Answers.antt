@@ -1,5 +1,5 @@
-use Rattle.std.proofs.Common.{◌≡◌, ℕ, ◌≤◌, ◌^◌, List, length, sym, subst, arith}
-use Rattle.zf_spec.specs.Grid.{IsShape, product, blocks}
+use Rattle.std.proofs.Common.{◌≡◌, ℕ, ◌^◌, List, length, arith}
+use Rattle.zf_spec.specs.Grid.{product}
 use Rattle.zf_base.{specs.declared.position.Extent.{Extent}, specs.Positions.{IsExtent}}
 use Rattle.zf_pad.{specs.declared.layout.Layout.{Layout}, specs.Layouts.{CanCopy}}
 use Rattle.zf_pad.{specs.Rasters.{IsRasterBlock}, proofs.Blocks.{lies_within, one_to_one}}
