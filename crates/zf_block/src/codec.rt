@@ -117,7 +117,14 @@ fn encode_any<C: BlockCode<T>, T: Lane>(
     match d {
         2 => write_block(code, 2, &mut block[..16], &mut [0; 16], &mut s.planes, out),
         3 => write_block(code, 3, &mut block[..64], &mut s.digits, &mut s.planes, out),
-        _ => write_block(code, 4, &mut block[..256], &mut s.digits, &mut s.wide_planes, out),
+        _ => write_block(
+            code,
+            4,
+            &mut block[..256],
+            &mut s.digits,
+            &mut s.wide_planes,
+            out,
+        ),
     }
 }
 

@@ -11,7 +11,7 @@ returns-clause-code g c =
     let d = c.args.d in
     let value = g.T.Lane.value in
     let copied : c.copy_from_slice.new.self ≡ c.args.block.now =
-        c.copy_from_slice.ensures.after ∙ take_all (length c.args.padded.now) c.args.block.now (omega (arith, c.requires.copy.1, c.requires.block.1)) in
+    c.copy_from_slice.ensures.after ∙ take_all (length c.args.padded.now) c.args.block.now (omega (arith, c.requires.copy.1, c.requires.block.1)) in
     Appends-same c.encode.ensures.code
     (ap (λ vs. g.C.BlockCode.code_of c.args.code.now (codes.planes g.T.Lane.width d (g.C.BlockCode.forth d vs)))
     (c.pad.ensures ∙ ap (λ vs. pad (used_axes d c.args.e.now.size) (map value vs)) copied))

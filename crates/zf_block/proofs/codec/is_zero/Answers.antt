@@ -12,6 +12,6 @@ returns-then-is_all g c keeps =
     let w = g.T.Lane.width in
     let forth = g.C.BlockCode.forth d in
     let zeros : map g.T.Lane.value c.args.block.now ≡ replicate (4 ^ d) (pos 0) =
-        c.if-is_all.ensures (search rules) ∙ rw (c.requires.block.1, c.zero.ensures.value) refl in
+    c.if-is_all.ensures (search rules) ∙ rw (c.requires.block.1, c.zero.ensures.value) refl in
     let first : forth (replicate (4 ^ d) (pos 0)) ≡ pos 0 ∷ replicate (4 ^ d - 1) (pos 0) = rw c.zero-then-is_all.ensures.value at (c.keeps_first.ensures keeps d c.requires.block.0) in
     ap (λ vs. planes w d (forth vs)) zeros ∙ ap (planes w d) first ∙ planes-zeros w d c.requires.block.0 ∙ ap (λ n. replicate n (replicate (4 ^ d) false)) (sym g.met.T.Lane.bits_of_width)
