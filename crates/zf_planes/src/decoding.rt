@@ -1,15 +1,11 @@
 //! Reading planes from their code.
 
 ghost use Rattle.std.specs.Prelude.{◌≡◌, ◌+◌, ◌-◌, ◌*◌, ◌%◌, ◌<◌, ◌≤◌, ◌↔◌, min, slice_set, true, false, ◌∷◌, ◌++◌, length, map, take, replicate, All, IsNone, IfNone, IfSome, OnSome};
-ghost use Rattle.zf_spec.specs.Grid.{IsBlockSize};
-ghost use Rattle.zf_spec.specs.Kept.{kept_planes};
-ghost use Rattle.zf_spec.specs.ReadPlanes.{first_bits};
-ghost use Rattle.zf_spec.specs.HeldPlanes.{digits_held, planes_held, IsClearFrom};
-ghost use Rattle.zf_spec.specs.Numbers.{word_bits};
+ghost use Rattle.zf_spec.specs.{Grid.{IsBlockSize}, Kept.{kept_planes}, ReadPlanes.{first_bits}};
+ghost use Rattle.zf_spec.specs.{HeldPlanes.{digits_held, planes_held, IsClearFrom}, Numbers.{word_bits}};
 ghost use Rattle.zf_spec.specs.Planes.{reach};
 ghost use Rattle.zf_bits.specs.Reader.{rest, Reads};
-ghost use Rattle.zf_planes.specs.Moves.{Moves, LacksPlane, MovesOverPlane};
-ghost use Rattle.zf_planes.specs.Sizes.{HasBlanks};
+ghost use Rattle.zf_planes.specs.{Moves.{Moves, LacksPlane, MovesOverPlane}, Sizes.{HasBlanks}};
 ghost use Rattle.zf_planes.specs.Decoding.{coded, coded_bits, tail_ahead, tail_bits, run_ahead, run_bits, planes_bits, Takes, Lacks, ReadsRun, ReadsGroup, ReadsTail, ReadsTop};
 
 use crate::cursor::Cursor;

@@ -2,8 +2,7 @@
 //! a table.
 
 ghost use Rattle.std.specs.Prelude.{◌≡◌, ◌+◌, ◌-◌, ◌*◌, ◌/◌, ◌%◌, ◌^◌, ◌<◌, ◌≤◌};
-ghost use Rattle.zf_planes.specs.WordPlanes.{IsReadAs};
-ghost use Rattle.zf_planes.specs.Sizes.{IsWordSize};
+ghost use Rattle.zf_planes.specs.{WordPlanes.{IsReadAs}, Sizes.{IsWordSize}};
 
 use crate::entries::tail_entry;
 
@@ -51,7 +50,7 @@ pub(crate) fn plane_without(n: usize, size: usize, bits: u64) -> PlaneOfWord
 }
 
 /// The plane whose code these bits begin with, where the ranks below `n` have had a one above, if the group
-/// bit behind them is one. The code has more than 64 bits where the table doesn't know the plane.
+/// bit behind them is one. The code has more than 64 bits where two looks at the table don't tell the plane.
 #[inline(always)]
 pub(crate) fn plane_with(n: usize, size: usize, bits: u64) -> PlaneOfWord
     requires in_plane { n < size }
@@ -60,11 +59,22 @@ pub(crate) fn plane_with(n: usize, size: usize, bits: u64) -> PlaneOfWord
         → IsReadAs n size bits result.digits result.len result.above }
     ensures group { n < result.len }
 {
-    let entry = tail_entry((size - n).min(9), (bits >> n) / 2 % 256);
+    let behind = (bits >> n) / 2;
+    let entry = tail_entry((size - n).min(9), behind % 256);
+    let digits = bits % (1 << n) | u64::from(entry % 256) << n;
+    let above = n + (entry / 256 % 16) as usize;
+    let len = u64::from(entry / 4096);
+    if len <= 64 {
+        let len = n as u64 + len;
+        return PlaneOfWord { digits, len, above };
+    }
+    // It tells how a run begins, and what follows is as behind a group bit.
+    let taken = len - 96;
+    let next = tail_entry((size - above).min(9), (behind >> taken) % 256);
     PlaneOfWord {
-        digits: bits % (1 << n) | u64::from(entry % 256) << n,
-        len: n as u64 + u64::from(entry / 4096),
-        above: n + (entry / 256 % 16) as usize,
+        digits: digits | u64::from(next % 256) << above,
+        len: n as u64 + taken + u64::from(next / 4096),
+        above: above + (next / 256 % 16) as usize,
     }
 }
 

@@ -150,8 +150,8 @@ pub(crate) fn read_by_kinds<P: Plane>(
     let mut i = cursor.pass_zero_planes(prec) as usize;
     let mut above = 0;
     while i < prec as usize && cursor.left > 0 && above < size {
-        // The first digits of a plane, and as many bits behind them as most tails have.
-        cursor.look_on(above as u64 + 17);
+        // The first digits of a plane, and as many bits behind them as nearly all tails have.
+        cursor.look_on(above as u64 + 26);
         if (above as u64) < cursor.count && (cursor.bits >> above) % 2 == 0 {
             i = read_same(above, size, i, prec as usize, planes, &mut cursor);
         } else {
