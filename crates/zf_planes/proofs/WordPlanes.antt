@@ -87,7 +87,7 @@ reach_of_nine most digits nine eight =
       reach_behind (field 8 digits) (suc (9 - 9)),
     )
 
-pub tail_of_entry : (most bits e : ℕ) → 0 < most → bits < 256 → e ≡ get_or TAILS (256 * (min most 9 - 1) + bits) 0 → IsEntry most bits e
+tail_of_entry : (most bits e : ℕ) → 0 < most → bits < 256 → e ≡ get_or TAILS (256 * (min most 9 - 1) + bits) 0 → IsEntry most bits e
 tail_of_entry most bits e some eight is = ⊎_elim
     (λ (few : most < 9). let all : min most 9 ≡ most = omega arith in entry_to_9 most bits e some (omega arith) eight (rw all at is))
     (λ (nine : 9 ≤ most).
@@ -109,6 +109,13 @@ tail_of_entry most bits e some eight is = ⊎_elim
           };
     })
     (cases_lt most 9)
+
+-- an entry that is looked up by the digits from rank n on, behind whose group bit these bits come
+pub entry_of : {size n m e : ℕ} (behind : ℕ) → n < size → m ≡ min (size - n) 9 → e ≡ get_or TAILS (256 * (m - 1) + behind % 256) 0 → IsEntry (size - n) (behind % 256) e
+entry_of {size} {n} {m} {e} behind within least is = tail_of_entry (size - n) (behind % 256) e (omega (arith, within)) (omega arith) (rw least at is)
+
+pub begun_of : {size n m e len : ℕ} (behind : ℕ) → n < size → m ≡ min (size - n) 9 → e ≡ get_or TAILS (256 * (m - 1) + behind % 256) 0 → len ≡ e / 4096 → 64 < len → IsBegun (size - n) (behind % 256) e
+begun_of behind within least is long more = (entry_of behind within least is).begun (omega (arith, long, more))
 
 -- ---- a plane of its first digits and a tail
 

@@ -50,7 +50,7 @@ pub(crate) fn plane_without(n: usize, size: usize, bits: u64) -> PlaneOfWord
 }
 
 /// The plane whose code these bits begin with, where the ranks below `n` have had a one above, if the group
-/// bit behind them is one. The code has more than 64 bits where two looks at the table don't tell the plane.
+/// bit behind them is one. The code has more than 64 bits where the table doesn't know the plane.
 #[inline(always)]
 pub(crate) fn plane_with(n: usize, size: usize, bits: u64) -> PlaneOfWord
     requires in_plane { n < size }
@@ -59,20 +59,35 @@ pub(crate) fn plane_with(n: usize, size: usize, bits: u64) -> PlaneOfWord
         → IsReadAs n size bits result.digits result.len result.above }
     ensures group { n < result.len }
 {
+    let entry = tail_entry((size - n).min(9), (bits >> n) / 2 % 256);
+    PlaneOfWord {
+        digits: bits % (1 << n) | u64::from(entry % 256) << n,
+        len: n as u64 + u64::from(entry / 4096),
+        above: n + (entry / 256 % 16) as usize,
+    }
+}
+
+/// [`plane_with`] by two looks: where one isn't enough, the entry tells how a run begins, and what follows is
+/// as behind a group bit. It stands apart, so that most planes keep the registers.
+#[inline(never)]
+pub(crate) fn plane_with_two(n: usize, size: usize, bits: u64) -> PlaneOfWord
+    requires in_plane { n < size }
+    requires size { size ≤ 64 }
+    ensures read { result.len ≤ 64 → bits / 2 ^ n % 2 ≡ 1
+        → IsReadAs n size bits result.digits result.len result.above }
+    ensures group { n < result.len }
+{
     let behind = (bits >> n) / 2;
     let entry = tail_entry((size - n).min(9), behind % 256);
-    let digits = bits % (1 << n) | u64::from(entry % 256) << n;
-    let above = n + (entry / 256 % 16) as usize;
     let len = u64::from(entry / 4096);
     if len <= 64 {
-        let len = n as u64 + len;
-        return PlaneOfWord { digits, len, above };
+        return plane_with(n, size, bits);
     }
-    // It tells how a run begins, and what follows is as behind a group bit.
+    let above = n + (entry / 256 % 16) as usize;
     let taken = len - 96;
     let next = tail_entry((size - above).min(9), (behind >> taken) % 256);
     PlaneOfWord {
-        digits: digits | u64::from(next % 256) << above,
+        digits: bits % (1 << n) | u64::from(entry % 256) << n | u64::from(next % 256) << above,
         len: n as u64 + taken + u64::from(next / 4096),
         above: above + (next / 256 % 16) as usize,
     }

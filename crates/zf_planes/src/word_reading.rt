@@ -14,7 +14,7 @@ ghost use Rattle.zf_planes.specs.Decoding.{planes_bits, ReadsTop};
 
 use crate::cursor::Cursor;
 use crate::decoding::{PlaneRead, read_by_runs};
-use crate::tails::{PlaneOfWord, plane_of_all, plane_with, plane_without};
+use crate::tails::{PlaneOfWord, plane_of_all, plane_with, plane_with_two, plane_without};
 use zf_bits::{BitReader, Plane};
 
 /// Passes the code of a plane that is known.
@@ -100,9 +100,13 @@ fn read_more<P: Plane>(n: usize, size: usize, cursor: &mut Cursor<'_>) -> Option
     ensures read { IfSome result (λ read. MovesOverPlane size n cursor.old cursor.new (P.words read.plane)
         read.above) }
 {
-    // A plane in one word is known where its bits are in sight, and a table has its tail.
+    // A plane in one word is known where its bits are in sight, and a table has its tail, at one look or two.
     if size <= 64 {
         let more = plane_with(n, size, cursor.bits);
+        if more.len <= cursor.count {
+            return Some(take_plane(n, size, more, cursor));
+        }
+        let more = plane_with_two(n, size, cursor.bits);
         if more.len <= cursor.count {
             return Some(take_plane(n, size, more, cursor));
         }
@@ -150,8 +154,8 @@ pub(crate) fn read_by_kinds<P: Plane>(
     let mut i = cursor.pass_zero_planes(prec) as usize;
     let mut above = 0;
     while i < prec as usize && cursor.left > 0 && above < size {
-        // The first digits of a plane, and as many bits behind them as nearly all tails have.
-        cursor.look_on(above as u64 + 26);
+        // The first digits of a plane, and as many bits behind them as most tails have.
+        cursor.look_on(above as u64 + 17);
         if (above as u64) < cursor.count && (cursor.bits >> above) % 2 == 0 {
             i = read_same(above, size, i, prec as usize, planes, &mut cursor);
         } else {

@@ -1,60 +1,11 @@
-use Rattle.std.{proofs.Common.{◌≡◌, ℕ, ◌+◌, ◌-◌, ◌*◌, ◌/◌, ◌%◌, ◌^◌, ◌<◌, min, get_or, arith}, proofs.lemmas.Nat.{one_shl}}
-use Rattle.zf_planes.specs.declared.entries.TheConstants.{TAILS}
-use Rattle.zf_planes.proofs.WordPlanes.{IsEntry, IsBegun, tail_of_entry, read_with, read_two}
+use Rattle.std.{proofs.Common.{◌/◌, ◌^◌, arith}, proofs.lemmas.Nat.{one_shl}}
+use Rattle.zf_planes.proofs.WordPlanes.{entry_of, read_with}
 use Rattle.zf_planes.proofs.tails.plane_with.Goals as goal
-
--- what an entry says of the digits from rank n on, behind whose group bit these bits come
-entry_of : {size n m e : ℕ} (behind : ℕ) → n < size → m ≡ min (size - n) 9 → e ≡ get_or TAILS (256 * (m - 1) + behind % 256) 0 → IsEntry (size - n) (behind % 256) e
-entry_of {size} {n} {m} {e} behind within least is = tail_of_entry (size - n) (behind % 256) e (omega (arith, within)) (omega arith) (rw least at is)
-
-begun_of : {size n m e len : ℕ} (behind : ℕ) → n < size → m ≡ min (size - n) 9 → e ≡ get_or TAILS (256 * (m - 1) + behind % 256) 0 → len ≡ e / 4096 → 64 < len → IsBegun (size - n) (behind % 256) e
-begun_of behind within least is long more = (entry_of behind within least is).begun (omega (arith, long, more))
-
-pub returns-then-len-le64-clause-read : goal.returns-then-len-le64-clause-read
-returns-then-len-le64-clause-read c known one =
-    let found = (entry_of _ c.requires.in_plane c.min.ensures c.tail_entry-entry.ensures).tail (omega (arith, c.from-len.ensures, c.if-len-le64.true)) in
-    rw (one_shl c.args.n 64 (omega (arith, c.requires.in_plane, c.requires.size)), c.from.ensures, c.from-len.ensures) (read_with c.args.n c.args.size c.args.bits c.tail_entry-entry.result c.requires.in_plane c.requires.size one found)
-
-pub returns-then-len-le64-clause-group : goal.returns-then-len-le64-clause-group
-returns-then-len-le64-clause-group c = omega (arith, c.from-len.ensures, (entry_of (c.args.bits / 2 ^ c.args.n / 2) c.requires.in_plane c.min.ensures c.tail_entry-entry.ensures).some)
-
-pub overflow_sub-taken : goal.overflow_sub-taken
-overflow_sub-taken c =
-    let begun = begun_of (c.args.bits / 2 ^ c.args.n / 2) c.requires.in_plane c.min.ensures c.tail_entry-entry.ensures c.from-len.ensures c.if-len-le64.false in
-    omega (arith, c.from-len.ensures, begun.taken)
-
-pub overflow_sub-size-2 : goal.overflow_sub-size-2
-overflow_sub-size-2 c =
-    let begun = begun_of (c.args.bits / 2 ^ c.args.n / 2) c.requires.in_plane c.min.ensures c.tail_entry-entry.ensures c.from-len.ensures c.if-len-le64.false in
-    omega (arith, begun.fewer)
-
-pub overflow_shr-behind-2 : goal.overflow_shr-behind-2
-overflow_shr-behind-2 c =
-    let begun = begun_of (c.args.bits / 2 ^ c.args.n / 2) c.requires.in_plane c.min.ensures c.tail_entry-entry.ensures c.from-len.ensures c.if-len-le64.false in
-    omega (arith, c.from-len.ensures, begun.taken)
-
-pub tail_entry-next-requires-clause-some : goal.tail_entry-next-requires-clause-some
-tail_entry-next-requires-clause-some c =
-    let begun = begun_of (c.args.bits / 2 ^ c.args.n / 2) c.requires.in_plane c.min.ensures c.tail_entry-entry.ensures c.from-len.ensures c.if-len-le64.false in
-    omega (arith, begun.fewer, c.min-2.ensures)
-
-pub overflow_shl-result : goal.overflow_shl-result
-overflow_shl-result c =
-    let begun = begun_of (c.args.bits / 2 ^ c.args.n / 2) c.requires.in_plane c.min.ensures c.tail_entry-entry.ensures c.from-len.ensures c.if-len-le64.false in
-    omega (arith, begun.fewer, c.requires.size)
 
 pub returns-clause-read : goal.returns-clause-read
 returns-clause-read c known one =
-    let behind = c.args.bits / 2 ^ c.args.n / 2 in
-    let begun = begun_of behind c.requires.in_plane c.min.ensures c.tail_entry-entry.ensures c.from-len.ensures c.if-len-le64.false in
-    let next = entry_of (behind / 2 ^ (c.from-len.result - 96)) (omega (arith, begun.fewer)) c.min-2.ensures c.tail_entry-next.ensures in
-    let found = next.tail (omega (arith, c.from-3.ensures, known)) in
-    rw (one_shl c.args.n 64 (omega (arith, c.requires.in_plane, c.requires.size)), c.from.ensures, c.from-2.ensures, c.from-3.ensures, c.from-len.ensures)
-    (read_two c.args.n c.args.size c.args.bits c.tail_entry-entry.result c.tail_entry-next.result c.requires.in_plane c.requires.size one begun next.some (rw c.from-len.ensures at found))
+    let found = (entry_of (c.args.bits / 2 ^ c.args.n / 2) c.requires.in_plane c.min.ensures c.tail_entry-entry.ensures).tail (omega (arith, c.from-2.ensures)) in
+    rw (one_shl c.args.n 64 (omega (arith, c.requires.in_plane, c.requires.size)), c.from.ensures, c.from-2.ensures) (read_with c.args.n c.args.size c.args.bits c.tail_entry-entry.result c.requires.in_plane c.requires.size one found)
 
 pub returns-clause-group : goal.returns-clause-group
-returns-clause-group c =
-    let behind = c.args.bits / 2 ^ c.args.n / 2 in
-    let begun = begun_of behind c.requires.in_plane c.min.ensures c.tail_entry-entry.ensures c.from-len.ensures c.if-len-le64.false in
-    let next = entry_of (behind / 2 ^ (c.from-len.result - 96)) (omega (arith, begun.fewer)) c.min-2.ensures c.tail_entry-next.ensures in
-    omega (arith, c.from-3.ensures, next.some)
+returns-clause-group c = omega (arith, c.from-2.ensures, (entry_of (c.args.bits / 2 ^ c.args.n / 2) c.requires.in_plane c.min.ensures c.tail_entry-entry.ensures).some)
