@@ -2,8 +2,7 @@
 
 ghost use Rattle.std.specs.Prelude.{◌≡◌, ◌+◌, ◌-◌, ◌*◌, ◌/◌, ◌^◌, ◌<◌, ◌≤◌, min, ◌++◌, length, take};
 ghost use Rattle.zf_spec.specs.{Numbers.{field}, Planes.{code_from_run, plane_code}};
-ghost use Rattle.zf_bits.specs.Writer.{Appends};
-ghost use Rattle.zf_planes.specs.{Doubled.{doubled}, Writes.{LeavesPart}};
+ghost use Rattle.{zf_bits.specs.Writer.{Appends}, zf_planes.specs.{Doubled.{doubled}, Writes.{LeavesPart}}};
 
 use crate::entries::doubled_entry;
 use zf_bits::BitWriter;

@@ -5,12 +5,10 @@
 //! loop or an arm of its own, so that most planes take few steps.
 
 ghost use Rattle.std.specs.Prelude.{◌≡◌, ◌+◌, ◌-◌, ◌*◌, ◌/◌, ◌%◌, ◌^◌, ◌<◌, ◌≤◌, false, ◌++◌, length, map, take, drop, replicate, All, IfNone, IfSome};
-ghost use Rattle.zf_spec.specs.HeldPlanes.{planes_held, IsClearFrom};
-ghost use Rattle.zf_planes.specs.WordPlanes.{IsReadAs};
-ghost use Rattle.zf_bits.specs.Reader.{rest};
+ghost use Rattle.{zf_spec.specs.HeldPlanes.{planes_held, IsClearFrom}, zf_planes.specs.WordPlanes.{IsReadAs}};
 ghost use Rattle.zf_planes.specs.Sizes.{IsWordSize, HasBlanks};
 ghost use Rattle.zf_planes.specs.Moves.{LacksPlane, MovesOverPlane, MovesOverSame};
-ghost use Rattle.zf_planes.specs.Decoding.{planes_bits, ReadsTop};
+ghost use Rattle.{zf_planes.specs.Decoding.{planes_bits, ReadsTop}, zf_bits.specs.Reader.{rest}};
 
 use crate::cursor::Cursor;
 use crate::decoding::{PlaneRead, read_by_runs};
