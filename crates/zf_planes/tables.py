@@ -101,11 +101,23 @@ def spread():
         yield sum((number >> 7 - k & 1) << 4 * k for k in range(8))
 
 
+def run_begun(bits):
+    """Digits whose doubled digits these bits begin with, as many as there are, and how many bits those are."""
+    digits, taken = [], 0
+    while taken < len(bits):
+        if bits[taken] and bits[taken + 1 : taken + 2] != [1]:
+            break
+        digits.append(bits[taken])
+        taken += 1 + bits[taken]
+    return digits, taken
+
+
 def tails():
     for most in range(1, 10):
         for number in range(256):
             bits = [1] + digits_of(number, 8)
-            known = 127 << 12
+            digits, taken = run_begun(bits[1:])
+            known = number_of(digits) + (len(digits) << 8) + (96 + taken << 12)
             for value in range(1, min(2**most, 256)):
                 digits = digits_of(value, most)
                 code = tail_code(digits)

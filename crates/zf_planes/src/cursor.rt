@@ -1,8 +1,7 @@
 //! A place in a code, with the bits that come next.
 
 ghost use Rattle.std.specs.Prelude.{◌≡◌, ◌+◌, ◌-◌, ◌<◌, ◌≤◌, true, min, false, ◌++◌, length, take, replicate, IfNone, IfSome, OnSome};
-ghost use Rattle.zf_spec.specs.Numbers.{field};
-ghost use Rattle.zf_bits.specs.Reader.{rest};
+ghost use Rattle.{zf_spec.specs.Numbers.{field}, zf_bits.specs.Reader.{rest}};
 ghost use Rattle.zf_planes.specs.Decoding.{IsWindow, Takes, Lacks};
 
 use zf_bits::BitReader;

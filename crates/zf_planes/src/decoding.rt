@@ -1,15 +1,10 @@
 //! Reading planes from their code.
 
 ghost use Rattle.std.specs.Prelude.{◌≡◌, ◌+◌, ◌-◌, ◌*◌, ◌%◌, ◌<◌, ◌≤◌, ◌↔◌, min, slice_set, true, false, ◌∷◌, ◌++◌, length, map, take, replicate, All, IsNone, IfNone, IfSome, OnSome};
-ghost use Rattle.zf_spec.specs.Grid.{IsBlockSize};
-ghost use Rattle.zf_spec.specs.Kept.{kept_planes};
-ghost use Rattle.zf_spec.specs.ReadPlanes.{first_bits};
-ghost use Rattle.zf_spec.specs.HeldPlanes.{digits_held, planes_held, IsClearFrom};
-ghost use Rattle.zf_spec.specs.Numbers.{word_bits};
-ghost use Rattle.zf_spec.specs.Planes.{reach};
-ghost use Rattle.zf_bits.specs.Reader.{rest, Reads};
-ghost use Rattle.zf_planes.specs.Moves.{Moves, LacksPlane, MovesOverPlane};
-ghost use Rattle.zf_planes.specs.Sizes.{HasBlanks};
+ghost use Rattle.zf_spec.specs.{Grid.{IsBlockSize}, Kept.{kept_planes}, ReadPlanes.{first_bits}};
+ghost use Rattle.zf_spec.specs.{HeldPlanes.{digits_held, planes_held, IsClearFrom}, Numbers.{word_bits}};
+ghost use Rattle.{zf_spec.specs.Planes.{reach}, zf_bits.specs.Reader.{rest, Reads}};
+ghost use Rattle.zf_planes.specs.{Moves.{Moves, LacksPlane, MovesOverPlane}, Sizes.{HasBlanks}};
 ghost use Rattle.zf_planes.specs.Decoding.{coded, coded_bits, tail_ahead, tail_bits, run_ahead, run_bits, planes_bits, Takes, Lacks, ReadsRun, ReadsGroup, ReadsTail, ReadsTop};
 
 use crate::cursor::Cursor;
@@ -197,10 +192,8 @@ pub fn read_planes<P: Plane>(
     planes: &mut [P],
 ) -> Option<u64>
     requires { HasBlanks size prec P.word_count (length planes.old) (map P.words planes.old) }
-
     ensures short { IsNone result ↔ (length (rest reader.old) < coded_bits budget prec size (rest reader.old)) }
     ensures unread { IfNone result (reader.new ≡ reader.old) }
-
     ensures count { IfSome result (λ count. count ≡ coded_bits budget prec size (rest reader.old)) }
     ensures reads { IfSome result (λ count. Reads reader.old reader.new (take count (rest reader.old))) }
 
@@ -231,13 +224,10 @@ pub fn decode(
 ) -> Option<u64>
     requires size { IsBlockSize size }
     requires planes { prec ≤ length planes.old }
-
     ensures short { IsNone result ↔ (length (rest reader.old) < coded_bits budget prec size (rest reader.old)) }
     ensures unread { IfNone result (reader.new ≡ reader.old) }
-
     ensures count { IfSome result (λ count. count ≡ coded_bits budget prec size (rest reader.old)) }
     ensures reads { IfSome result (λ count. Reads reader.old reader.new (take count (rest reader.old))) }
-
     // The top planes are what the budget keeps; the others, and all bits from rank `size` on, are zero.
     ensures digits { OnSome result (planes_held size planes.new
         ≡ kept_planes budget (coded budget prec size (rest reader.old))

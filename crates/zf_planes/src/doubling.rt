@@ -1,11 +1,8 @@
 //! The code of planes in one word: the digits of a run are doubled, eight at a time, by a table.
 
 ghost use Rattle.std.specs.Prelude.{◌≡◌, ◌+◌, ◌-◌, ◌*◌, ◌/◌, ◌^◌, ◌<◌, ◌≤◌, min, ◌++◌, length, take};
-ghost use Rattle.zf_spec.specs.Numbers.{field};
-ghost use Rattle.zf_spec.specs.Planes.{code_from_run, plane_code};
-ghost use Rattle.zf_bits.specs.Writer.{Appends};
-ghost use Rattle.zf_planes.specs.Doubled.{doubled};
-ghost use Rattle.zf_planes.specs.Writes.{LeavesPart};
+ghost use Rattle.zf_spec.specs.{Numbers.{field}, Planes.{code_from_run, plane_code}};
+ghost use Rattle.{zf_bits.specs.Writer.{Appends}, zf_planes.specs.{Doubled.{doubled}, Writes.{LeavesPart}}};
 
 use crate::entries::doubled_entry;
 use zf_bits::BitWriter;

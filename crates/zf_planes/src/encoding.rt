@@ -1,10 +1,8 @@
 //! Writing the code of planes.
 
 ghost use Rattle.std.specs.Prelude.{◌≡◌, ◌+◌, ◌-◌, ◌*◌, ◌<◌, ◌≤◌, ◌⊎◌, min, true, false, [], ◌∷◌, ◌++◌, length, map, take, drop, replicate};
-ghost use Rattle.zf_spec.specs.Grid.{IsBlockSize};
-ghost use Rattle.zf_spec.specs.Planes.{plane_code, tail, code, reach};
-ghost use Rattle.zf_bits.specs.Writer.{Appends};
-ghost use Rattle.zf_spec.specs.HeldPlanes.{digits_held, planes_held};
+ghost use Rattle.zf_spec.specs.{Grid.{IsBlockSize}, Planes.{plane_code, tail, code, reach}};
+ghost use Rattle.{zf_spec.specs.HeldPlanes.{digits_held, planes_held}, zf_bits.specs.Writer.{Appends}};
 ghost use Rattle.zf_planes.specs.Writes.{Writes};
 
 use crate::word_writing::write_planes_of_word;

@@ -1,9 +1,7 @@
 //! Reading the code of planes of four digits straight into the digits of the coefficients.
 
 ghost use Rattle.std.specs.Prelude.{true, ◌≡◌, ◌+◌, ◌-◌, ◌*◌, ◌/◌, ◌%◌, ◌^◌, ◌<◌, ◌≤◌, ◌↔◌, false, ◌++◌, length, map, take, replicate, All, IsNone, IfNone, IfSome, OnSome};
-ghost use Rattle.zf_spec.specs.Numbers.{field};
-ghost use Rattle.zf_spec.specs.Planes.{planes_of};
-ghost use Rattle.zf_spec.specs.Kept.{kept_planes};
+ghost use Rattle.zf_spec.specs.{Numbers.{field}, Planes.{planes_of}, Kept.{kept_planes}};
 ghost use Rattle.zf_bits.specs.Reader.{rest, Reads};
 ghost use Rattle.zf_planes.specs.Moves.{LacksPlane, LacksPlanes, MovesOverOne, MovesOverPlanes, MovesOverSome};
 ghost use Rattle.zf_planes.specs.Decoding.{coded, coded_bits, planes_bits};

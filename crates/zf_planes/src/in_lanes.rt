@@ -1,8 +1,7 @@
 //! Planes of four digits in four lanes of one word.
 
 ghost use Rattle.std.specs.Prelude.{◌≡◌, ◌%◌, ◌<◌, ◌≤◌, [], ◌∷◌};
-ghost use Rattle.zf_spec.specs.Numbers.{field};
-ghost use Rattle.zf_planes.specs.Fours.{string_planes};
+ghost use Rattle.{zf_spec.specs.Numbers.{field}, zf_planes.specs.Fours.{string_planes}};
 ghost use Rattle.zf_planes.specs.Lanes.{low_planes, lanes_in, lanes_apart, AreBelow, AreInSight, AreAtEnd, AreLoneInSight};
 
 use crate::entries::entry_of_lanes;

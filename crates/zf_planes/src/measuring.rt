@@ -1,8 +1,7 @@
 //! How long the code of planes is.
 
 ghost use Rattle.std.specs.Prelude.{◌≡◌, ◌+◌, ◌*◌, ◌<◌, ◌≤◌, length, map, take};
-ghost use Rattle.zf_spec.specs.Grid.{IsBlockSize};
-ghost use Rattle.zf_spec.specs.Planes.{reach, plane_code, code};
+ghost use Rattle.zf_spec.specs.{Grid.{IsBlockSize}, Planes.{reach, plane_code, code}};
 ghost use Rattle.zf_spec.specs.HeldPlanes.{digits_held, planes_held};
 
 use crate::words::{ones_from, reach_in};

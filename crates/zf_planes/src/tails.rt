@@ -2,8 +2,7 @@
 //! a table.
 
 ghost use Rattle.std.specs.Prelude.{◌≡◌, ◌+◌, ◌-◌, ◌*◌, ◌/◌, ◌%◌, ◌^◌, ◌<◌, ◌≤◌};
-ghost use Rattle.zf_planes.specs.WordPlanes.{IsReadAs};
-ghost use Rattle.zf_planes.specs.Sizes.{IsWordSize};
+ghost use Rattle.zf_planes.specs.{WordPlanes.{IsReadAs}, Sizes.{IsWordSize}};
 
 use crate::entries::tail_entry;
 
@@ -65,6 +64,32 @@ pub(crate) fn plane_with(n: usize, size: usize, bits: u64) -> PlaneOfWord
         digits: bits % (1 << n) | u64::from(entry % 256) << n,
         len: n as u64 + u64::from(entry / 4096),
         above: n + (entry / 256 % 16) as usize,
+    }
+}
+
+/// [`plane_with`] by two looks: where one isn't enough, the entry tells how a run begins, and what follows is
+/// as behind a group bit. It stands apart, so that most planes keep the registers.
+#[inline(never)]
+pub(crate) fn plane_with_two(n: usize, size: usize, bits: u64) -> PlaneOfWord
+    requires in_plane { n < size }
+    requires size { size ≤ 64 }
+    ensures read { result.len ≤ 64 → bits / 2 ^ n % 2 ≡ 1
+        → IsReadAs n size bits result.digits result.len result.above }
+    ensures group { n < result.len }
+{
+    let behind = (bits >> n) / 2;
+    let entry = tail_entry((size - n).min(9), behind % 256);
+    let len = u64::from(entry / 4096);
+    if len <= 64 {
+        return plane_with(n, size, bits);
+    }
+    let above = n + (entry / 256 % 16) as usize;
+    let taken = len - 96;
+    let next = tail_entry((size - above).min(9), (behind >> taken) % 256);
+    PlaneOfWord {
+        digits: bits % (1 << n) | u64::from(entry % 256) << n | u64::from(next % 256) << above,
+        len: n as u64 + taken + u64::from(next / 4096),
+        above: above + (next / 256 % 16) as usize,
     }
 }
 

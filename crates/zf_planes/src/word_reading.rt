@@ -5,16 +5,14 @@
 //! loop or an arm of its own, so that most planes take few steps.
 
 ghost use Rattle.std.specs.Prelude.{◌≡◌, ◌+◌, ◌-◌, ◌*◌, ◌/◌, ◌%◌, ◌^◌, ◌<◌, ◌≤◌, false, ◌++◌, length, map, take, drop, replicate, All, IfNone, IfSome};
-ghost use Rattle.zf_spec.specs.HeldPlanes.{planes_held, IsClearFrom};
-ghost use Rattle.zf_planes.specs.WordPlanes.{IsReadAs};
-ghost use Rattle.zf_bits.specs.Reader.{rest};
+ghost use Rattle.{zf_spec.specs.HeldPlanes.{planes_held, IsClearFrom}, zf_planes.specs.WordPlanes.{IsReadAs}};
 ghost use Rattle.zf_planes.specs.Sizes.{IsWordSize, HasBlanks};
 ghost use Rattle.zf_planes.specs.Moves.{LacksPlane, MovesOverPlane, MovesOverSame};
-ghost use Rattle.zf_planes.specs.Decoding.{planes_bits, ReadsTop};
+ghost use Rattle.{zf_planes.specs.Decoding.{planes_bits, ReadsTop}, zf_bits.specs.Reader.{rest}};
 
 use crate::cursor::Cursor;
 use crate::decoding::{PlaneRead, read_by_runs};
-use crate::tails::{PlaneOfWord, plane_of_all, plane_with, plane_without};
+use crate::tails::{PlaneOfWord, plane_of_all, plane_with, plane_with_two, plane_without};
 use zf_bits::{BitReader, Plane};
 
 /// Passes the code of a plane that is known.
@@ -100,9 +98,13 @@ fn read_more<P: Plane>(n: usize, size: usize, cursor: &mut Cursor<'_>) -> Option
     ensures read { IfSome result (λ read. MovesOverPlane size n cursor.old cursor.new (P.words read.plane)
         read.above) }
 {
-    // A plane in one word is known where its bits are in sight, and a table has its tail.
+    // A plane in one word is known where its bits are in sight, and a table has its tail, at one look or two.
     if size <= 64 {
         let more = plane_with(n, size, cursor.bits);
+        if more.len <= cursor.count {
+            return Some(take_plane(n, size, more, cursor));
+        }
+        let more = plane_with_two(n, size, cursor.bits);
         if more.len <= cursor.count {
             return Some(take_plane(n, size, more, cursor));
         }

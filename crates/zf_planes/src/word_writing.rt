@@ -1,12 +1,9 @@
 //! The code of planes in one word each, whose bits are gathered before they are written.
 
 ghost use Rattle.std.specs.Prelude.{◌≡◌, ◌+◌, ◌-◌, ◌*◌, ◌/◌, ◌^◌, ◌<◌, ◌≤◌, ◌⊎◌, true, false, min, max, ◌++◌, length, map, take, drop};
-ghost use Rattle.zf_spec.specs.Numbers.{field};
-ghost use Rattle.zf_spec.specs.Planes.{plane_code, code_from, reach};
-ghost use Rattle.zf_spec.specs.HeldPlanes.{planes_held};
-ghost use Rattle.zf_planes.specs.Sizes.{IsWordSize};
-ghost use Rattle.zf_planes.specs.Writes.{Writes};
-ghost use Rattle.zf_planes.specs.WordPlanes.{IsPlainCode, AreBegun};
+ghost use Rattle.zf_spec.specs.{Numbers.{field}, Planes.{plane_code, code_from, reach}};
+ghost use Rattle.{zf_spec.specs.HeldPlanes.{planes_held}, zf_planes.specs.Sizes.{IsWordSize}};
+ghost use Rattle.zf_planes.specs.{Writes.{Writes}, WordPlanes.{IsPlainCode, AreBegun}};
 
 use crate::doubling::{Part, join, write_part, write_with};
 use crate::four_writing::code_of_two;

@@ -1,9 +1,7 @@
 //! Where the ones of a plane in words are.
 
 ghost use Rattle.std.specs.Prelude.{◌≡◌, ◌+◌, ◌*◌, ◌^◌, ◌<◌, ◌≤◌, IsTrue, true, false, ◌∷◌, ◌++◌, count_by, length, map, drop, replicate};
-ghost use Rattle.zf_spec.specs.Numbers.{field};
-ghost use Rattle.zf_spec.specs.Planes.{reach, has_one};
-ghost use Rattle.zf_spec.specs.HeldPlanes.{digits_held};
+ghost use Rattle.zf_spec.specs.{Numbers.{field}, Planes.{reach, has_one}, HeldPlanes.{digits_held}};
 ghost use Rattle.zf_planes.specs.Sizes.{IsWordSize};
 
 use zf_bits::Plane;
