@@ -1,6 +1,7 @@
 -- A list that is written in parts, as far as a budget of bits reaches.
 use Rattle.std.proofs.Common.{rules, ◌≡◌, ℕ, suc, zero, ◌-◌, ◌<◌, ◌≤◌, min, Bool, List, [], ◌∷◌, ◌++◌, length, take, refl, ap, subst, arith, append_assoc, length-append}
 use Rattle.std.proofs.lemmas.List.{length-take, append-nil}
+use Rattle.zf_spec.{specs.Numbers.{field}, proofs.Fields.{length-field}}
 use Rattle.zf_bits.specs.Writer.{Writer, Appends}
 use Rattle.zf_planes.specs.Writes.{Remains}
 
@@ -30,6 +31,13 @@ Remains-more {old} {now} {new} {budget} {left} {whole} more rest remains appends
     let long = length-append more rest in
     let written = length-take left more in
     search (rules, append_assoc, take_append)
+
+-- the next part is the bits of a number
+pub Remains-part : {old now new : Writer} {budget left after : ℕ} {whole : List Bool} (len bits : ℕ) (rest : List Bool) → Remains old now budget left whole (field len bits ++ rest) → Appends now new (take left (field len bits)) → after ≡ left - len
+    → Remains old new budget after whole rest
+Remains-part {old} {now} {new} {budget} {left} {after} {whole} len bits rest remains appends is =
+    let spent : left - length (field len bits) ≡ after = omega (arith, length-field len bits, is) in
+    rw spent at (Remains-more (field len bits) rest remains appends)
 
 -- the next bit is written
 pub Remains-bit : {old now new : Writer} {budget left : ℕ} {whole : List Bool} (b : Bool) (rest : List Bool) → 0 < left → Remains old now budget left whole (b ∷ rest) → Appends now new (b ∷ [])
