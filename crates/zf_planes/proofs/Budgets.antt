@@ -1,5 +1,5 @@
 -- A list that is written in parts, as far as a budget of bits reaches.
-use Rattle.std.proofs.Common.{rules, ◌≡◌, ℕ, suc, zero, ◌-◌, ◌<◌, ◌≤◌, min, Bool, List, [], ◌∷◌, ◌++◌, length, take, refl, ap, subst, arith, append_assoc, length-append}
+use Rattle.std.proofs.Common.{rules, ◌≡◌, ℕ, suc, zero, ◌+◌, ◌-◌, ◌<◌, ◌≤◌, min, Bool, List, [], ◌∷◌, ◌++◌, length, take, refl, ap, subst, arith, append_assoc, length-append}
 use Rattle.std.proofs.lemmas.List.{length-take, append-nil}
 use Rattle.zf_spec.{specs.Numbers.{field}, proofs.Fields.{length-field}}
 use Rattle.zf_bits.specs.Writer.{Writer, Appends}
@@ -15,6 +15,10 @@ take_append {A} (suc k) (x ∷ xs) ys =
 
 pub Remains-start : (w : Writer) (budget : ℕ) (whole : List Bool) → min budget (length whole) ≤ w.room → Remains w w budget budget whole whole
 Remains-start w budget whole fits = record { bits = refl; spent = refl; fits = fits; room = omega arith; within = omega arith }
+
+-- behind bits that were put together
+pub Remains-behind : (w : Writer) (budget len bits : ℕ) (code : List Bool) → min budget (len + length code) ≤ w.room → Remains w w budget budget (field len bits ++ code) (field len bits ++ code)
+Remains-behind w budget len bits code fits = Remains-start w budget (field len bits ++ code) (omega (arith, fits, length-append (field len bits) code, length-field len bits))
 
 -- the same rest by another name
 pub Remains-same : {old now : Writer} {budget left : ℕ} {whole : List Bool} {rest rest' : List Bool} → Remains old now budget left whole rest → rest ≡ rest' → Remains old now budget left whole rest'

@@ -7,6 +7,7 @@ ghost use Rattle.zf_spec.specs.Planes.{planes_of, plane_code, code, code_from, r
 ghost use Rattle.zf_bits.specs.Writer.{Appends};
 ghost use Rattle.zf_planes.specs.Fours.{string_planes, IsAsGood, IsCodeOfTwo, GoesOnBehind, LeavesPlanes};
 ghost use Rattle.zf_planes.specs.Spread.{top_digit, top_planes, spread, lone_code, AreLoneAtTop};
+ghost use Rattle.zf_planes.specs.Writes.{Writes};
 
 use crate::doubling::{Part, join, make_room, write_part};
 use crate::entries::{entry_of_pair, spread_entry};
@@ -87,10 +88,11 @@ fn code_of_lone(planes: u32, word: u64) -> Part
     requires few { planes ≤ 16 }
     requires first { top_digit word 0 ≡ true }
     ensures bits { field result.len result.bits ≡ true ∷ lone_code (map (top_digit word) (upto planes)) }
+    ensures small { result.bits < 2 ^ result.len }
     ensures len { result.len ≤ 33 }
 {
-    let bits = 1 + 2 * pairs_of_top(word);
     let len = 1 + 2 * u64::from(planes);
+    let bits = (1 + 2 * pairs_of_top(word)) % (1 << len);
     Part { bits, len }
 }
 
@@ -199,24 +201,27 @@ fn write_string(
     left
 }
 
-/// Appends the code of the top planes of four words, above which no rank has had a one, as far as `left` bits
-/// reach. The answer is the bits that are left.
+/// Appends bits and behind them the code of the top planes of four words, above which no rank has had a one,
+/// as far as `left` bits reach. The answer is the bits that are left.
 #[inline(always)]
-fn write_top(left: u64, planes: u32, words: [u64; 4], out: &mut BitWriter) -> u64
+fn write_top(left: u64, part: Part, planes: u32, words: [u64; 4], out: &mut BitWriter) -> u64
     requires planes { planes ≤ 64 }
-    requires fits { min left (length (code_from 0 (top_planes planes words))) ≤ out.old.room }
-    ensures bits { Appends out.old out.new (take left (code_from 0 (top_planes planes words))) }
-    ensures left { result ≡ left - length (code_from 0 (top_planes planes words)) }
+    requires in_word { part.len ≤ 64 }
+    requires small { part.bits < 2 ^ part.len }
+    requires fits { min left (part.len + length (code_from 0 (top_planes planes words))) ≤ out.old.room }
+    ensures { Writes left result out.old out.new
+        (field part.len part.bits ++ code_from 0 (top_planes planes words)) }
 {
     let mut left = left;
+    let mut part = part;
     let mut planes = planes;
     let mut words = words;
     let mut above = 0;
-    let mut part = Part { bits: 0, len: 0 };
     // Where values are smooth, the first coefficient is the only one of many planes.
     let lone = count_of_lone(planes, &words);
     if lone > 0 {
-        left = write_part(left, code_of_lone(lone, words[0]), out);
+        left = make_room(left, 33, &mut part, out);
+        part = join(part, code_of_lone(lone, words[0]));
         planes -= lone;
         words = below_top(lone, &words);
         above = 1;
@@ -254,11 +259,11 @@ pub fn write_four(
     ensures count { result ≡ min budget (length (code
         (take prec (planes_of width (map (field width) digits.now))))) }
 {
-    let count = budget.min(u64::from(zeros));
-    out.write_reserved(0, count as u32);
+    let len = u64::from(zeros);
+    let top = Part { bits: 0, len };
     if zeros == prec {
-        return count;
+        return budget - write_part(budget, top, out);
     }
     let words = below_top(64 - width + zeros, digits);
-    budget - write_top(budget - count, prec - zeros, words, out)
+    budget - write_top(budget, top, prec - zeros, words, out)
 }

@@ -1,18 +1,15 @@
-use Rattle.std.proofs.Common.{◌≡◌, ◌+◌, ◌-◌, ◌*◌, ◌/◌, ◌≤◌, Bool, List, [], ◌++◌, refl, sym, ap, ◌∙◌, arith, append_assoc, append-nil, length-append}
+use Rattle.std.proofs.Common.{◌≡◌, ◌+◌, ◌-◌, ◌*◌, ◌/◌, ◌≤◌, Bool, List, [], ◌++◌, refl, sym, ap, ◌∙◌, arith, append_assoc, append-nil}
 use Rattle.zf_spec.{specs.Numbers.{field}, specs.Planes.{code_from}, proofs.Fields.{length-field}}
 use Rattle.zf_planes.{specs.Fours.{string_planes}, specs.Writes.{Remains}}
-use Rattle.zf_planes.proofs.Budgets.{Remains-start, Remains-same, Remains-fits, Remains-through}
+use Rattle.zf_planes.proofs.Budgets.{Remains-behind, Remains-same, Remains-fits, Remains-through}
 use Rattle.zf_planes.proofs.Strings.{own_string, string_end, string_small, Remains-reached, Remains-word}
 use Rattle.zf_planes.proofs.four_writing.write_string.Goals.{then-loop-planes-test+then-left-part+else-above-lt3, then-loop-planes-test+else-left-part, else-loop-planes-test, then-left-gt64, else-left-gt64, else-planes-gt0-via-then-planes-gt0+else-left-part-2, else-planes-gt0-via-else-planes-gt0}
 use Rattle.zf_planes.proofs.four_writing.write_string.Goals as goal
 
 pub loop-planes-init : goal.loop-planes-init
 loop-planes-init c =
-    let part = c.args.part.now in
-    let bits = field part.len part.bits in
-    let code = code_from c.args.above.now (string_planes c.args.planes c.args.string) in
     record {
-      remains = Remains-start c.args.out.now c.args.left (bits ++ code) (omega (arith, c.requires.fits, length-append bits code, length-field part.len part.bits));
+      remains = Remains-behind c.args.out.now c.args.left c.args.part.now.len c.args.part.now.bits _ c.requires.fits;
       reached = refl;
       above = c.requires.above;
       few = c.requires.few;

@@ -1,10 +1,10 @@
-use Rattle.std.proofs.Common.{rules, [], ◌≡◌, ℕ, ◌-◌, ◌<◌, ◌≤◌, min, max, Bool, true, List, ◌∷◌, ◌++◌, length, map, get_or, sym, ap, ◌∙◌, arith, append_assoc, length-append}
+use Rattle.std.proofs.Common.{rules, [], ◌≡◌, ℕ, ◌-◌, ◌<◌, ◌≤◌, min, max, Bool, true, List, ◌∷◌, ◌++◌, length, map, get_or, ap, arith, append_assoc, length-append}
 use Rattle.zf_spec.{specs.Numbers.{field}, specs.Grid.{upto}, proofs.Fields.{length-field}}
 use Rattle.zf_spec.specs.Planes.{code_from, reach_of_all}
 use Rattle.zf_bits.specs.Writer.{Writer}
 use Rattle.zf_planes.{specs.Fours.{string_planes}, specs.Writes.{Remains}, proofs.Lone.{lone_first}}
 use Rattle.zf_planes.specs.Spread.{top_digit, top_planes, lone_planes, lone_code}
-use Rattle.zf_planes.proofs.Budgets.{Remains-start, Remains-same, Remains-fits, Remains-part, Remains-through, Remains-end}
+use Rattle.zf_planes.proofs.Budgets.{Remains-behind, Remains-same, Remains-fits, Remains-part, Remains-through, Remains-end}
 use Rattle.zf_planes.proofs.Strings.{code_from-append, reach_of_string-le, Remains-above, Remains-reached}
 use Rattle.zf_planes.proofs.TopPlanes.{below, string-split, top_planes-sizes, no_top_planes}
 use Rattle.zf_planes.proofs.four_writing.write_top.Goals.{then-lone-gt0, else-lone-gt0, then-loop-planes-test+else-left-part, else-loop-planes-test}
@@ -24,27 +24,30 @@ next_string l v above planes count string words most is same remains =
 
 -- ---- planes in which the first rank alone has ones
 
-alone : (out : Writer) (left planes m : ℕ) (words : List ℕ) (len bits : ℕ) → planes ≤ 64 → min left (length (code_from 0 (top_planes planes words))) ≤ out.room → 0 < m → m ≤ planes → top_digit (get_or words 0 0) 0 ≡ true
-    → top_planes m words ≡ lone_planes (map (top_digit (get_or words 0 0)) (upto m)) → field len bits ≡ true ∷ lone_code (map (top_digit (get_or words 0 0)) (upto m))
-    → Remains out out left left (code_from 0 (top_planes planes words)) (field len bits ++ code_from 1 (top_planes (planes - m) (map (below m) words)))
-alone out left planes m words len bits most fits some within first lone is =
-    Remains-same (Remains-start out left _ fits) (lone_first planes m words some within most first lone ∙ ap (λ (bs : List Bool). bs ++ code_from 1 (top_planes (planes - m) (map (below m) words))) (sym is))
-
-pub write_part-left-requires-clause-fits : goal.write_part-left-requires-clause-fits
-write_part-left-requires-clause-fits c =
-    let part = c.code_of_lone.result in
-    let lone = c.count_of_lone-lone in
-    let remains = alone c.args.out.now c.args.left c.args.planes lone.result c.args.words part.len part.bits c.requires.planes c.requires.fits c.if-lone-gt0.true lone.ensures.most (lone.ensures.first c.if-lone-gt0.true) lone.ensures.lone c.code_of_lone.ensures.bits in
-    omega (arith, Remains-fits (field part.len part.bits) _ remains, length-field part.len part.bits)
+-- their code is put behind bits
+alone : {old now : Writer} {budget left : ℕ} {whole : List Bool} (l v planes m : ℕ) (words : List ℕ) (len bits j x : ℕ) → Remains old now budget left whole (field l v ++ code_from 0 (top_planes planes words)) → planes ≤ 64 → 0 < m → m ≤ planes
+    → top_digit (get_or words 0 0) 0 ≡ true → top_planes m words ≡ lone_planes (map (top_digit (get_or words 0 0)) (upto m)) → field len bits ≡ true ∷ lone_code (map (top_digit (get_or words 0 0)) (upto m)) → field j x ≡ field l v ++ field len bits
+    → Remains old now budget left whole (field j x ++ code_from 1 (top_planes (planes - m) (map (below m) words)))
+alone l v planes m words len bits j x remains most some within first lone is joined =
+    Remains-same remains (cc (
+      lone_first planes m words some within most first lone,
+      is,
+      append_assoc (field l v) (field len bits) (code_from 1 (top_planes (planes - m) (map (below m) words))),
+      joined,
+    ))
 
 pub loop-planes-init : goal.loop-planes-init
 loop-planes-init c =
     let lone = c.count_of_lone-lone in
+    let start = Remains-behind c.args.out.now c.args.left c.args.part.len c.args.part.bits (code_from 0 (top_planes c.args.planes c.args.words)) c.requires.fits in
     elim c.if-lone-gt0.branch [
       | then-lone-gt0 w ↦
-          let part = w.code_of_lone.result in
-          let remains = alone c.args.out.now c.args.left c.args.planes lone.result c.args.words part.len part.bits c.requires.planes c.requires.fits w.if-lone-gt0.true lone.ensures.most (lone.ensures.first w.if-lone-gt0.true) lone.ensures.lone w.code_of_lone.ensures.bits in
-          let written = Remains-part part.len part.bits _ remains w.write_part-left.ensures.bits w.write_part-left.ensures.left in
+          let code = w.code_of_lone in
+          let room = w.make_room-left in
+          let joined = w.join-part in
+          let part = room.new.part in
+          let through = Remains-through (field c.args.part.len c.args.part.bits) (field part.len part.bits) (code_from 0 (top_planes c.args.planes c.args.words)) start room.ensures.bits.code in
+          let remains = alone part.len part.bits c.args.planes lone.result c.args.words code.result.len code.result.bits joined.result.len joined.result.bits through c.requires.planes w.if-lone-gt0.true lone.ensures.most (lone.ensures.first w.if-lone-gt0.true) lone.ensures.lone code.ensures.bits joined.ensures.bits in
           rw (w.out-is, w.left-is, w.planes-is, w.words-is, w.above-is) (search rules)
       | else-lone-gt0 w ↦
           rw (w.out-is, w.left-is, w.planes-is, w.words-is, w.above-is) (search rules)
@@ -83,7 +86,7 @@ loop-planes-preserved c =
 -- ---- the end
 
 -- only the bits that were put together remain
-ended : (c : goal.After-write_part-arg-2-1) → Remains c.args.out.now c.loop-planes.out c.args.left c.loop-planes.left (code_from 0 (top_planes c.args.planes c.args.words)) (field c.loop-planes.part.len c.loop-planes.part.bits ++ [])
+ended : (c : goal.After-write_part-arg-1) → Remains c.args.out.now c.loop-planes.out c.args.left c.loop-planes.left (field c.args.part.len c.args.part.bits ++ code_from 0 (top_planes c.args.planes c.args.words)) (field c.loop-planes.part.len c.loop-planes.part.bits ++ [])
 ended c =
     let now = c.loop-planes in
     elim c.loop-planes-test.branch [
@@ -99,11 +102,8 @@ write_part-requires-clause-fits c =
     omega (arith, Remains-fits (field part.len part.bits) [] (ended c), length-field part.len part.bits)
 
 -- and they are written
-written : (c : goal.After-write_part) → Remains c.args.out.now c.write_part.new.out c.args.left c.write_part.result (code_from 0 (top_planes c.args.planes c.args.words)) []
+written : (c : goal.After-write_part) → Remains c.args.out.now c.write_part.new.out c.args.left c.write_part.result (field c.args.part.len c.args.part.bits ++ code_from 0 (top_planes c.args.planes c.args.words)) []
 written c = Remains-part c.loop-planes.part.len c.loop-planes.part.bits [] (ended c.before) c.write_part.ensures.bits c.write_part.ensures.left
 
-pub returns-clause-bits : goal.returns-clause-bits
-returns-clause-bits c = Remains-end (written c) (omega arith)
-
-pub returns-clause-left : goal.returns-clause-left
-returns-clause-left c = omega (arith, (written c).spent)
+pub returns : goal.returns
+returns c = record { bits = Remains-end (written c) (omega arith); left = omega (arith, (written c).spent) }

@@ -6,7 +6,7 @@ use Rattle.zf_planes.proofs.four_writing.write_top.Given as goal
 
 abbrev pub invariant-loop-planes : goal.invariant-loop-planes
 invariant-loop-planes l = record {
-  remains : Remains l.fn.out l.out l.fn.left l.left (code_from 0 (top_planes l.fn.planes l.fn.words)) (field l.part.len l.part.bits ++ code_from l.above (top_planes l.planes l.words));
+  remains : Remains l.fn.out l.out l.fn.left l.left (field l.fn.part.len l.fn.part.bits ++ code_from 0 (top_planes l.fn.planes l.fn.words)) (field l.part.len l.part.bits ++ code_from l.above (top_planes l.planes l.words));
   above : l.above ≤ 4;
   few : l.planes ≤ 64;
   in_word : l.part.len ≤ 64;
