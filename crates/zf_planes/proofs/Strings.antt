@@ -5,10 +5,11 @@ use Rattle.std.{proofs.lemmas.Bool.{cases_lt}, proofs.lemmas.List.Elements.{All-
 use Rattle.zf_spec.{specs.Numbers.{field}, proofs.Fields.{length-field, field-add, field-mod}}
 use Rattle.zf_spec.specs.Planes.{plane_code, code_from, reach, reach_of_all, AreOfSize}
 use Rattle.zf_spec.proofs.Reach.{reach-le}
+use Rattle.std.{specs.Int.Bits.{bit_or}}
 use Rattle.zf_bits.specs.Writer.{Writer}
 use Rattle.zf_planes.{specs.Fours.{string_planes, IsAsGood}}
 use Rattle.zf_planes.{specs.Writes.{Remains}, proofs.LastRank.{code_of_three}}
-use Rattle.zf_planes.{proofs.Budgets.{take_append, Remains-same}, proofs.Gathering.{take_field}}
+use Rattle.zf_planes.{proofs.Budgets.{take_append, Remains-same}, proofs.Gathering.{take_field, bits_behind}}
 
 -- ---- the code of planes goes on behind bits that were put together
 
@@ -130,20 +131,33 @@ Remains-reached {old} {now} {budget} {left} {whole} l v rest rest' few remains =
     let none : left - length (field l v) ≡ 0 = omega (arith, few, length-field l v) in
     Remains-cut (field l v ++ rest) (field l v ++ rest') (cc (take_append left (field l v) rest, take_append left (field l v) rest', none)) remains
 
--- where no more than a word is left of it, no more than a word matters
-pub Remains-word : {old now : Writer} {budget left : ℕ} {whole : List Bool} (l v n w m : ℕ) → left ≤ 64 → m ≡ min n (64 - l)
-    → Remains old now budget left whole (field l v ++ field n w) → Remains old now budget left whole (field l v ++ field m w)
-Remains-word {old} {now} {budget} {left} {whole} l v n w m few is remains =
-    let count : min (left - length (field l v)) n ≡ min (left - length (field l v)) m = omega (arith, is, length-field l v) in
-    Remains-cut (field l v ++ field n w) (field l v ++ field m w)
-    (cc (
-      take_append left (field l v) (field n w),
-      take_append left (field l v) (field m w),
-      take_field (left - length (field l v)) n w,
-      take_field (left - length (field l v)) m w,
-      count,
-    ))
-    remains
+-- nor, where no more than a word is left, what falls out of one: digits behind the bits of a number
+field_cut : (left l n a v : ℕ) → l < 64 → min left (l + n) ≤ 64 → a < 2 ^ l → take left (field (l + n) (bit_or a (v * 2 ^ l % 2 ^ 64))) ≡ take left (field l a ++ field n v)
+field_cut left l n a v short within small =
+    let m = min left (l + n) in
+    let bits = field l a in
+    let word : min m (l + (64 - l)) ≡ m = omega arith in
+    let first : min m l ≡ min left l = omega arith in
+    let second : min (m - length bits) (64 - l) ≡ min (left - length bits) n = omega (arith, length-field l a) in
+    cc (
+      take_field left (l + n) (bit_or a (v * 2 ^ l % 2 ^ 64)),
+      take_field m (l + (64 - l)) (bit_or a (v * 2 ^ l % 2 ^ 64)),
+      word,
+      bits_behind l (64 - l) a v (omega arith) small,
+      take_append m bits (field (64 - l) v),
+      take_append left bits (field n v),
+      take_field m l a,
+      take_field left l a,
+      first,
+      take_field (m - length bits) (64 - l) v,
+      take_field (left - length bits) n v,
+      second,
+    )
+
+pub Remains-word : {old now : Writer} {budget left : ℕ} {whole : List Bool} (l n a v : ℕ) → l < 64 → min left (l + n) ≤ 64 → a < 2 ^ l → Remains old now budget left whole (field l a ++ field n v)
+    → Remains old now budget left whole (field (l + n) (bit_or a (v * 2 ^ l % 2 ^ 64)))
+Remains-word {old} {now} {budget} {left} {whole} l n a v short within small remains =
+    Remains-cut (field l a ++ field n v) (field (l + n) (bit_or a (v * 2 ^ l % 2 ^ 64))) (sym (field_cut left l n a v short within small)) remains
 
 -- how far the ones reach above counts only while more bits are left than were put together
 as_good : (m n : ℕ) (planes : List (List Bool)) → IsAsGood m n → m ≤ 4 → n ≤ 4 → AreOfSize 4 planes → code_from n planes ≡ code_from m planes

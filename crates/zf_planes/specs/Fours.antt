@@ -38,6 +38,6 @@ pub record GoesOnBehind (n : ℕ) (planes : List (List Bool)) (l v a : ℕ) (res
 pub record LeavesPlanes (left after n a : ℕ) (old new : Writer) (bits : List Bool) (planes : List (List Bool)) (l v : ℕ) : Type 0
   where
     pub code : Remains old new left after (bits ++ code_from n planes) (field l v)
-    pub len : l ≤ 64
+    pub len : min after l ≤ 64
     pub within : a ≤ 4
     pub reached : l < after → IsAsGood a (max n (reach_of_all planes))

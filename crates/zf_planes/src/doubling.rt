@@ -75,7 +75,7 @@ pub(crate) fn join(prefix: Part, back: Part) -> Part
 /// Appends bits, as far as `left` bits reach. The answer is the bits that are left.
 #[inline]
 pub(crate) fn write_part(left: u64, part: Part, out: &mut BitWriter) -> u64
-    requires in_word { part.len ≤ 64 }
+    requires in_word { min left part.len ≤ 64 }
     requires fits { min left part.len ≤ out.old.room }
     ensures bits { Appends out.old out.new (take left (field part.len part.bits)) }
     ensures left { result ≡ left - part.len }

@@ -189,14 +189,14 @@ fn write_string(
     // Once three ranks have had a one, the planes that are left are their own code, as the group bit behind
     // the third digit is the fourth.
     if planes > 0 && left > part.len {
-        let mut len = 4 * u64::from(planes);
+        let own = 4 * u64::from(planes);
         if left > 64 {
-            left = make_room(left, len, part, out);
-        } else {
-            // No more bits than a word's are left.
-            len = len.min(64 - part.len);
+            left = make_room(left, own, part, out);
         }
-        *part = join(*part, Part { bits: string, len });
+        // What falls out of a word is past the end.
+        let bits = part.bits | string << part.len;
+        let len = part.len + own;
+        *part = Part { bits, len };
     }
     left
 }

@@ -1,8 +1,9 @@
-use Rattle.std.proofs.Common.{◌≡◌, ◌+◌, ◌-◌, ◌*◌, ◌/◌, ◌≤◌, Bool, List, [], ◌++◌, refl, sym, ap, ◌∙◌, arith, append_assoc, append-nil}
+use Rattle.std.proofs.Common.{◌≡◌, ◌+◌, ◌-◌, ◌*◌, ◌/◌, ◌^◌, ◌<◌, ◌≤◌, min, Bool, List, [], ◌++◌, refl, sym, ap, ◌∙◌, arith, append_assoc, append-nil}
 use Rattle.zf_spec.{specs.Numbers.{field}, specs.Planes.{code_from}, proofs.Fields.{length-field}}
 use Rattle.zf_planes.{specs.Fours.{string_planes}, specs.Writes.{Remains}}
 use Rattle.zf_planes.proofs.Budgets.{Remains-behind, Remains-same, Remains-fits, Remains-through}
 use Rattle.zf_planes.proofs.Strings.{own_string, string_end, string_small, Remains-reached, Remains-word}
+use Rattle.zf_planes.proofs.Gathering.{small_behind}
 use Rattle.zf_planes.proofs.four_writing.write_string.Goals.{then-loop-planes-test+then-left-part+else-above-lt3, then-loop-planes-test+else-left-part, else-loop-planes-test, then-left-gt64, else-left-gt64, else-planes-gt0-via-then-planes-gt0+else-left-part-2, else-planes-gt0-via-else-planes-gt0}
 use Rattle.zf_planes.proofs.four_writing.write_string.Goals as goal
 
@@ -53,45 +54,65 @@ make_room-left-requires-then-left-gt64-clause-fits c =
     omega (arith, Remains-fits (field part.len part.bits) _ c.loop-planes.invariant.remains, length-field part.len part.bits)
 
 -- the loop has ended since these ranks have had a one
-three : (c : goal.After-join-then-left-part-2) → 3 ≤ c.loop-planes.above
+three : (c : goal.Joined-left-gt64) → 3 ≤ c.loop-planes.above
 three c = elim c.loop-planes-test.branch [
   | then-loop-planes-test+then-left-part+else-above-lt3 w ↦ omega (arith, w.if-above-lt3.false)
   | then-loop-planes-test+else-left-part w ↦ absurd (omega (arith, w.if-left-part.false, c.if-left-part-2.true))
   | else-loop-planes-test w ↦ absurd (omega (arith, w.loop-planes-test.false, c.if-planes-gt0.true))
 ]
 
--- the digits of the planes that are left are put behind the bits, as far as they count
-ended : (c : goal.After-join-then-left-part-2) → Remains c.args.out.now c.if-left-gt64.out c.args.left c.if-left-gt64.left (field c.args.part.now.len c.args.part.now.bits ++ code_from c.args.above.now (string_planes c.args.planes c.args.string))
-    (field c.if-left-gt64.part.len c.if-left-gt64.part.bits ++ field c.if-left-gt64.len c.loop-planes.string)
-ended c =
+-- behind the bits that were put together the digits of the planes that are left remain, as far as they count in a word
+pub record Behind (c : goal.Joined-left-gt64) : Type 0 where
+  pub code : Remains c.args.out.now c.if-left-gt64.out c.args.left c.if-left-gt64.left (field c.args.part.now.len c.args.part.now.bits ++ code_from c.args.above.now (string_planes c.args.planes c.args.string))
+      (field c.if-left-gt64.part.len c.if-left-gt64.part.bits ++ field (4 * c.from-own.result) c.loop-planes.string)
+  pub short : c.if-left-gt64.part.len < 64
+  pub within : min c.if-left-gt64.left (c.if-left-gt64.part.len + 4 * c.from-own.result) ≤ 64
+  pub small : c.if-left-gt64.part.bits < 2 ^ c.if-left-gt64.part.len
+
+behind : (c : goal.Joined-left-gt64) → Behind c
+behind c =
     let now = c.loop-planes in
     let bits = field now.part.len now.part.bits in
-    let len = 4 * c.from-len.result in
+    let len = 4 * c.from-own.result in
     let own : code_from now.above (string_planes now.planes now.string) ≡ field len now.string =
-    own_string now.above now.planes now.string (three c) now.invariant.above ∙ ap (λ n. field (4 * n) now.string) (sym c.from-len.ensures) in
+    own_string now.above now.planes now.string (three c) now.invariant.above ∙ ap (λ n. field (4 * n) now.string) (sym c.from-own.ensures) in
     let remains = Remains-same now.invariant.remains (ap (λ (bs : List Bool). bits ++ bs) own) in
     elim c.if-left-gt64.branch [
       | then-left-gt64 w ↦
           let room = w.make_room-left-then-left-gt64 in
-          rw (w.part-is, w.out-is, w.left-is, w.len-is) (Remains-through bits (field room.new.part.len room.new.part.bits) (field len now.string) remains room.ensures.bits.code)
+          record {
+            code = rw (w.part-is, w.out-is, w.left-is) (Remains-through bits (field room.new.part.len room.new.part.bits) (field len now.string) remains room.ensures.bits.code);
+            short = rw w.part-is (omega (arith, room.ensures.room, c.from-own.ensures, c.if-planes-gt0.true));
+            within = rw (w.part-is, w.left-is) (omega (arith, room.ensures.room));
+            small = rw w.part-is room.ensures.bits.small;
+          }
       | else-left-gt64 w ↦
-          rw (w.part-is, w.out-is, w.left-is, w.len-is) (Remains-word now.part.len now.part.bits len now.string w.min-len.result (omega (arith, w.if-left-gt64.false)) w.min-len.ensures remains)
+          record {
+            code = rw (w.part-is, w.out-is, w.left-is) remains;
+            short = rw w.part-is (omega (arith, w.if-left-gt64.false, c.if-left-part-2.true));
+            within = rw (w.part-is, w.left-is) (omega (arith, w.if-left-gt64.false));
+            small = rw w.part-is now.invariant.small;
+          }
     ]
 
--- which fit a word
-in_word : (c : goal.After-join-then-left-part-2) → c.if-left-gt64.part.len + c.if-left-gt64.len ≤ 64
-in_word c = elim c.if-left-gt64.branch [
-  | then-left-gt64 w ↦ rw (w.part-is, w.len-is) w.make_room-left-then-left-gt64.ensures.room
-  | else-left-gt64 w ↦ rw (w.part-is, w.len-is) (omega (arith, w.min-len.ensures, c.loop-planes.invariant.in_word))
-]
+pub overflow_shl-bits : goal.overflow_shl-bits
+overflow_shl-bits c = (behind c).short
 
 pub returns-after-left-gt64-clause-bits : goal.returns-after-left-gt64-clause-bits
-returns-after-left-gt64-clause-bits c = record {
-  code = Remains-same (ended c) (sym c.join-then-left-part-2.ensures.bits);
-  len = omega (arith, in_word c, c.join-then-left-part-2.ensures.len);
-  within = c.loop-planes.invariant.above;
-  reached = λ some. omega (arith, three c, c.loop-planes.invariant.reached);
-}
+returns-after-left-gt64-clause-bits c =
+    let known = behind c in
+    let part = c.if-left-gt64.part in
+    record {
+      code = Remains-word part.len (4 * c.from-own.result) part.bits c.loop-planes.string known.short known.within known.small known.code;
+      len = known.within;
+      within = c.loop-planes.invariant.above;
+      reached = λ some. omega (arith, three c, c.loop-planes.invariant.reached);
+    }
+
+pub returns-after-left-gt64-clause-small : goal.returns-after-left-gt64-clause-small
+returns-after-left-gt64-clause-small c = λ small.
+    let count : 4 * c.from-own.result ≡ 4 * c.loop-planes.planes = omega (arith, c.from-own.ensures) in
+    small_behind c.if-left-gt64.part.len (4 * c.from-own.result) c.if-left-gt64.part.bits c.loop-planes.string (behind c).small (rw count (c.loop-planes.invariant.no_more small))
 
 -- ---- no plane is left, or no bit behind those that were put together
 
@@ -102,7 +123,7 @@ returns-else-planes-gt0-clause-bits c =
     elim c.else-planes-gt0.branch [
       | else-planes-gt0-via-then-planes-gt0+else-left-part-2 w ↦ record {
         code = Remains-same (Remains-reached now.part.len now.part.bits _ [] (omega (arith, w.if-left-part-2.false)) now.invariant.remains) (append-nil bits);
-        len = now.invariant.in_word;
+        len = omega (arith, now.invariant.in_word);
         within = now.invariant.above;
         reached = λ some. absurd (omega (arith, w.if-left-part-2.false, some));
       }
@@ -110,7 +131,7 @@ returns-else-planes-gt0-clause-bits c =
           let none = string_end now.planes now.above now.string w.if-planes-gt0.false in
           record {
             code = Remains-same now.invariant.remains (ap (λ (bs : List Bool). bits ++ bs) none.0 ∙ append-nil bits);
-            len = now.invariant.in_word;
+            len = omega (arith, now.invariant.in_word);
             within = now.invariant.above;
             reached = λ some. omega (arith, now.invariant.reached, none.1);
           }
