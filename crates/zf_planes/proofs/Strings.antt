@@ -1,6 +1,6 @@
 -- Strings: planes of four digits in one number, and their code.
 use Rattle.std.proofs.Common.{◌≡◌, ℕ, zero, suc, ◌+◌, ◌-◌, ◌*◌, ◌/◌, ◌%◌, ◌^◌, ◌<◌, ◌≤◌, min, max, Bool, List, [], ◌∷◌, ◌++◌, length, append_assoc, take, ⊎_elim, refl, sym, ap, ◌∙◌, arith}
-use Rattle.std.{proofs.lemmas.List.{length-take, append-nil}, proofs.lemmas.Nat.{pow-add}}
+use Rattle.std.{proofs.lemmas.List.{length-take}, proofs.lemmas.Nat.{pow-add}}
 use Rattle.std.{proofs.lemmas.Bool.{cases_lt}, proofs.lemmas.List.Elements.{All-nil, All-cons}}
 use Rattle.zf_spec.{specs.Numbers.{field}, proofs.Fields.{length-field, field-add, field-mod}}
 use Rattle.zf_spec.specs.Planes.{plane_code, code_from, reach, reach_of_all, AreOfSize}
@@ -60,13 +60,11 @@ unfolding string_planes
 string_end zero above string none = (refl, refl)
 string_end (suc planes) above string none = absurd (omega arith)
 
--- a single plane
+-- by the last one
 pub last_of_string : (n k string next : ℕ) (bits : List Bool) → k ≡ 1 → bits ≡ plane_code n (field 4 (string % 16)) → next ≡ max n (reach (field 4 (string % 16)))
-    → (code_from n (string_planes k string) ≡ bits) × (max n (reach_of_all (string_planes k string)) ≡ next)
+    → GoesOn n (string_planes k string) bits next (string_planes (k - 2) (string / 256))
 unfolding string_planes
-last_of_string n k string next bits one is reached =
-    let on = plane_of_string n zero string next bits is reached in
-    rw one (on.code ∙ append-nil bits, omega (arith, on.reached))
+last_of_string n k string next bits one is reached = rw one (plane_of_string n zero string next bits is reached)
 
 -- the first planes of a string
 pub take-fours : (m k string : ℕ) → take m (string_planes (m + k) string) ≡ string_planes m string

@@ -49,7 +49,7 @@ len_of_first e = e / 16384 % 16 - min (e / 262144 + 1) 4
 abbrev test_code : ℕ → ℕ → ℕ → Bool
 test_code n digits e =
     same_digits (field (len_of_first e) (e % 16384)) (plane_code n (field 4 digits))
-    && (ltb (e % 16384) (2 ^ len_of_first e) && (ltb (min (e / 262144 + 1) 4) (e / 16384 % 16) && (ltb (len_of_first e) 8 && (eqb (e / 262144) (max n (reach (field 4 digits))) && ltb (e / 262144) 5))))
+    && (ltb (e % 16384) (2 ^ len_of_first e) && (ltb (min (e / 262144 + 1) 4) (e / 16384 % 16 + 1) && (ltb (len_of_first e) 8 && (eqb (e / 262144) (max n (reach (field 4 digits))) && ltb (e / 262144) 5))))
 
 test_codes : each_below (λ i. test_code (i / 16) (i % 16) (get_or PAIRS (256 * (i / 16) + i % 16) 0)) 48 ≡ true
 test_codes = refl
@@ -57,7 +57,7 @@ test_codes = refl
 pub record IsCode (n digits e : ℕ) : Type 0 where
   pub bits : field (len_of_first e) (e % 16384) ≡ plane_code n (field 4 digits)
   pub small : e % 16384 < 2 ^ len_of_first e
-  pub some : min (e / 262144 + 1) 4 < e / 16384 % 16
+  pub some : min (e / 262144 + 1) 4 < e / 16384 % 16 + 1
   pub len : len_of_first e < 8
   pub above : e / 262144 ≡ max n (reach (field 4 digits))
   pub within : e / 262144 < 5

@@ -1,5 +1,5 @@
 -- Planes of four digits in one number.
-use Rattle.std.specs.Prelude.{ℕ, suc, zero, ◌≡◌, ◌^◌, ◌*◌, ◌/◌, ◌%◌, ◌<◌, ◌≤◌, min, max, Bool, List, [], ◌∷◌, ◌++◌}
+use Rattle.std.specs.Prelude.{ℕ, suc, zero, ◌≡◌, ◌^◌, ◌/◌, ◌%◌, ◌<◌, ◌≤◌, min, max, Bool, List, [], ◌∷◌, ◌++◌}
 use Rattle.zf_spec.specs.Numbers.{field}
 use Rattle.zf_spec.specs.Planes.{plane_code, code_from, reach, reach_of_all}
 use Rattle.zf_bits.specs.Writer.{Writer}
@@ -24,15 +24,13 @@ pub record IsCodeOfTwo (n string l v a : ℕ) : Type 0 where
   pub len : l ≤ 14
   pub above : a ≡ max (max n (reach (field 4 (string % 16)))) (reach (field 4 (string / 16 % 16)))
 
--- the l bits of v are the code of k planes of a string, and so far do the ones of all these reach, where three
--- stands for four too
-pub record IsCodeOfLast (n k string l v a : ℕ) : Type 0 where
-  pub bits : code_from n (string_planes k string) ≡ field l v
-  pub reached : IsAsGood a (max n (reach_of_all (string_planes k string)))
-  pub above : a ≤ 4
-  pub some : 0 < k → 0 < l
-  pub len : l ≤ 64
-  pub small : string < 2 ^ (4 * k) → v < 2 ^ l
+-- the code of planes is the l bits of v and then that of the others, with ones above that reach to a
+pub record GoesOnBehind (n : ℕ) (planes : List (List Bool)) (l v a : ℕ) (rest : List (List Bool)) : Type 0
+  where
+    pub bits : code_from n planes ≡ field l v ++ code_from a rest
+    pub reached : max n (reach_of_all planes) ≡ max a (reach_of_all rest)
+    pub small : v < 2 ^ l
+    pub len : l ≤ 14
 
 -- bits and behind them the code of planes were written, as far as `left` bits reach, of which `after` are
 -- left, but for the end, which is the l bits of v; if more than these are left, the ones reach to a, where

@@ -5,7 +5,7 @@ ghost use Rattle.zf_spec.specs.Numbers.{field, is_odd};
 ghost use Rattle.zf_spec.specs.Grid.{upto};
 ghost use Rattle.zf_spec.specs.Planes.{planes_of, plane_code, code, code_from, reach, reach_of_all};
 ghost use Rattle.zf_bits.specs.Writer.{Appends};
-ghost use Rattle.zf_planes.specs.Fours.{string_planes, IsAsGood, IsCodeOfTwo, IsCodeOfLast, LeavesPlanes};
+ghost use Rattle.zf_planes.specs.Fours.{string_planes, IsAsGood, IsCodeOfTwo, GoesOnBehind, LeavesPlanes};
 ghost use Rattle.zf_planes.specs.Spread.{top_digit, top_planes, spread, lone_code, AreLoneAtTop};
 ghost use Rattle.zf_planes.specs.Writes.{Writes};
 
@@ -117,38 +117,39 @@ pub(crate) fn code_of_two(n: usize, string: u64) -> PlanesCode
     ensures { IsCodeOfTwo n string result.part.len result.part.bits result.above }
 {
     let entry = entry_of_pair(n, string % 256);
-    let bits = u64::from(entry % 16384);
-    let len = u64::from(entry / 16384 % 16);
-    let part = Part { bits, len };
-    let above = (entry / 262144) as usize;
-    PlanesCode { part, above }
+    PlanesCode {
+        part: Part {
+            bits: u64::from(entry % 16384),
+            len: u64::from(entry / 16384 % 16),
+        },
+        above: (entry / 262144) as usize,
+    }
 }
 
-/// The code of the last planes of a string, where the ranks below `n` have had a one above: of one, or of any
-/// once three ranks have had a one.
+/// The code of the next two planes of a string, or of its last one, where the ranks below `n` have had a one
+/// above.
 #[inline(always)]
-fn code_of_last(n: usize, planes: u32, string: u64) -> PlanesCode
-    requires above { n ≤ 4 }
-    requires few { planes ≤ 16 }
-    requires last { n < 3 → planes ≡ 1 }
-    ensures { IsCodeOfLast n planes string result.part.len result.part.bits result.above }
+fn code_of_next(n: usize, planes: u32, string: u64) -> PlanesCode
+    requires in_plane { n < 3 }
+    requires some { 0 < planes }
+    ensures { GoesOnBehind n (string_planes planes string) result.part.len result.part.bits result.above
+        (string_planes (planes - 2) (string / 256)) }
 {
-    // They are their own code then: the group bit behind the third digit is the fourth.
-    if n >= 3 {
-        let len = 4 * u64::from(planes);
-        let part = Part { bits: string, len };
-        return PlanesCode { part, above: n };
+    if planes > 1 {
+        return code_of_two(n, string);
     }
     // Without the code of a plane of zeros behind it: a digit for each rank that has had a one, and a group
     // bit where ranks are left.
     let entry = entry_of_pair(n, string % 16);
     let above = entry / 262144;
     let zeros = (above + 1).min(4);
-    let bits = u64::from(entry % 16384);
-    let len = u64::from(entry / 16384 % 16 - zeros);
-    let part = Part { bits, len };
-    let above = above as usize;
-    PlanesCode { part, above }
+    PlanesCode {
+        part: Part {
+            bits: u64::from(entry % 16384),
+            len: u64::from(entry / 16384 % 16 - zeros),
+        },
+        above: above as usize,
+    }
 }
 
 /// Puts the code of the planes of a string behind bits, where the ranks below `above` have had a one above,
@@ -177,24 +178,25 @@ fn write_string(
     let mut left = left;
     let mut planes = planes;
     let mut string = string;
-    while planes > 1 && left > part.len && *above < 3 {
+    while planes > 0 && left > part.len && *above < 3 {
         left = make_room(left, 14, part, out);
-        let pair = code_of_two(*above, string);
-        *part = join(*part, pair.part);
-        *above = pair.above;
+        let next = code_of_next(*above, planes, string);
+        *part = join(*part, next.part);
+        *above = next.above;
         string /= 256;
-        planes -= 2;
+        planes = planes.saturating_sub(2);
     }
+    // Once three ranks have had a one, the planes that are left are their own code, as the group bit behind
+    // the third digit is the fourth.
     if planes > 0 && left > part.len {
-        let last = code_of_last(*above, planes, string);
+        let own = 4 * u64::from(planes);
         if left > 64 {
-            left = make_room(left, last.part.len, part, out);
+            left = make_room(left, own, part, out);
         }
-        // What falls out of a word is past the end.
-        let bits = part.bits | last.part.bits << part.len;
-        let len = part.len + last.part.len;
+        // Where no more than a word is left, what falls out of one is past the end.
+        let bits = part.bits | string << part.len;
+        let len = part.len + own;
         *part = Part { bits, len };
-        *above = last.above;
     }
     left
 }

@@ -1,10 +1,10 @@
-use Rattle.std.proofs.Common.{◌+◌, ◌-◌, ◌/◌, ◌^◌, ◌<◌, ◌≤◌, min, Bool, List, [], ◌++◌, refl, ap, ◌∙◌, arith, append_assoc, append-nil}
+use Rattle.std.proofs.Common.{◌≡◌, ◌+◌, ◌-◌, ◌*◌, ◌/◌, ◌^◌, ◌<◌, ◌≤◌, min, Bool, List, [], ◌++◌, refl, sym, ap, ◌∙◌, arith, append_assoc, append-nil}
 use Rattle.zf_spec.{specs.Numbers.{field}, specs.Planes.{code_from}, proofs.Fields.{length-field}}
 use Rattle.zf_planes.{specs.Fours.{string_planes}, specs.Writes.{Remains}}
 use Rattle.zf_planes.proofs.Budgets.{Remains-behind, Remains-same, Remains-fits, Remains-through}
-use Rattle.zf_planes.proofs.Strings.{pair_of_string, string_end, string_small, Remains-reached, Remains-word}
+use Rattle.zf_planes.proofs.Strings.{own_string, string_end, string_small, Remains-reached, Remains-word}
 use Rattle.zf_planes.proofs.Gathering.{small_behind}
-use Rattle.zf_planes.proofs.four_writing.write_string.Goals.{Joined-left-gt64, then-loop-planes-test+then-left-part+else-above-lt3, then-loop-planes-test+else-left-part, else-loop-planes-test, then-left-gt64, else-left-gt64, else-planes-gt0-via-then-planes-gt0+else-left-part-2, else-planes-gt0-via-else-planes-gt0}
+use Rattle.zf_planes.proofs.four_writing.write_string.Goals.{then-loop-planes-test+then-left-part+else-above-lt3, then-loop-planes-test+else-left-part, else-loop-planes-test, then-left-gt64, else-left-gt64, else-planes-gt0-via-then-planes-gt0+else-left-part-2, else-planes-gt0-via-else-planes-gt0}
 use Rattle.zf_planes.proofs.four_writing.write_string.Goals as goal
 
 pub loop-planes-init : goal.loop-planes-init
@@ -30,59 +30,59 @@ pub loop-planes-preserved : goal.loop-planes-preserved
 loop-planes-preserved c =
     let now = c.loop-planes in
     let room = c.make_room-left in
-    let pair = c.code_of_two-pair in
-    let part = pair.result.part in
+    let next = c.code_of_next-next in
+    let part = next.result.part in
     let kept = field room.new.part.len room.new.part.bits in
-    let on = pair_of_string now.above now.planes now.string pair.result.above (field part.len part.bits) (omega (arith, c.loop-planes-test.true)) pair.ensures.bits pair.ensures.above in
-    let rest = code_from pair.result.above (string_planes (now.planes - 2) (now.string / 256)) in
+    let count : c.saturating_sub-planes.result ≡ now.planes - 2 = omega (arith, c.saturating_sub-planes.ensures) in
+    let rest = code_from next.result.above (string_planes (now.planes - 2) (now.string / 256)) in
     let through = Remains-through (field now.part.len now.part.bits) kept (code_from now.above (string_planes now.planes now.string)) now.invariant.remains room.ensures.bits.code in
     record {
-      remains = Remains-same through (cc (on.code, append_assoc kept (field part.len part.bits) rest, c.join.ensures.bits));
-      reached = now.invariant.reached ∙ on.reached;
-      above = pair.result.within;
-      few = omega (arith, now.invariant.few);
-      in_word = omega (arith, c.join.ensures.len, pair.ensures.len, room.ensures.room);
-      small = c.join.ensures.small pair.ensures.small;
-      no_more = λ small. string_small now.planes now.string (omega (arith, c.loop-planes-test.true)) (now.invariant.no_more small);
+      remains = Remains-same through (cc (next.ensures.bits, append_assoc kept (field part.len part.bits) rest, c.join.ensures.bits, count));
+      reached = rw count (now.invariant.reached ∙ next.ensures.reached);
+      above = next.result.within;
+      few = omega (arith, count, now.invariant.few);
+      in_word = omega (arith, c.join.ensures.len, next.ensures.len, room.ensures.room);
+      small = c.join.ensures.small next.ensures.small;
+      no_more = λ small. rw count (string_small now.planes now.string (omega (arith, c.loop-planes-test.true)) (now.invariant.no_more small));
     }
 
--- ---- the last planes
-
-pub code_of_last-last-requires-clause-last : goal.code_of_last-last-requires-clause-last
-code_of_last-last-requires-clause-last c = λ few.
-    elim c.loop-planes-test.branch [
-      | then-loop-planes-test+then-left-part+else-above-lt3 w ↦ absurd (omega (arith, w.if-above-lt3.false, few))
-      | then-loop-planes-test+else-left-part w ↦ absurd (omega (arith, w.if-left-part.false, c.if-left-part-2.true))
-      | else-loop-planes-test w ↦ omega (arith, w.loop-planes-test.false, c.if-planes-gt0.true)
-    ]
+-- ---- three ranks have had a one
 
 pub make_room-left-requires-then-left-gt64-clause-fits : goal.make_room-left-requires-then-left-gt64-clause-fits
 make_room-left-requires-then-left-gt64-clause-fits c =
     let part = c.loop-planes.part in
     omega (arith, Remains-fits (field part.len part.bits) _ c.loop-planes.invariant.remains, length-field part.len part.bits)
 
--- behind the bits that were put together their code remains, as far as it counts in a word
-pub record Behind (c : Joined-left-gt64) : Type 0 where
+-- the loop has ended since these ranks have had a one
+three : (c : goal.Joined-left-gt64) → 3 ≤ c.loop-planes.above
+three c = elim c.loop-planes-test.branch [
+  | then-loop-planes-test+then-left-part+else-above-lt3 w ↦ omega (arith, w.if-above-lt3.false)
+  | then-loop-planes-test+else-left-part w ↦ absurd (omega (arith, w.if-left-part.false, c.if-left-part-2.true))
+  | else-loop-planes-test w ↦ absurd (omega (arith, w.loop-planes-test.false, c.if-planes-gt0.true))
+]
+
+-- behind the bits that were put together the digits of the planes that are left remain, as far as they count in a word
+pub record Behind (c : goal.Joined-left-gt64) : Type 0 where
   pub code : Remains c.args.out.now c.if-left-gt64.out c.args.left c.if-left-gt64.left (field c.args.part.now.len c.args.part.now.bits ++ code_from c.args.above.now (string_planes c.args.planes c.args.string))
-      (field c.if-left-gt64.part.len c.if-left-gt64.part.bits ++ field c.code_of_last-last.result.part.len c.code_of_last-last.result.part.bits)
+      (field c.if-left-gt64.part.len c.if-left-gt64.part.bits ++ field (4 * c.from-own.result) c.loop-planes.string)
   pub short : c.if-left-gt64.part.len < 64
-  pub within : min c.if-left-gt64.left (c.if-left-gt64.part.len + c.code_of_last-last.result.part.len) ≤ 64
+  pub within : min c.if-left-gt64.left (c.if-left-gt64.part.len + 4 * c.from-own.result) ≤ 64
   pub small : c.if-left-gt64.part.bits < 2 ^ c.if-left-gt64.part.len
 
-behind : (c : Joined-left-gt64) → Behind c
+behind : (c : goal.Joined-left-gt64) → Behind c
 behind c =
     let now = c.loop-planes in
     let bits = field now.part.len now.part.bits in
-    let last = c.code_of_last-last in
-    let code = field last.result.part.len last.result.part.bits in
-    let some = last.ensures.some c.if-planes-gt0.true in
-    let remains = Remains-same now.invariant.remains (ap (λ (bs : List Bool). bits ++ bs) last.ensures.bits) in
+    let len = 4 * c.from-own.result in
+    let own : code_from now.above (string_planes now.planes now.string) ≡ field len now.string =
+    own_string now.above now.planes now.string (three c) now.invariant.above ∙ ap (λ n. field (4 * n) now.string) (sym c.from-own.ensures) in
+    let remains = Remains-same now.invariant.remains (ap (λ (bs : List Bool). bits ++ bs) own) in
     elim c.if-left-gt64.branch [
       | then-left-gt64 w ↦
           let room = w.make_room-left-then-left-gt64 in
           record {
-            code = rw (w.part-is, w.out-is, w.left-is) (Remains-through bits (field room.new.part.len room.new.part.bits) code remains room.ensures.bits.code);
-            short = rw w.part-is (omega (arith, room.ensures.room, some));
+            code = rw (w.part-is, w.out-is, w.left-is) (Remains-through bits (field room.new.part.len room.new.part.bits) (field len now.string) remains room.ensures.bits.code);
+            short = rw w.part-is (omega (arith, room.ensures.room, c.from-own.ensures, c.if-planes-gt0.true));
             within = rw (w.part-is, w.left-is) (omega (arith, room.ensures.room));
             small = rw w.part-is room.ensures.bits.small;
           }
@@ -96,24 +96,23 @@ behind c =
     ]
 
 pub overflow_shl-bits : goal.overflow_shl-bits
-overflow_shl-bits c = (behind c.before).short
+overflow_shl-bits c = (behind c).short
 
 pub returns-after-left-gt64-clause-bits : goal.returns-after-left-gt64-clause-bits
 returns-after-left-gt64-clause-bits c =
-    let known = behind c.before.before in
+    let known = behind c in
     let part = c.if-left-gt64.part in
-    let last = c.code_of_last-last in
     record {
-      code = Remains-word part.len last.result.part.len part.bits last.result.part.bits known.short known.within known.small known.code;
+      code = Remains-word part.len (4 * c.from-own.result) part.bits c.loop-planes.string known.short known.within known.small known.code;
       len = known.within;
-      within = last.ensures.above;
-      reached = λ some. omega (arith, last.ensures.reached, c.loop-planes.invariant.reached);
+      within = c.loop-planes.invariant.above;
+      reached = λ some. omega (arith, three c, c.loop-planes.invariant.reached);
     }
 
 pub returns-after-left-gt64-clause-small : goal.returns-after-left-gt64-clause-small
 returns-after-left-gt64-clause-small c = λ small.
-    let last = c.code_of_last-last in
-    small_behind c.if-left-gt64.part.len last.result.part.len c.if-left-gt64.part.bits last.result.part.bits (behind c.before.before).small (last.ensures.small (c.loop-planes.invariant.no_more small))
+    let count : 4 * c.from-own.result ≡ 4 * c.loop-planes.planes = omega (arith, c.from-own.ensures) in
+    small_behind c.if-left-gt64.part.len (4 * c.from-own.result) c.if-left-gt64.part.bits c.loop-planes.string (behind c).small (rw count (c.loop-planes.invariant.no_more small))
 
 -- ---- no plane is left, or no bit behind those that were put together
 
