@@ -117,13 +117,11 @@ pub(crate) fn code_of_two(n: usize, string: u64) -> PlanesCode
     ensures { IsCodeOfTwo n string result.part.len result.part.bits result.above }
 {
     let entry = entry_of_pair(n, string % 256);
-    PlanesCode {
-        part: Part {
-            bits: u64::from(entry % 16384),
-            len: u64::from(entry / 16384 % 16),
-        },
-        above: (entry / 262144) as usize,
-    }
+    let bits = u64::from(entry % 16384);
+    let len = u64::from(entry / 16384 % 16);
+    let part = Part { bits, len };
+    let above = (entry / 262144) as usize;
+    PlanesCode { part, above }
 }
 
 /// The code of the next two planes of a string, or of its last one, where the ranks below `n` have had a one
@@ -143,13 +141,11 @@ fn code_of_next(n: usize, planes: u32, string: u64) -> PlanesCode
     let entry = entry_of_pair(n, string % 16);
     let above = entry / 262144;
     let zeros = (above + 1).min(4);
-    PlanesCode {
-        part: Part {
-            bits: u64::from(entry % 16384),
-            len: u64::from(entry / 16384 % 16 - zeros),
-        },
-        above: above as usize,
-    }
+    let bits = u64::from(entry % 16384);
+    let len = u64::from(entry / 16384 % 16 - zeros);
+    let part = Part { bits, len };
+    let above = above as usize;
+    PlanesCode { part, above }
 }
 
 /// Puts the code of the planes of a string behind bits, where the ranks below `above` have had a one above,

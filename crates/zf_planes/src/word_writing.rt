@@ -8,7 +8,7 @@ ghost use Rattle.zf_planes.specs.Sizes.{IsWordSize};
 ghost use Rattle.zf_planes.specs.Writes.{Writes};
 ghost use Rattle.zf_planes.specs.WordPlanes.{IsPlainCode, AreBegun};
 
-use crate::doubling::{Part, join, make_room, write_part, write_with};
+use crate::doubling::{Part, join, write_part, write_with};
 use crate::four_writing::code_of_two;
 use crate::words::{first_word, reach_in};
 use zf_bits::{BitWriter, Plane};
@@ -109,8 +109,12 @@ pub(crate) fn write_planes_of_word<P: Plane>(
         i += 1;
         if digits >> above == 0 {
             let more = plain_plane(above as u64, size as u64, digits);
-            left = make_room(left, more.len, &mut part, out);
-            part = join(part, more);
+            if part.len + more.len > 64 {
+                left = write_part(left, part, out);
+                part = more;
+            } else {
+                part = join(part, more);
+            }
         } else {
             left = write_with(left, &mut part, above as u64, size as u64, digits, out);
             let end = reach_in(plane, size);

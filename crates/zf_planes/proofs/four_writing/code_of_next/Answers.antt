@@ -10,7 +10,7 @@ returns-then-planes-gt1 c =
     record { bits = on.code; reached = on.reached; small = c.code_of_two.ensures.small; len = c.code_of_two.ensures.len }
 
 -- what the entry says
-entry : (c : goal.After-from-2) → IsCode c.args.n (c.args.string % 16) c.entry_of_pair-entry.result
+entry : (c : goal.After-from-len) → IsCode c.args.n (c.args.string % 16) c.entry_of_pair-entry.result
 entry c = code_of_entry c.args.n (c.args.string % 16) c.entry_of_pair-entry.result c.requires.in_plane (omega arith) c.entry_of_pair-entry.ensures
 
 pub overflow_sub-entry : goal.overflow_sub-entry
@@ -22,7 +22,7 @@ pub returns : goal.returns
 returns c =
     let found = entry c.before in
     let on = last_of_string c.args.n c.args.planes c.args.string (c.entry_of_pair-entry.result / 262144) (field (len_of_first c.entry_of_pair-entry.result) (c.entry_of_pair-entry.result % 16384)) (omega arith) found.bits found.above in
-    rw (c.from.ensures, c.from-2.ensures, c.min-zeros.ensures) (record {
+    rw (c.from-bits.ensures, c.from-len.ensures, c.min-zeros.ensures) (record {
       bits = on.code;
       reached = on.reached;
       small = found.small;

@@ -10,26 +10,44 @@ use Rattle.zf_planes.proofs.word_writing.write_planes_of_word.Goals.{then-loop-i
 use Rattle.zf_bits.specs.Writer.{Writer}
 use Rattle.zf_planes.proofs.word_writing.write_planes_of_word.Goals as goal
 
-pub make_room-left-requires-clause-fits : goal.make_room-left-requires-clause-fits
-make_room-left-requires-clause-fits g c = omega (arith, Remains-fits (field c.loop-i.part.len c.loop-i.part.bits) _ c.loop-i.invariant.remains, length-field c.loop-i.part.len c.loop-i.part.bits)
+pub write_part-left-requires-clause-fits : goal.write_part-left-requires-clause-fits
+write_part-left-requires-clause-fits g c = omega (arith, Remains-fits (field c.loop-i.part.len c.loop-i.part.bits) _ c.loop-i.invariant.remains, length-field c.loop-i.part.len c.loop-i.part.bits)
 
-pub loop-i-preserved-then-digits-above-eq0 : goal.loop-i-preserved-then-digits-above-eq0
-loop-i-preserved-then-digits-above-eq0 g c =
+pub loop-i-preserved-then-part-more-gt64 : goal.loop-i-preserved-then-part-more-gt64
+loop-i-preserved-then-part-more-gt64 g c =
     let part = c.loop-i.part in
-    let room = c.make_room-left in
-    let kept = field room.new.part.len room.new.part.bits in
     let more = c.plain_plane-more in
-    let code = field more.result.len more.result.bits in
-    let rest = code_from c.loop-i.above (drop (c.loop-i.i + 1) (take c.args.prec (planes_held c.args.size (map g.P.Plane.words c.args.planes.now)))) in
     let next = next_word g.P.Plane.words c.loop-i.above c.args.prec c.args.size c.loop-i.i part.len part.bits c.first_word-digits.result c.args.planes.now c.index-planes-planes.result c.loop-i.invariant.remains
     c.index-planes-planes.is c.loop-i-test.true c.requires.planes c.first_word-digits.ensures.digits in
-    let through = Remains-through (field part.len part.bits) kept _ next room.ensures.bits.code in
+    let written = Remains-more (field part.len part.bits) _ next c.write_part-left.ensures.bits in
+    let spent : c.loop-i.left - length (field part.len part.bits) ≡ c.write_part-left.result = omega (arith, c.write_part-left.ensures.left, length-field part.len part.bits) in
     record {
-      remains = Remains-same through (cc (more.ensures.code, more.ensures.same, c.join-part.ensures.bits, append_assoc kept code rest));
+      remains = Remains-same (rw spent at written) (cc (more.ensures.code, more.ensures.same));
+      above = c.loop-i.invariant.above;
+      place = omega (arith, c.loop-i-test.true);
+      small = more.ensures.small;
+      in_word = more.ensures.len;
+    }
+
+pub loop-i-preserved-else-part-more-gt64 : goal.loop-i-preserved-else-part-more-gt64
+loop-i-preserved-else-part-more-gt64 g c =
+    let part = c.loop-i.part in
+    let more = c.plain_plane-more in
+    let rest = drop (c.loop-i.i + 1) (take c.args.prec (planes_held c.args.size (map g.P.Plane.words c.args.planes.now))) in
+    let next = next_word g.P.Plane.words c.loop-i.above c.args.prec c.args.size c.loop-i.i part.len part.bits c.first_word-digits.result c.args.planes.now c.index-planes-planes.result c.loop-i.invariant.remains
+    c.index-planes-planes.is c.loop-i-test.true c.requires.planes c.first_word-digits.ensures.digits in
+    record {
+      remains = Remains-same next (cc (
+        more.ensures.code,
+        more.ensures.same,
+        c.join-part.ensures.bits,
+        append_assoc (field part.len part.bits) (field more.result.len more.result.bits)
+            (code_from c.loop-i.above rest),
+      ));
       above = c.loop-i.invariant.above;
       place = omega (arith, c.loop-i-test.true);
       small = c.join-part.ensures.small more.ensures.small;
-      in_word = omega (arith, c.join-part.ensures.len, room.ensures.room);
+      in_word = omega (arith, c.join-part.ensures.len, c.if-part-more-gt64.false);
     }
 
 -- ---- a plane that brings a new rank
@@ -72,7 +90,7 @@ loop-i-preserved g c =
 -- ---- the planes behind, as they are
 
 -- however the first loop ends, what it has put together and the planes behind remain
-ended : (g : Over) (c : goal.After-write_part-arg-1 g) → Remains c.args.out.now c.loop-i-test.out c.args.left c.loop-i-test.left (code_from 0 (drop c.args.from (take c.args.prec (planes_held c.args.size (map g.P.Plane.words c.args.planes.now)))))
+ended : (g : Over) (c : goal.After-write_part-arg-2-1 g) → Remains c.args.out.now c.loop-i-test.out c.args.left c.loop-i-test.left (code_from 0 (drop c.args.from (take c.args.prec (planes_held c.args.size (map g.P.Plane.words c.args.planes.now)))))
     (field c.loop-i-test.part.len c.loop-i-test.part.bits ++ code_from c.loop-i-test.above (drop c.loop-i-test.i (take c.args.prec (planes_held c.args.size (map g.P.Plane.words c.args.planes.now)))))
 ended g c = elim c.loop-i-test.branch [
   | then-loop-i-test+else-left-part w ↦ rw (w.out-is, w.left-is, w.part-is, w.above-is, w.i-is) c.loop-i.invariant.remains
@@ -88,35 +106,35 @@ ended g c = elim c.loop-i-test.branch [
       c.loop-i.invariant.remains w.index-planes-planes.is w.loop-i-test.true c.requires.planes w.first_word-digits.ensures.digits w.write_with-left.ensures reached)
 ]
 
-pub write_part-left-requires-clause-in_word : goal.write_part-left-requires-clause-in_word
-write_part-left-requires-clause-in_word g c = elim c.loop-i-test.branch [
+pub write_part-left-requires-2-clause-in_word : goal.write_part-left-requires-2-clause-in_word
+write_part-left-requires-2-clause-in_word g c = elim c.loop-i-test.branch [
   | then-loop-i-test+else-left-part w ↦ rw w.part-is (omega (arith, c.loop-i.invariant.in_word))
   | else-loop-i-test w ↦ rw w.part-is (omega (arith, c.loop-i.invariant.in_word))
   | then-loop-i-test+then-left-part+else-digits-above-eq0+then-above-size w ↦ rw w.part-is (omega (arith, w.write_with-left.ensures.len))
 ]
 
-pub write_part-left-requires-clause-fits : goal.write_part-left-requires-clause-fits
-write_part-left-requires-clause-fits g c = omega (arith, Remains-fits (field c.loop-i-test.part.len c.loop-i-test.part.bits) _ (ended g c), length-field c.loop-i-test.part.len c.loop-i-test.part.bits)
+pub write_part-left-requires-2-clause-fits : goal.write_part-left-requires-2-clause-fits
+write_part-left-requires-2-clause-fits g c = omega (arith, Remains-fits (field c.loop-i-test.part.len c.loop-i-test.part.bits) _ (ended g c), length-field c.loop-i-test.part.len c.loop-i-test.part.bits)
 
 -- no plane is left
 none_left : {A : Type 0} (words : A → List ℕ) (n prec size i : ℕ) (planes : List A) → prec ≤ length planes → prec ≤ i → code_from n (drop i (take prec (planes_held size (map words planes)))) ≡ []
 none_left words n prec size i planes within past = search (rules, length-map, drop_all, length-top_held)
 
 -- it is written
-written : (g : Over) (c : goal.After-write_part-left g) → Remains c.args.out.now c.write_part-left.new.out c.args.left c.write_part-left.result (code_from 0 (drop c.args.from (take c.args.prec (planes_held c.args.size (map g.P.Plane.words c.args.planes.now)))))
+written : (g : Over) (c : goal.After-write_part-left-2 g) → Remains c.args.out.now c.write_part-left-2.new.out c.args.left c.write_part-left-2.result (code_from 0 (drop c.args.from (take c.args.prec (planes_held c.args.size (map g.P.Plane.words c.args.planes.now)))))
     (code_from c.loop-i-test.above (drop c.loop-i-test.i (take c.args.prec (planes_held c.args.size (map g.P.Plane.words c.args.planes.now)))))
 written g c =
     let part = c.loop-i-test.part in
-    let spent : c.loop-i-test.left - length (field part.len part.bits) ≡ c.write_part-left.result = omega (arith, c.write_part-left.ensures.left, length-field part.len part.bits) in
-    rw spent at (Remains-more (field part.len part.bits) _ (ended g c.before) c.write_part-left.ensures.bits)
+    let spent : c.loop-i-test.left - length (field part.len part.bits) ≡ c.write_part-left-2.result = omega (arith, c.write_part-left-2.ensures.left, length-field part.len part.bits) in
+    rw spent at (Remains-more (field part.len part.bits) _ (ended g c.before) c.write_part-left-2.ensures.bits)
 
 -- and all ranks have had a one, or nothing is left to write
-behind : (g : Over) (c : goal.After-write_part-left g) → Remains c.args.out.now c.write_part-left.new.out c.args.left c.write_part-left.result (code_from 0 (drop c.args.from (take c.args.prec (planes_held c.args.size (map g.P.Plane.words c.args.planes.now)))))
+behind : (g : Over) (c : goal.After-write_part-left-2 g) → Remains c.args.out.now c.write_part-left-2.new.out c.args.left c.write_part-left-2.result (code_from 0 (drop c.args.from (take c.args.prec (planes_held c.args.size (map g.P.Plane.words c.args.planes.now)))))
     (code_from c.args.size (drop c.loop-i-test.i (take c.args.prec (planes_held c.args.size (map g.P.Plane.words c.args.planes.now)))))
 behind g c = elim c.loop-i-test.branch [
   | then-loop-i-test+else-left-part w ↦
       Remains-none (code_from c.loop-i-test.above (drop c.loop-i-test.i (take c.args.prec (planes_held c.args.size (map g.P.Plane.words c.args.planes.now))))) _
-      (omega (arith, c.write_part-left.ensures.left, w.if-left-part.false, w.left-is, ap (λ p. p.len) w.part-is)) (written g c)
+      (omega (arith, c.write_part-left-2.ensures.left, w.if-left-part.false, w.left-is, ap (λ p. p.len) w.part-is)) (written g c)
   | else-loop-i-test w ↦
       let past : c.args.prec ≤ c.loop-i-test.i = omega (arith, w.loop-i-test.false, w.i-is) in
       Remains-same (written g c)
@@ -126,7 +144,7 @@ behind g c = elim c.loop-i-test.branch [
       Remains-same (written g c) (ap (λ n. code_from n (drop c.loop-i-test.i (take c.args.prec (planes_held c.args.size (map g.P.Plane.words c.args.planes.now))))) (w.above-is ∙ w.if-above-size.true))
 ]
 
-place : (g : Over) (c : goal.After-write_part-left g) → c.loop-i-test.i ≤ c.args.prec
+place : (g : Over) (c : goal.After-write_part-left-2 g) → c.loop-i-test.i ≤ c.args.prec
 place g c = elim c.loop-i-test.branch [
   | then-loop-i-test+else-left-part w ↦ omega (arith, w.i-is, c.loop-i.invariant.place)
   | else-loop-i-test w ↦ omega (arith, w.i-is, c.loop-i.invariant.place)
