@@ -1,6 +1,7 @@
 -- A list that is written in parts, as far as a budget of bits reaches.
-use Rattle.std.proofs.Common.{rules, ◌≡◌, ℕ, suc, zero, ◌-◌, ◌<◌, ◌≤◌, min, Bool, List, [], ◌∷◌, ◌++◌, length, take, refl, ap, subst, arith, append_assoc, length-append}
+use Rattle.std.proofs.Common.{rules, ◌≡◌, ℕ, suc, zero, ◌+◌, ◌-◌, ◌<◌, ◌≤◌, min, Bool, List, [], ◌∷◌, ◌++◌, length, take, refl, ap, subst, arith, append_assoc, length-append}
 use Rattle.std.proofs.lemmas.List.{length-take, append-nil}
+use Rattle.zf_spec.{specs.Numbers.{field}, proofs.Fields.{length-field}}
 use Rattle.zf_bits.specs.Writer.{Writer, Appends}
 use Rattle.zf_planes.specs.Writes.{Remains}
 
@@ -14,6 +15,10 @@ take_append {A} (suc k) (x ∷ xs) ys =
 
 pub Remains-start : (w : Writer) (budget : ℕ) (whole : List Bool) → min budget (length whole) ≤ w.room → Remains w w budget budget whole whole
 Remains-start w budget whole fits = record { bits = refl; spent = refl; fits = fits; room = omega arith; within = omega arith }
+
+-- behind bits that were put together
+pub Remains-behind : (w : Writer) (budget len bits : ℕ) (code : List Bool) → min budget (len + length code) ≤ w.room → Remains w w budget budget (field len bits ++ code) (field len bits ++ code)
+Remains-behind w budget len bits code fits = Remains-start w budget (field len bits ++ code) (omega (arith, fits, length-append (field len bits) code, length-field len bits))
 
 -- the same rest by another name
 pub Remains-same : {old now : Writer} {budget left : ℕ} {whole : List Bool} {rest rest' : List Bool} → Remains old now budget left whole rest → rest ≡ rest' → Remains old now budget left whole rest'
@@ -30,6 +35,13 @@ Remains-more {old} {now} {new} {budget} {left} {whole} more rest remains appends
     let long = length-append more rest in
     let written = length-take left more in
     search (rules, append_assoc, take_append)
+
+-- the next part is the bits of a number
+pub Remains-part : {old now new : Writer} {budget left after : ℕ} {whole : List Bool} (len bits : ℕ) (rest : List Bool) → Remains old now budget left whole (field len bits ++ rest) → Appends now new (take left (field len bits)) → after ≡ left - len
+    → Remains old new budget after whole rest
+Remains-part {old} {now} {new} {budget} {left} {after} {whole} len bits rest remains appends is =
+    let spent : left - length (field len bits) ≡ after = omega (arith, length-field len bits, is) in
+    rw spent at (Remains-more (field len bits) rest remains appends)
 
 -- the next bit is written
 pub Remains-bit : {old now new : Writer} {budget left : ℕ} {whole : List Bool} (b : Bool) (rest : List Bool) → 0 < left → Remains old now budget left whole (b ∷ rest) → Appends now new (b ∷ [])

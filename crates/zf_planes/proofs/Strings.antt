@@ -1,12 +1,15 @@
 -- Strings: planes of four digits in one number, and their code.
-use Rattle.std.proofs.Common.{rules, ◌≡◌, ℕ, zero, suc, ◌+◌, ◌-◌, ◌*◌, ◌/◌, ◌%◌, ◌<◌, ◌≤◌, max, Bool, List, [], ◌∷◌, ◌++◌, length, append_assoc, take, refl, sym, ap, ◌∙◌, arith}
+use Rattle.std.proofs.Common.{◌≡◌, ℕ, zero, suc, ◌+◌, ◌-◌, ◌*◌, ◌/◌, ◌%◌, ◌^◌, ◌<◌, ◌≤◌, min, max, Bool, List, [], ◌∷◌, ◌++◌, length, append_assoc, take, ⊎_elim, refl, sym, ap, ◌∙◌, arith}
+use Rattle.std.{proofs.lemmas.List.{length-take}, proofs.lemmas.Nat.{pow-add}}
 use Rattle.std.{proofs.lemmas.Bool.{cases_lt}, proofs.lemmas.List.Elements.{All-nil, All-cons}}
 use Rattle.zf_spec.{specs.Numbers.{field}, proofs.Fields.{length-field, field-add, field-mod}}
 use Rattle.zf_spec.specs.Planes.{plane_code, code_from, reach, reach_of_all, AreOfSize}
 use Rattle.zf_spec.proofs.Reach.{reach-le}
+use Rattle.std.{specs.Int.Bits.{bit_or}}
 use Rattle.zf_bits.specs.Writer.{Writer}
 use Rattle.zf_planes.{specs.Fours.{string_planes, IsAsGood}}
 use Rattle.zf_planes.{specs.Writes.{Remains}, proofs.LastRank.{code_of_three}}
+use Rattle.zf_planes.{proofs.Budgets.{take_append, Remains-same}, proofs.Gathering.{take_field, bits_behind}}
 
 -- ---- the code of planes goes on behind bits that were put together
 
@@ -15,7 +18,7 @@ pub record GoesOn (n : ℕ) (planes : List (List Bool)) (bits : List Bool) (m : 
   pub code : code_from n planes ≡ bits ++ code_from m rest
   pub reached : max n (reach_of_all planes) ≡ max m (reach_of_all rest)
 
-pub GoesOn-more : {n m k : ℕ} {planes rest last : List (List Bool)} {prefix back : List Bool} (both : List Bool) → GoesOn n planes prefix m rest → GoesOn m rest back k last → both ≡ prefix ++ back
+GoesOn-more : {n m k : ℕ} {planes rest last : List (List Bool)} {prefix back : List Bool} (both : List Bool) → GoesOn n planes prefix m rest → GoesOn m rest back k last → both ≡ prefix ++ back
     → GoesOn n planes both k last
 GoesOn-more {n} {m} {k} {planes} {rest} {last} {prefix} {back} both first second joined = record {
   code = cc (first.code, second.code, append_assoc prefix back (code_from k last));
@@ -23,7 +26,7 @@ GoesOn-more {n} {m} {k} {planes} {rest} {last} {prefix} {back} both first second
 }
 
 -- by one plane
-pub plane_of_string : (n k string next : ℕ) (bits : List Bool) → bits ≡ plane_code n (field 4 (string % 16)) → next ≡ max n (reach (field 4 (string % 16)))
+plane_of_string : (n k string next : ℕ) (bits : List Bool) → bits ≡ plane_code n (field 4 (string % 16)) → next ≡ max n (reach (field 4 (string % 16)))
     → GoesOn n (string_planes (suc k) string) bits next (string_planes k (string / 16))
 unfolding string_planes
 plane_of_string n k string next bits is reached = grind (arith, field-mod)
@@ -42,17 +45,26 @@ pair_of_string n (suc (suc k)) string next bits some is reached =
     rw (left, below) (GoesOn-more bits first second is)
 pair_of_string n k string next bits some is reached = absurd (omega arith)
 
--- the same of one plane
-pub next_of_string : (n k string next : ℕ) (bits : List Bool) → 0 < k → bits ≡ plane_code n (field 4 (string % 16)) → next ≡ max n (reach (field 4 (string % 16)))
-    → GoesOn n (string_planes k string) bits next (string_planes (k - 1) (string / 16))
-next_of_string n zero string next bits some is reached = absurd (omega arith)
-next_of_string n (suc k) string next bits some is reached = let left : suc k - 1 ≡ k = omega arith in rw left (plane_of_string n k string next bits is reached)
+-- a string has no digits behind its planes, once two of them are gone
+pub string_small : (k string : ℕ) → 0 < k → string < 2 ^ (4 * k) → string / 256 < 2 ^ (4 * (k - 2))
+string_small zero string some small = absurd (omega arith)
+string_small (suc zero) string some small = omega arith
+string_small (suc (suc k)) string some small =
+    let left : suc (suc k) - 2 ≡ k = omega arith in
+    let count : 4 * suc (suc k) ≡ 8 + 4 * k = omega arith in
+    rw left (omega (arith, ap (λ n. 2 ^ n) count, pow-add 2 8 (4 * k)))
 
 -- no plane is left
 pub string_end : (planes above string : ℕ) → planes ≤ 0 → (code_from above (string_planes planes string) ≡ []) × (reach_of_all (string_planes planes string) ≡ 0)
 unfolding string_planes
 string_end zero above string none = (refl, refl)
 string_end (suc planes) above string none = absurd (omega arith)
+
+-- by the last one
+pub last_of_string : (n k string next : ℕ) (bits : List Bool) → k ≡ 1 → bits ≡ plane_code n (field 4 (string % 16)) → next ≡ max n (reach (field 4 (string % 16)))
+    → GoesOn n (string_planes k string) bits next (string_planes (k - 2) (string / 256))
+unfolding string_planes
+last_of_string n k string next bits one is reached = rw one (plane_of_string n zero string next bits is reached)
 
 -- the first planes of a string
 pub take-fours : (m k string : ℕ) → take m (string_planes (m + k) string) ≡ string_planes m string
@@ -97,12 +109,66 @@ reach_of_string-le (suc k) string = omega (arith, reach-le (field 4 string), len
 
 -- ---- what remains
 
--- where no bit is left of the budget, no matter what is still to come
-pub Remains-none : {old now : Writer} {budget left : ℕ} {whole : List Bool} (rest rest' : List Bool) → left ≡ 0 → Remains old now budget left whole rest → Remains old now budget left whole rest'
-Remains-none {old} {now} {budget} {left} {whole} rest rest' none remains = search rules
+-- only as many bits as are left of the budget matter
+pub Remains-cut : {old now : Writer} {budget left : ℕ} {whole : List Bool} (rest rest' : List Bool) → take left rest ≡ take left rest' → Remains old now budget left whole rest → Remains old now budget left whole rest'
+Remains-cut {old} {now} {budget} {left} {whole} rest rest' same remains =
+    let long : min left (length rest) ≡ min left (length rest') = sym (length-take left rest) ∙ ap length same ∙ length-take left rest' in
+    record {
+      bits = cc (remains.bits, same);
+      spent = omega (arith, long, remains.spent);
+      fits = omega (arith, long, remains.fits);
+      room = omega (arith, long, remains.room);
+      within = remains.within;
+    }
 
--- how far the ones reach above counts only while bits are left
-pub Remains-above : {old now : Writer} {budget left : ℕ} {whole : List Bool} (m n : ℕ) (planes : List (List Bool)) → (0 < left → IsAsGood m n) → m ≤ 4 → n ≤ 4 → AreOfSize 4 planes
-    → Remains old now budget left whole (code_from n planes) → Remains old now budget left whole (code_from m planes)
-Remains-above {old} {now} {budget} {left} {whole} m n planes same high high' sizes remains =
-    search (rules, code_of_three, cases_lt, Remains-none)
+-- and where none is left, nothing of what is still to come
+pub Remains-none : {old now : Writer} {budget left : ℕ} {whole : List Bool} (rest rest' : List Bool) → left ≡ 0 → Remains old now budget left whole rest → Remains old now budget left whole rest'
+Remains-none {old} {now} {budget} {left} {whole} rest rest' none remains = Remains-cut rest rest' (rw none refl) remains
+
+-- nor what is behind as many bits as are left
+pub Remains-reached : {old now : Writer} {budget left : ℕ} {whole : List Bool} (l v : ℕ) (rest rest' : List Bool) → left ≤ l → Remains old now budget left whole (field l v ++ rest) → Remains old now budget left whole (field l v ++ rest')
+Remains-reached {old} {now} {budget} {left} {whole} l v rest rest' few remains =
+    let none : left - length (field l v) ≡ 0 = omega (arith, few, length-field l v) in
+    Remains-cut (field l v ++ rest) (field l v ++ rest') (cc (take_append left (field l v) rest, take_append left (field l v) rest', none)) remains
+
+-- nor, where no more than a word is left, what falls out of one: digits behind the bits of a number
+field_cut : (left l n a v : ℕ) → l < 64 → min left (l + n) ≤ 64 → a < 2 ^ l → take left (field (l + n) (bit_or a (v * 2 ^ l % 2 ^ 64))) ≡ take left (field l a ++ field n v)
+field_cut left l n a v short within small =
+    let m = min left (l + n) in
+    let bits = field l a in
+    let word : min m (l + (64 - l)) ≡ m = omega arith in
+    let first : min m l ≡ min left l = omega arith in
+    let second : min (m - length bits) (64 - l) ≡ min (left - length bits) n = omega (arith, length-field l a) in
+    cc (
+      take_field left (l + n) (bit_or a (v * 2 ^ l % 2 ^ 64)),
+      take_field m (l + (64 - l)) (bit_or a (v * 2 ^ l % 2 ^ 64)),
+      word,
+      bits_behind l (64 - l) a v (omega arith) small,
+      take_append m bits (field (64 - l) v),
+      take_append left bits (field n v),
+      take_field m l a,
+      take_field left l a,
+      first,
+      take_field (m - length bits) (64 - l) v,
+      take_field (left - length bits) n v,
+      second,
+    )
+
+pub Remains-word : {old now : Writer} {budget left : ℕ} {whole : List Bool} (l n a v : ℕ) → l < 64 → min left (l + n) ≤ 64 → a < 2 ^ l → Remains old now budget left whole (field l a ++ field n v)
+    → Remains old now budget left whole (field (l + n) (bit_or a (v * 2 ^ l % 2 ^ 64)))
+Remains-word {old} {now} {budget} {left} {whole} l n a v short within small remains =
+    Remains-cut (field l a ++ field n v) (field (l + n) (bit_or a (v * 2 ^ l % 2 ^ 64))) (sym (field_cut left l n a v short within small)) remains
+
+-- how far the ones reach above counts only while more bits are left than were put together
+as_good : (m n : ℕ) (planes : List (List Bool)) → IsAsGood m n → m ≤ 4 → n ≤ 4 → AreOfSize 4 planes → code_from n planes ≡ code_from m planes
+as_good m n planes same high high' sizes = ⊎_elim
+    (λ (low : n < 3). let one : n ≡ m = omega arith in ap (λ k. code_from k planes) one)
+    (λ (three : 3 ≤ n). code_of_three n m planes three high' (omega arith) high sizes)
+    (cases_lt n 3)
+
+pub Remains-above : {old now : Writer} {budget left : ℕ} {whole : List Bool} (l v m n : ℕ) (planes : List (List Bool)) → (l < left → IsAsGood m n) → m ≤ 4 → n ≤ 4 → AreOfSize 4 planes
+    → Remains old now budget left whole (field l v ++ code_from n planes) → Remains old now budget left whole (field l v ++ code_from m planes)
+Remains-above {old} {now} {budget} {left} {whole} l v m n planes same high high' sizes remains = ⊎_elim
+    (λ (some : l < left). Remains-same remains (ap (λ (bs : List Bool). field l v ++ bs) (as_good m n planes (same some) high high' sizes)))
+    (λ (none : left ≤ l). Remains-reached l v (code_from n planes) (code_from m planes) none remains)
+    (cases_lt l left)

@@ -2,10 +2,10 @@
 use Rattle.std.proofs.Common.{rules, ◌≡◌, ℕ, zero, suc, ◌+◌, ◌-◌, ◌*◌, ◌/◌, ◌%◌, ◌^◌, ◌<◌, ◌≤◌, min, Bool, true, false, eqb, List, [], ◌∷◌, ◌++◌, length, map, take, drop, get_or, get_or-take, replicate, ⊎_elim, take-take, refl, sym, ap, ◌∙◌, arith, pow-suc, length-drop}
 use Rattle.std.{proofs.Math.Nat.{pow-zero}, proofs.lemmas.Bool.{eqb-true, cases_lt}}
 use Rattle.std.{proofs.lemmas.Nat.{shl-shr, shr-shr}, proofs.lemmas.List.Elements.{All-map}}
-use Rattle.std.proofs.lemmas.List.{length-map, get_or-map, map-append, get_or-drop, length-take, take_at, take-append-drop, append-nil, length-replicate}
+use Rattle.std.proofs.lemmas.List.{length-map, get_or-map, map-append, get_or-drop, length-take, take_at, take-append-drop, append-nil}
 use Rattle.std.proofs.lemmas.Simd.{map-map}
-use Rattle.zf_bits.{proofs.Fields.{digit_value_le}, specs.Writer.{Writer, Appends}}
-use Rattle.zf_bits.{proofs.Appending.{Appends-same}, proofs.Words.{shl_in_word}}
+use Rattle.zf_bits.{proofs.Fields.{digit_value_le}, specs.Writer.{Writer}}
+use Rattle.zf_bits.{proofs.Words.{shl_in_word}}
 use Rattle.zf_spec.{specs.Numbers.{field, number, is_odd, digit_value}, specs.Grid.{count_from, upto}}
 use Rattle.zf_spec.{specs.Planes.{planes_of, code, code_from, AreOfSize}, proofs.PlaneCode.{length-code-le}}
 use Rattle.zf_spec.proofs.Fields.{field-mod, field-number, field-zero, get_or-field}
@@ -13,8 +13,8 @@ use Rattle.zf_spec.proofs.Counting.{length-count_from, get_or-count_from, count_
 use Rattle.zf_spec.proofs.PlaneDigits.{length-planes_of, get_or-planes_of, planes_of-length}
 use Rattle.zf_planes.{specs.Fours.{string_planes}, specs.Spread.{top_digit, top_planes, spread}}
 use Rattle.zf_planes.{specs.declared.entries.TheConstants.{SPREAD}, specs.Writes.{Remains}}
-use Rattle.zf_planes.{proofs.Tables.{each_below, each_below-true}, proofs.Zeros.{take_zeros, zero_code}}
-use Rattle.zf_planes.{proofs.Budgets.{Remains-start, Remains-same, Remains-more}, proofs.Strings.{take-fours}}
+use Rattle.zf_planes.{proofs.Tables.{each_below, each_below-true}, proofs.Zeros.{zero_code}}
+use Rattle.zf_planes.{proofs.Budgets.{Remains-start, Remains-same}, proofs.Strings.{take-fours}}
 
 -- ---- digits of shifted words
 
@@ -213,11 +213,11 @@ string-split planes count string words most is same = ⊎_elim
 
 -- ---- digits of four coefficients, behind planes without a one
 
--- the code of the planes of four digits remains to be written, of which the first z have no one
-remains_all : (out : Writer) (budget w p z : ℕ) (words : List ℕ) → length words ≡ 4 → w ≤ 64 → p ≤ w → z ≤ p → take z (planes_of w (map (field w) words)) ≡ replicate z (replicate 4 false)
+-- the code of the planes of four digits remains to be written, of which the first z have no one: a zero for each
+pub remains_four : (out : Writer) (budget w p z : ℕ) (words : List ℕ) → length words ≡ 4 → w ≤ 64 → p ≤ w → z ≤ p → take z (planes_of w (map (field w) words)) ≡ replicate z (replicate 4 false)
     → min budget (4 * p + 4) ≤ out.room
-    → Remains out out budget budget (code (take p (planes_of w (map (field w) words)))) (replicate z false ++ code_from 0 (top_planes (p - z) (map (below (64 - w + z)) words)))
-remains_all out budget w p z words four small within few zeros room =
+    → Remains out out budget budget (code (take p (planes_of w (map (field w) words)))) (field z 0 ++ code_from 0 (top_planes (p - z) (map (below (64 - w + z)) words)))
+remains_four out budget w p z words four small within few zeros room =
     let cs = map (field w) words in
     let ps = planes_of w cs in
     let top = take p ps in
@@ -232,14 +232,5 @@ remains_all out budget w p z words four small within few zeros room =
       take-append-drop z top,
       zero_code z 4 (drop z top) (omega arith),
       planes-from w p z words small within few,
+      field-zero z,
     ))
-
--- once the zeros of the first z planes are written, that of the others remains
-pub zeros_written : {new : Writer} (out : Writer) (budget w p z count : ℕ) (words : List ℕ) → length words ≡ 4 → w ≤ 64 → p ≤ w → z ≤ p → take z (planes_of w (map (field w) words)) ≡ replicate z (replicate 4 false)
-    → min budget (4 * p + 4) ≤ out.room → count ≡ min budget z → Appends out new (field count 0)
-    → Remains out new budget (budget - count) (code (take p (planes_of w (map (field w) words)))) (code_from 0 (top_planes (p - z) (map (below (64 - w + z)) words)))
-zeros_written out budget w p z count words four small within few zeros room is written =
-    let remains = remains_all out budget w p z words four small within few zeros room in
-    let appends = Appends-same written (field-zero count ∙ ap (λ n. replicate n false) is ∙ sym (take_zeros budget z)) in
-    let spent : budget - length (replicate z false) ≡ budget - count = omega (arith, is, length-replicate z false) in
-    rw spent at (Remains-more (replicate z false) _ remains appends)

@@ -72,7 +72,7 @@ pub(crate) fn join(prefix: Part, back: Part) -> Part
 /// Appends bits, as far as `left` bits reach. The answer is the bits that are left.
 #[inline]
 pub(crate) fn write_part(left: u64, part: Part, out: &mut BitWriter) -> u64
-    requires in_word { part.len ≤ 64 }
+    requires in_word { min left part.len ≤ 64 }
     requires fits { min left part.len ≤ out.old.room }
     ensures bits { Appends out.old out.new (take left (field part.len part.bits)) }
     ensures left { result ≡ left - part.len }
@@ -80,6 +80,26 @@ pub(crate) fn write_part(left: u64, part: Part, out: &mut BitWriter) -> u64
     let count = left.min(part.len);
     out.write_reserved(part.bits, count as u32);
     left - count
+}
+
+/// Appends bits, as far as `left` bits reach, where a word has no room for so many more behind them. The
+/// answer is the bits that are left.
+#[inline(always)]
+pub(crate) fn make_room(left: u64, more: u64, part: &mut Part, out: &mut BitWriter) -> u64
+    requires more { more ≤ 64 }
+    requires in_word { part.old.len ≤ 64 }
+    requires small { part.old.bits < 2 ^ part.old.len }
+    requires fits { min left part.old.len ≤ out.old.room }
+    ensures bits { LeavesPart left result out.old out.new (field part.old.len part.old.bits) part.new.len
+        part.new.bits }
+    ensures room { part.new.len + more ≤ 64 }
+{
+    if part.len <= 64 - more {
+        return left;
+    }
+    let left = write_part(left, *part, out);
+    *part = Part { bits: 0, len: 0 };
+    left
 }
 
 /// Puts the code of a run of so many digits behind bits, and appends them where a word has no room for more,
@@ -103,11 +123,8 @@ fn write_run(left: u64, part: &mut Part, most: u64, digits: u64, out: &mut BitWr
         pending = join(pending, double(digits % 256));
         digits /= 256;
         most -= 8;
-        // Room for eight digits more.
-        if pending.len > 40 {
-            left = write_part(left, pending, out);
-            pending = Part { bits: 0, len: 0 };
-        }
+        // For eight digits more, and the rest.
+        left = make_room(left, 24, &mut pending, out);
     }
     *part = join(pending, short_run(most, digits));
     left

@@ -5,10 +5,11 @@ ghost use Rattle.zf_spec.specs.Numbers.{field, is_odd};
 ghost use Rattle.zf_spec.specs.Grid.{upto};
 ghost use Rattle.zf_spec.specs.Planes.{planes_of, plane_code, code, code_from, reach, reach_of_all};
 ghost use Rattle.zf_bits.specs.Writer.{Appends};
-ghost use Rattle.zf_planes.specs.Fours.{string_planes, IsAsGood, IsCodeOfOne, IsCodeOfTwo, GoesOnBehind, WritesPlanes};
+ghost use Rattle.zf_planes.specs.Fours.{string_planes, IsAsGood, IsCodeOfTwo, GoesOnBehind, LeavesPlanes};
 ghost use Rattle.zf_planes.specs.Spread.{top_digit, top_planes, spread, lone_code, AreLoneAtTop};
+ghost use Rattle.zf_planes.specs.Writes.{Writes};
 
-use crate::doubling::{Part, join, write_part};
+use crate::doubling::{Part, join, make_room, write_part};
 use crate::entries::{entry_of_pair, spread_entry};
 use zf_bits::BitWriter;
 
@@ -20,27 +21,6 @@ pub(crate) struct PlanesCode {
     /// How far the ones of the planes reach, and of those above them.
     pub(crate) above: usize,
     ghost within: { above ≤ 4 },
-}
-
-/// The code of a plane of four digits in which the ranks below `n` have had a one above.
-#[inline]
-fn code_of_4(n: usize, digits: u64) -> PlanesCode
-    requires in_plane { n < 3 }
-    requires digits { digits < 16 }
-    ensures { IsCodeOfOne n digits result.part.len result.part.bits result.above }
-{
-    // Without the code of a plane of zeros behind it: a digit for each rank that has had a one, and a group
-    // bit where ranks are left.
-    let entry = entry_of_pair(n, digits);
-    let above = entry / 262144;
-    let zeros = (above + 1).min(4);
-    PlanesCode {
-        part: Part {
-            bits: u64::from(entry % 16384),
-            len: u64::from(entry / 16384 % 16 - zeros),
-        },
-        above: above as usize,
-    }
 }
 
 /// The top sixteen digits of a word four bits apart, the greatest one lowest.
@@ -108,10 +88,11 @@ fn code_of_lone(planes: u32, word: u64) -> Part
     requires few { planes ≤ 16 }
     requires first { top_digit word 0 ≡ true }
     ensures bits { field result.len result.bits ≡ true ∷ lone_code (map (top_digit word) (upto planes)) }
+    ensures small { result.bits < 2 ^ result.len }
     ensures len { result.len ≤ 33 }
 {
-    let bits = 1 + 2 * pairs_of_top(word);
     let len = 1 + 2 * u64::from(planes);
+    let bits = (1 + 2 * pairs_of_top(word)) % (1 << len);
     Part { bits, len }
 }
 
@@ -136,115 +117,119 @@ pub(crate) fn code_of_two(n: usize, string: u64) -> PlanesCode
     ensures { IsCodeOfTwo n string result.part.len result.part.bits result.above }
 {
     let entry = entry_of_pair(n, string % 256);
-    PlanesCode {
-        part: Part {
-            bits: u64::from(entry % 16384),
-            len: u64::from(entry / 16384 % 16),
-        },
-        above: (entry / 262144) as usize,
-    }
-}
-
-/// The code of the next pairs of planes of a string, as many as surely fit a word, and none that `left` bits
-/// don't reach. Once three ranks have had a one, it stops: the planes that are left are their own code, as
-/// the group bit behind the third digit is the fourth.
-#[inline(always)]
-fn next_pairs(left: u64, above: usize, planes: &mut u32, string: &mut u64) -> PlanesCode
-    requires above { above ≤ 4 }
-    ensures no_more { planes.new ≤ planes.old }
-    ensures rest { GoesOnBehind above (string_planes planes.old string.old) result.part.len result.part.bits
-        result.above (string_planes planes.new string.new) }
-{
-    let mut part = Part { bits: 0, len: 0 };
-    let mut above = above;
-    let mut k = *planes;
-    let mut rest = *string;
-    while above < 3 && k > 1 && part.len <= 50 && part.len < left {
-        let pair = code_of_two(above, rest);
-        part = join(part, pair.part);
-        above = pair.above;
-        rest /= 256;
-        k -= 2;
-    }
-    *planes = k;
-    *string = rest;
+    let bits = u64::from(entry % 16384);
+    let len = u64::from(entry / 16384 % 16);
+    let part = Part { bits, len };
+    let above = (entry / 262144) as usize;
     PlanesCode { part, above }
 }
 
-/// Appends the code of the planes of a string, as far as `left` bits reach: plane by plane until three ranks
-/// have had a one, and then the digits. The answer is the bits that are left; if there are any, `above`
-/// becomes how far the ones reach, where three stands for four too.
+/// The code of the next two planes of a string, or of its last one, where the ranks below `n` have had a one
+/// above.
 #[inline(always)]
-fn write_rest(left: u64, above: &mut usize, planes: u32, string: u64, out: &mut BitWriter) -> u64
+fn code_of_next(n: usize, planes: u32, string: u64) -> PlanesCode
+    requires in_plane { n < 3 }
+    requires some { 0 < planes }
+    ensures { GoesOnBehind n (string_planes planes string) result.part.len result.part.bits result.above
+        (string_planes (planes - 2) (string / 256)) }
+{
+    if planes > 1 {
+        return code_of_two(n, string);
+    }
+    // Without the code of a plane of zeros behind it: a digit for each rank that has had a one, and a group
+    // bit where ranks are left.
+    let entry = entry_of_pair(n, string % 16);
+    let above = entry / 262144;
+    let zeros = (above + 1).min(4);
+    let bits = u64::from(entry % 16384);
+    let len = u64::from(entry / 16384 % 16 - zeros);
+    let part = Part { bits, len };
+    let above = above as usize;
+    PlanesCode { part, above }
+}
+
+/// Puts the code of the planes of a string behind bits, where the ranks below `above` have had a one above,
+/// and appends them where a word has no room for more, as far as `left` bits reach. The answer is the bits
+/// that are left; if they are more than was put together, `above` becomes how far the ones reach, where three
+/// stands for four too.
+#[inline(always)]
+fn write_string(
+    left: u64,
+    planes: u32,
+    string: u64,
+    above: &mut usize,
+    part: &mut Part,
+    out: &mut BitWriter,
+) -> u64
     requires above { above.old ≤ 4 }
     requires few { planes ≤ 16 }
-    requires fits { min left (length (code_from above.old (string_planes planes string))) ≤ out.old.room }
-    ensures { WritesPlanes left result above.old above.new out.old out.new (string_planes planes string) }
+    requires in_word { part.old.len ≤ 64 }
+    requires small { part.old.bits < 2 ^ part.old.len }
+    requires fits { min left (part.old.len + length (code_from above.old (string_planes planes string)))
+        ≤ out.old.room }
+    ensures bits { LeavesPlanes left result above.old above.new out.old out.new
+        (field part.old.len part.old.bits) (string_planes planes string) part.new.len part.new.bits }
+    ensures small { string < 2 ^ (4 * planes) → part.new.bits < 2 ^ part.new.len }
 {
     let mut left = left;
     let mut planes = planes;
     let mut string = string;
-    while planes > 0 && left > 0 && *above < 3 {
-        let code = code_of_4(*above, string % 16);
-        *above = code.above;
-        left = write_part(left, code.part, out);
-        string /= 16;
-        planes -= 1;
+    while planes > 0 && left > part.len && *above < 3 {
+        left = make_room(left, 14, part, out);
+        let next = code_of_next(*above, planes, string);
+        *part = join(*part, next.part);
+        *above = next.above;
+        string /= 256;
+        planes = planes.saturating_sub(2);
     }
-    let len = 4 * u64::from(planes);
-    write_part(left, Part { bits: string, len }, out)
+    // Once three ranks have had a one, the planes that are left are their own code, as the group bit behind
+    // the third digit is the fourth.
+    if planes > 0 && left > part.len {
+        let own = 4 * u64::from(planes);
+        if left > 64 {
+            left = make_room(left, own, part, out);
+        }
+        // Where no more than a word is left, what falls out of one is past the end.
+        let bits = part.bits | string << part.len;
+        let len = part.len + own;
+        *part = Part { bits, len };
+    }
+    left
 }
 
-/// Appends the code of the planes of a string, as far as `left` bits reach, where the ranks below `above`
-/// have had a one above. The answer is the bits that are left; if there are any, `above` becomes how far the
-/// ones reach, where three stands for four too.
+/// Appends bits and behind them the code of the top planes of four words, above which no rank has had a one,
+/// as far as `left` bits reach. The answer is the bits that are left.
 #[inline(always)]
-fn write_string(left: u64, above: &mut usize, planes: u32, string: u64, out: &mut BitWriter) -> u64
-    requires above { above.old ≤ 4 }
-    requires few { planes ≤ 16 }
-    requires fits { min left (length (code_from above.old (string_planes planes string))) ≤ out.old.room }
-    ensures { WritesPlanes left result above.old above.new out.old out.new (string_planes planes string) }
-{
-    let mut planes = planes;
-    let mut string = string;
-    let pairs = next_pairs(left, *above, &mut planes, &mut string);
-    *above = pairs.above;
-    let left = write_part(left, pairs.part, out);
-    if left == 0 {
-        return 0;
-    }
-    write_rest(left, above, planes, string, out)
-}
-
-/// Appends the code of the top planes of four words, above which no rank has had a one, as far as `left` bits
-/// reach. The answer is the bits that are left.
-#[inline(always)]
-fn write_top(left: u64, planes: u32, words: [u64; 4], out: &mut BitWriter) -> u64
+fn write_top(left: u64, part: Part, planes: u32, words: [u64; 4], out: &mut BitWriter) -> u64
     requires planes { planes ≤ 64 }
-    requires fits { min left (length (code_from 0 (top_planes planes words))) ≤ out.old.room }
-    ensures bits { Appends out.old out.new (take left (code_from 0 (top_planes planes words))) }
-    ensures left { result ≡ left - length (code_from 0 (top_planes planes words)) }
+    requires in_word { part.len ≤ 64 }
+    requires small { part.bits < 2 ^ part.len }
+    requires fits { min left (part.len + length (code_from 0 (top_planes planes words))) ≤ out.old.room }
+    ensures { Writes left result out.old out.new
+        (field part.len part.bits ++ code_from 0 (top_planes planes words)) }
 {
     let mut left = left;
+    let mut part = part;
     let mut planes = planes;
     let mut words = words;
     let mut above = 0;
     // Where values are smooth, the first coefficient is the only one of many planes.
     let lone = count_of_lone(planes, &words);
     if lone > 0 {
-        left = write_part(left, code_of_lone(lone, words[0]), out);
+        left = make_room(left, 33, &mut part, out);
+        part = join(part, code_of_lone(lone, words[0]));
         planes -= lone;
         words = below_top(lone, &words);
         above = 1;
     }
-    while planes > 0 && left > 0 {
+    while planes > 0 && left > part.len {
         let count = planes.min(16);
         let string = string_of(&words);
-        left = write_string(left, &mut above, count, string, out);
+        left = write_string(left, count, string, &mut above, &mut part, out);
         planes -= count;
         words = below_top(16, &words);
     }
-    left
+    write_part(left, part, out)
 }
 
 /// Appends the code of the top `prec` planes of four coefficients, given by their digits, or its first
@@ -270,11 +255,11 @@ pub fn write_four(
     ensures count { result ≡ min budget (length (code
         (take prec (planes_of width (map (field width) digits.now))))) }
 {
-    let count = budget.min(u64::from(zeros));
-    out.write_reserved(0, count as u32);
+    let len = u64::from(zeros);
+    let top = Part { bits: 0, len };
     if zeros == prec {
-        return count;
+        return budget - write_part(budget, top, out);
     }
     let words = below_top(64 - width + zeros, digits);
-    budget - write_top(budget - count, prec - zeros, words, out)
+    budget - write_top(budget, top, prec - zeros, words, out)
 }

@@ -1,8 +1,8 @@
-use Rattle.std.proofs.Common.{rules, ◌≡◌, ℕ, ◌-◌, ◌/◌, ◌%◌, ◌^◌, ◌<◌, Bool, List, ◌++◌, length, sym, ap, ◌∙◌, arith, append_assoc, length-append}
+use Rattle.std.proofs.Common.{rules, ◌≡◌, ℕ, ◌-◌, ◌/◌, ◌%◌, ◌^◌, ◌<◌, Bool, List, ◌++◌, sym, ap, ◌∙◌, arith, append_assoc, length-append}
 use Rattle.zf_bits.specs.Writer.{Writer}
 use Rattle.zf_spec.{specs.Numbers.{field}, specs.Planes.{code_from_run}, proofs.Fields.{length-field}}
 use Rattle.zf_planes.{specs.Doubled.{doubled}, specs.Writes.{Remains}, proofs.Doubled.{run_goes_on}}
-use Rattle.zf_planes.proofs.Budgets.{Remains-same, Remains-fits, Remains-more}
+use Rattle.zf_planes.proofs.Budgets.{Remains-same, Remains-fits, Remains-through}
 use Rattle.zf_planes.proofs.doubling.write_run.Goals as goal
 
 pub loop-digits-init : goal.loop-digits-init
@@ -24,21 +24,25 @@ joined_on most digits k v l w j x some within remains two joined =
     Remains-same remains
     (cc (run.code, append_assoc (field k v) (field l w) rest))
 
-pub write_part-left-requires-clause-fits : goal.write_part-left-requires-clause-fits
-write_part-left-requires-clause-fits c =
+pub make_room-left-requires-clause-fits : goal.make_room-left-requires-clause-fits
+make_room-left-requires-clause-fits c =
     let part = c.join-pending.result in
     omega (arith, Remains-fits (field part.len part.bits) _ (joined_on c.loop-digits.most c.loop-digits.digits _ c.loop-digits.pending.bits _ c.double.result.bits _ c.join-pending.result.bits c.loop-digits-test.true c.loop-digits.invariant.within c.loop-digits.invariant.remains c.double.ensures.bits c.join-pending.ensures.bits), length-field part.len part.bits)
 
-pub loop-digits-preserved-then-pending-gt40 : goal.loop-digits-preserved-then-pending-gt40
-loop-digits-preserved-then-pending-gt40 c =
-    let part = c.join-pending.result in
-    let run = run_goes_on c.loop-digits.most c.loop-digits.digits c.loop-digits-test.true c.loop-digits.invariant.within in
-    let written = Remains-more (field part.len part.bits) _ (joined_on c.loop-digits.most c.loop-digits.digits _ c.loop-digits.pending.bits _ c.double.result.bits _ c.join-pending.result.bits c.loop-digits-test.true c.loop-digits.invariant.within c.loop-digits.invariant.remains c.double.ensures.bits c.join-pending.ensures.bits) c.write_part-left.ensures.bits in
-    let spent : c.loop-digits.left - length (field part.len part.bits) ≡ c.write_part-left.result = omega (arith, length-field part.len part.bits, c.write_part-left.ensures.left) in search rules
-
 pub loop-digits-preserved : goal.loop-digits-preserved
 loop-digits-preserved c =
-    let run = run_goes_on c.loop-digits.most c.loop-digits.digits c.loop-digits-test.true c.loop-digits.invariant.within in search (rules, joined_on)
+    let part = c.join-pending.result in
+    let room = c.make_room-left in
+    let run = run_goes_on c.loop-digits.most c.loop-digits.digits c.loop-digits-test.true c.loop-digits.invariant.within in
+    let joined = joined_on c.loop-digits.most c.loop-digits.digits _ c.loop-digits.pending.bits _ c.double.result.bits _ c.join-pending.result.bits c.loop-digits-test.true c.loop-digits.invariant.within c.loop-digits.invariant.remains c.double.ensures.bits c.join-pending.ensures.bits in
+    record {
+      remains = Remains-through (field part.len part.bits) (field room.new.part.len room.new.part.bits) _ joined room.ensures.bits.code;
+      some = omega (arith, c.loop-digits-test.true);
+      in_word = omega (arith, c.loop-digits.invariant.in_word);
+      within = run.below;
+      few = omega (arith, room.ensures.room);
+      small = room.ensures.bits.small;
+    }
 
 -- the rest of the run is in the last bits
 all_joined : {old now : Writer} {budget left : ℕ} {all : List Bool} (most digits k v l w j x : ℕ) → Remains old now budget left all (field k v ++ code_from_run (field most digits))

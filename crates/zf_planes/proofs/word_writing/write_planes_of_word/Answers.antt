@@ -108,9 +108,9 @@ ended g c = elim c.loop-i-test.branch [
 
 pub write_part-left-requires-2-clause-in_word : goal.write_part-left-requires-2-clause-in_word
 write_part-left-requires-2-clause-in_word g c = elim c.loop-i-test.branch [
-  | then-loop-i-test+else-left-part w ↦ rw w.part-is c.loop-i.invariant.in_word
-  | else-loop-i-test w ↦ rw w.part-is c.loop-i.invariant.in_word
-  | then-loop-i-test+then-left-part+else-digits-above-eq0+then-above-size w ↦ rw w.part-is w.write_with-left.ensures.len
+  | then-loop-i-test+else-left-part w ↦ rw w.part-is (omega (arith, c.loop-i.invariant.in_word))
+  | else-loop-i-test w ↦ rw w.part-is (omega (arith, c.loop-i.invariant.in_word))
+  | then-loop-i-test+then-left-part+else-digits-above-eq0+then-above-size w ↦ rw w.part-is (omega (arith, w.write_with-left.ensures.len))
 ]
 
 pub write_part-left-requires-2-clause-fits : goal.write_part-left-requires-2-clause-fits
