@@ -1,13 +1,11 @@
 //! Writing the code of planes of four digits from the digits themselves.
 
 ghost use Rattle.std.specs.Prelude.{◌≡◌, ◌+◌, ◌-◌, ◌*◌, ◌/◌, ◌%◌, ◌^◌, ◌<◌, ◌≤◌, min, max, true, false, ◌∷◌, ◌++◌, length, map, take, replicate, slice_index_or};
-ghost use Rattle.zf_spec.specs.Numbers.{field, is_odd};
-ghost use Rattle.zf_spec.specs.Grid.{upto};
+ghost use Rattle.zf_spec.specs.{Numbers.{field, is_odd}, Grid.{upto}};
 ghost use Rattle.zf_spec.specs.Planes.{planes_of, plane_code, code, code_from, reach, reach_of_all};
-ghost use Rattle.zf_bits.specs.Writer.{Appends};
+ghost use Rattle.{zf_bits.specs.Writer.{Appends}, zf_planes.specs.Writes.{Writes}};
 ghost use Rattle.zf_planes.specs.Fours.{string_planes, IsAsGood, IsCodeOfTwo, GoesOnBehind, LeavesPlanes};
 ghost use Rattle.zf_planes.specs.Spread.{top_digit, top_planes, spread, lone_code, AreLoneAtTop};
-ghost use Rattle.zf_planes.specs.Writes.{Writes};
 
 use crate::doubling::{Part, join, make_room, write_part};
 use crate::entries::{entry_of_pair, spread_entry};
