@@ -112,8 +112,8 @@ fn encode_any<C: BlockCode<T>, T: Lane>(
         (C.code_of code.now (codes.planes T.width d (C.forth d (map T.value block.old)))) }
     ensures scratch { s.new ≡ s.old }
 {
-    // Planes of up to 64 coefficients lie in one word each. Each arm says its number of dimensions and of values
-    // as numbers, so that what it calls is compiled for these.
+    // Planes of up to 64 coefficients lie in one word each. Each arm says its number of dimensions and of
+    // values as numbers, so that what it calls is compiled for these.
     match d {
         2 => write_block(code, 2, &mut block[..16], &mut [0; 16], &mut s.planes, out),
         3 => write_block(code, 3, &mut block[..64], &mut s.digits, &mut s.planes, out),
@@ -257,7 +257,7 @@ pub(crate) fn decode<C: BlockCode<T>, T: Lane>(
         C::inverse_of_first(d, zf_coef::from_digits(digits), block);
         return Some(());
     }
-    // Planes of up to 64 coefficients lie in one word each. Each arm says its number of dimensions as a number.
+    // Planes of up to 64 coefficients lie in one word each. Each arm says its number of dimensions.
     match d {
         2 => read_narrow::<C, T, 16>(code, 2, reader, block),
         3 => read_narrow::<C, T, 64>(code, 3, reader, block),

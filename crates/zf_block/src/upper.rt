@@ -22,8 +22,8 @@ pub(crate) fn reaches_upper(bits: u64, count: u32, width: u32, digits: &[u64]) -
     above < count && bits <= size as u64 * u64::from(count - 1 - above)
 }
 
-/// Appends the first bits of the code of `width` planes, which the upper `count` have, by way of these. Digits
-/// and planes become anything.
+/// Appends the first bits of the code of `width` planes, which the upper `count` have, by way of these.
+/// Digits and planes become anything.
 #[inline(always)]
 pub(crate) fn write_upper<P: Plane>(
     bits: u64,

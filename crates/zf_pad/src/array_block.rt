@@ -12,8 +12,8 @@ use crate::layout::Layout;
 use crate::padding::pad;
 use zf_base::{Extent, Lane, Pos, Shape};
 
-/// Copies block `b` out of the values of an array, whose layout is at hand, pads it, and answers which part of
-/// it exists.
+/// Copies block `b` out of the values of an array, whose layout is at hand, pads it, and answers which part
+/// of it exists.
 ///
 /// `layout` is the raw layout of the shape, `values` are all of the array's, and `b` is below the number of
 /// blocks. `block` has `4^d` values, x fastest.

@@ -243,7 +243,7 @@ pub(crate) fn spread_entry(digits: u64) -> u32
 
 /// Tails whose group bit is one: entry `256 * (most - 1) + bits` is that of `most` digits which these eight
 /// bits follow, and the last `most`, nine, stands for more digits too. Its digits are the lowest eight bits,
-/// how far its ones reach the next four, and how many bits it has, with the group bit, is above them. Where the
+/// how far its ones reach the next four, and how many bits it has, with the group bit, is above them. Where
 /// eight bits are not enough, it has the digits that begin the run, how many they are, and 96 more than the
 /// bits they have: a one takes two, its own and the group bit of one behind it.
 static TAILS: [u32; 2304] = table! {
