@@ -11,3 +11,4 @@ pub mod Lines
 pub mod Stored
 pub mod Appended
 pub mod StoredLines
+pub mod FourLines

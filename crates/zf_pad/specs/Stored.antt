@@ -74,3 +74,9 @@ pub record LinePart (ns : List ℕ) (from count n first lines line : ℕ) : Type
   pub within : from % line_len ns + count ≤ line_len ns
   pub begins : IsFirst ns from
   pub whole : (count % 4 ≡ 0) ⊎ (from % line_len ns + count ≡ line_len ns)
+
+-- four lines of n values of one layer of blocks, of which no block is cut: the first begins with this value
+pub record AreFourLines (ns : List ℕ) (from n first lines line : ℕ) : Type 0 where
+  pub each : (j : ℕ) → j < 4 → LinePart ns (from + j * n) n n first lines (line + j)
+  pub begins : from % n ≡ 0
+  pub whole : n % 4 ≡ 0

@@ -3,11 +3,11 @@
 
 ghost use Rattle.std.specs.Prelude.{◌≡◌, ◌⊎◌, ◌+◌, ◌-◌, ◌*◌, ◌/◌, ◌%◌, ◌^◌, ◌<◌, ◌≤◌, ◌++◌, min, ℕ, true};
 ghost use Rattle.std.specs.Prelude.{pos, length, map, take, drop, replicate, slice_index_or, vec_len};
-ghost use Rattle.std.specs.Prelude.{vec_capacity};
+ghost use Rattle.std.specs.Prelude.{vec_capacity, IfSome};
 ghost use Rattle.zf_spec.specs.Grid.{product, blocks, extent_of, max_values};
 ghost use Rattle.zf_base.specs.Positions.{used_axes, IsExtent};
 ghost use Rattle.zf_pad.specs.Stored.{HasWholeBlocks, AppendsBlock, raster_of, line_len, other_sizes};
-ghost use Rattle.zf_pad.specs.Stored.{IsFirst, IsKnown, LinePart};
+ghost use Rattle.zf_pad.specs.Stored.{IsFirst, IsKnown, LinePart, AreFourLines};
 
 use crate::array_block::part_of;
 use crate::copies::{copy_row, scatter};
@@ -155,12 +155,95 @@ pub fn copy_lines<T: Lane>(shape: &Shape, stored: &[T], from: u64, part: &mut [T
     let mut known = known_line(shape, from / n);
     let mut held = 0;
     while held < left && held + 4 <= part.len() {
-        let at = from + held as u64;
-        let count = next_count(n - at % n, part.len() - held);
-        copy_line(shape, stored, at, held, count, &mut known, part);
-        held += count;
+        held += copy_next(shape, stored, from + held as u64, held, &mut known, part);
     }
     held
+}
+
+// Copies what comes next to the places from `to` on, and answers how many: four whole lines of one layer of
+// blocks, where there are and no block of theirs is cut, or else values of one line.
+fn copy_next<T: Lane>(
+    shape: &Shape,
+    stored: &[T],
+    from: u64,
+    to: usize,
+    known: &mut Known,
+    part: &mut [T],
+) -> usize
+    requires all { product shape.now ≤ length stored.now }
+    requires known { IsKnown (other_sizes shape.now) known.old }
+    requires within { from < product shape.now }
+    requires first { IsFirst shape.now from }
+    requires room { to + 4 ≤ length part.old }
+    ensures some { 1 ≤ result }
+    ensures room { to + result ≤ length part.new }
+    ensures within { from + result ≤ product shape.now }
+    ensures first { IsFirst shape.now (from + result) }
+    ensures before { take to part.new ≡ take to part.old }
+    ensures values { (i : ℕ) → i < result → slice_index_or (map T.value part.new) (to + i) (pos 0)
+        ≡ slice_index_or (raster_of shape.now (map T.value stored.now)) (from + i) (pos 0) }
+    ensures known { IsKnown (other_sizes shape.now) known.new }
+{
+    // tells that the sizes are a shape's, so lines end within the values
+    let _dims = shape.dims();
+    let n = shape.size(0);
+    let room = part.len() - to;
+    if n <= (room / 4) as u64 {
+        if let Some(Line { first, lines, line }) = four_lines(shape, n, from, known) {
+            let start = n * first + 4 * line;
+            copy_four(stored, start as usize, 4 * lines as usize, to, n as usize, part);
+            return 4 * n as usize;
+        }
+    }
+    let count = next_count(n - from % n, room);
+    copy_line(shape, stored, from, to, count, known, part);
+    count
+}
+
+// The first line of a layer of blocks that has four, where this value is its first, and no block of theirs is
+// cut. Their values are `n`. `known` becomes that line, if any.
+#[inline]
+fn four_lines(shape: &Shape, n: u64, from: u64, known: &mut Known) -> Option<Line>
+    requires size { n ≡ line_len shape.now }
+    requires known { IsKnown (other_sizes shape.now) known.old }
+    requires within { from < product shape.now }
+    ensures four { IfSome result (λ l. AreFourLines shape.now from n l.first l.lines l.line) }
+    ensures known { IsKnown (other_sizes shape.now) known.new }
+{
+    if from % n != 0 || n % 4 != 0 {
+        return None;
+    }
+    // tells that the sizes are a shape's, so their products fit
+    let _dims = shape.dims();
+    *known = line_after(shape, known, from / n);
+    if known.left < 3 {
+        return None;
+    }
+    Some(known.line)
+}
+
+// Copies four whole lines of so many values, of which each block has the first values of four beside one
+// another, and the blocks so far behind one another.
+#[inline]
+fn copy_four<T: Lane>(stored: &[T], from: usize, step: usize, to: usize, n: usize, part: &mut [T])
+    requires whole { n % 4 ≡ 0 }
+    requires there { (b : ℕ) → b < n / 4 → from + b * step + 16 ≤ length stored.now }
+    requires small { from + n / 4 * step < 2 ^ 64 }
+    requires room { to + 4 * n ≤ length part.old }
+    ensures before { take to part.new ≡ take to part.old }
+    ensures rows { (j b k : ℕ) → j < 4 → b < n / 4 → k < 4
+        → slice_index_or (map T.value part.new) (to + (j * n + (4 * b + k))) (pos 0)
+        ≡ slice_index_or (map T.value stored.now) (from + 4 * j + b * step + k) (pos 0) }
+{
+    let mut at = from;
+    for b in 0..n / 4 {
+        let to = to + 4 * b;
+        copy_row(stored, at, part, to);
+        copy_row(stored, at + 4, part, to + n);
+        copy_row(stored, at + 8, part, to + 2 * n);
+        copy_row(stored, at + 12, part, to + 3 * n);
+        at += step;
+    }
 }
 
 // How many values of a line are copied at once: all that are left of it, or as many whole blocks as there is
@@ -311,6 +394,9 @@ fn line_after(shape: &Shape, known: &Known, number: u64) -> Known
 {
     // tells that the sizes are a shape's, so their products fit
     let _dims = shape.dims();
+    if known.number == number {
+        return *known;
+    }
     if known.left == 0 || known.number + 1 != number {
         return known_line(shape, number);
     }

@@ -1,0 +1,41 @@
+use Rattle.std.proofs.Common.{◌≡◌, refl, ◌+◌, ◌*◌, ◌/◌, ◌<◌, ◌≤◌, length, map, take, ◌∙◌, arith}
+use Rattle.zf_pad.{proofs.Copying.{row_copied}, proofs.StoredLines.{front_stays}, proofs.FourLines.{rows_more, row_of_line}}
+use Rattle.zf_pad.proofs.storing.copy_four.Goals as goal
+
+pub loop-b-preserved : goal.loop-b-preserved
+loop-b-preserved g c =
+    let value = g.T.Lane.value in
+    let source = c.args.stored.now in
+    let n = c.args.n in
+    let at = c.loop-b.at in
+    let to = c.args.to + 4 * c.loop-b.b in
+    let p0 = c.loop-b.part in
+    let p1 = c.copy_row.new.target in
+    let p2 = c.copy_row-in-loop-b.new.target in
+    let p3 = c.copy_row-in-loop-b-2.new.target in
+    let p4 = c.copy_row-in-loop-b-3.new.target in
+    let room : 4 * c.loop-b.b + 4 ≤ n = omega (arith, c.loop-b-test.true) in
+    let here : at + 16 ≤ length source = omega (arith, c.loop-b.invariant.at, c.requires.there c.loop-b.b c.loop-b-test.true) in
+    let long : c.args.to + 4 * n ≤ length p0 = omega (arith, c.loop-b.auto.part, c.requires.room) in
+    let long1 : c.args.to + 4 * n ≤ length p1 = omega (arith, long, c.copy_row.auto.target) in
+    let long2 : c.args.to + 4 * n ≤ length p2 = omega (arith, long1, c.copy_row-in-loop-b.auto.target) in
+    let long3 : c.args.to + 4 * n ≤ length p3 = omega (arith, long2, c.copy_row-in-loop-b-2.auto.target) in
+    let r1 = row_copied value at to source p0 p1 (omega (arith, here)) (omega (arith, room, long)) c.copy_row.ensures in
+    let r2 = row_copied value (at + 4) (to + n) source p1 p2 (omega (arith, here)) (omega (arith, room, long1)) c.copy_row-in-loop-b.ensures in
+    let r3 = row_copied value (at + 8) (to + 2 * n) source p2 p3 (omega (arith, here)) (omega (arith, room, long2)) c.copy_row-in-loop-b-2.ensures in
+    let r4 = row_copied value (at + 12) (to + 3 * n) source p3 p4 (omega (arith, here)) (omega (arith, room, long3)) c.copy_row-in-loop-b-3.ensures in
+    record {
+      at = omega (arith, c.loop-b.invariant.at);
+      before =
+          front_stays c.args.to (to + 3 * n) p3 _ p4 (omega arith) (omega (arith, room, long3)) c.copy_row-in-loop-b-3.ensures
+          ∙ front_stays c.args.to (to + 2 * n) p2 _ p3 (omega arith) (omega (arith, room, long2)) c.copy_row-in-loop-b-2.ensures
+          ∙ front_stays c.args.to (to + n) p1 _ p2 (omega arith) (omega (arith, room, long1)) c.copy_row-in-loop-b.ensures
+          ∙ front_stays c.args.to to p0 _ p1 (omega arith) (omega (arith, room, long)) c.copy_row.ensures
+          ∙ c.loop-b.invariant.before;
+      lines = rows_more c.args.from c.args.step c.args.to n c.loop-b.b at to _ _ _ _ _ _ room c.loop-b.invariant.at refl r1 r2 r3 r4 c.loop-b.invariant.lines;
+    }
+
+pub returns-clause-rows : goal.returns-clause-rows
+returns-clause-rows g c =
+    λ j b k four lt small.
+    row_of_line c.args.from c.args.step c.args.to c.args.n _ _ c.loop-b.b c.loop-b.invariant.lines j b k four (omega (arith, lt, c.loop-b-test.false)) small

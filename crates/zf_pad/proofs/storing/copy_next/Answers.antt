@@ -1,0 +1,56 @@
+use Rattle.std.proofs.Common.{◌≡◌, ℕ, ◌+◌, ◌-◌, ◌%◌, ◌≤◌, ◌⊎◌, inl, inr, ⊎_elim, map, ap, sym, ◌∙◌, arith}
+use Rattle.zf_pad.{specs.Stored.{line_len}, proofs.StoredLines.{next_first, line_end}}
+use Rattle.zf_pad.proofs.FourLines.{four_there, four_small, lines_small, four_end, four_first, four_values}
+use Rattle.zf_pad.proofs.storing.copy_next.Goals as goal
+
+pub overflow_mul-start : goal.overflow_mul-start
+overflow_mul-start g c = record { fits = omega (arith, four_small _ _ _ _ _ _ c.in-Some.ensures.four) }
+
+pub overflow_mul-start-in-Some : goal.overflow_mul-start-in-Some
+overflow_mul-start-in-Some g c = record { fits = omega (arith, four_small _ _ _ _ _ _ c.in-Some.ensures.four) }
+
+pub overflow_add-start : goal.overflow_add-start
+overflow_add-start g c = record { fits = omega (arith, four_small _ _ _ _ _ _ c.in-Some.ensures.four) }
+
+pub overflow_mul-lines : goal.overflow_mul-lines
+overflow_mul-lines g c = record { fits = omega (arith, lines_small _ _ _ _ _ _ c.in-Some.ensures.four) }
+
+pub copy_four-requires-clause-there : goal.copy_four-requires-clause-there
+copy_four-requires-clause-there g c = λ b lt. omega (arith, four_there _ _ _ _ _ _ c.in-Some.ensures.four b lt, c.requires.all)
+
+pub copy_four-requires-clause-small : goal.copy_four-requires-clause-small
+copy_four-requires-clause-small g c = omega (arith, four_small _ _ _ _ _ _ c.in-Some.ensures.four)
+
+pub returns-in-Some-clause-within : goal.returns-in-Some-clause-within
+returns-in-Some-clause-within g c = four_end _ _ _ _ _ _ c.in-Some.ensures.four
+
+pub returns-in-Some-clause-first : goal.returns-in-Some-clause-first
+returns-in-Some-clause-first g c = four_first _ _ _ _ _ _ c.in-Some.ensures.four
+
+pub returns-in-Some-clause-values : goal.returns-in-Some-clause-values
+returns-in-Some-clause-values g c =
+    four_values _ _ _ _ _ _ c.in-Some.ensures.four (map g.T.Lane.value c.args.stored.now) (map g.T.Lane.value c.copy_four.new.part) c.args.to c.copy_four.ensures.rows
+
+-- so much of a line, by its size as the shape tells it
+module _ (n m at count : ℕ) (is : m ≡ n) (some : 1 ≤ count) (left : count ≤ m - at % m) where
+  x_is : at % n ≡ at % m
+  x_is = ap (λ k. at % k) (sym is)
+
+  on_line : at % n + count ≤ n
+  on_line = omega (arith, x_is, is, some, left)
+
+  or_all : (count % 4 ≡ 0) ⊎ (count ≡ m - at % m) → (count % 4 ≡ 0) ⊎ (at % n + count ≡ n)
+  or_all whole = ⊎_elim (λ fours. inl fours) (λ all. inr (omega (arith, all, x_is, is, some, left))) whole
+
+pub returns-clause-within : goal.returns-clause-within
+returns-clause-within g c =
+    line_end c.args.shape.now c.args.from c.next_count-count.result c.dims-dims.ensures.shape c.requires.within
+    (on_line (line_len c.args.shape.now) c.size-n.result c.args.from c.next_count-count.result c.size-n.ensures c.next_count-count.ensures.some c.next_count-count.ensures.left)
+
+pub returns-clause-first : goal.returns-clause-first
+returns-clause-first g c =
+    let some = c.next_count-count.ensures.some in
+    let left = c.next_count-count.ensures.left in
+    next_first (line_len c.args.shape.now) c.args.from c.next_count-count.result c.requires.first
+    (on_line (line_len c.args.shape.now) c.size-n.result c.args.from c.next_count-count.result c.size-n.ensures some left)
+    (or_all (line_len c.args.shape.now) c.size-n.result c.args.from c.next_count-count.result c.size-n.ensures some left c.next_count-count.ensures.whole)
