@@ -3,7 +3,7 @@ use Rattle.std.proofs.Common.{◌≡◌, sym, ap, ◌∙◌, inl, inr, ℕ, zero
 use Rattle.std.proofs.Math.Nat.{add-mul-mod_self_left, add-mul-div_left, div-eq_of_lt, mod-eq_of_lt, mod-lt, div-add-mod, mul-le-mul_left}
 use Rattle.std.proofs.lemmas.{Bool.{cases_lt}, Nat.{div_below}}
 use Rattle.zf_spec.specs.Grid.{IsShape, product}
-use Rattle.zf_pad.specs.Stored.{raster_of, line_len, other_sizes, IsKnown, LinePart, AreFourLines}
+use Rattle.zf_pad.specs.Stored.{raster_of, line_len, other_sizes, IsKnown, AreFourLines}
 use Rattle.zf_pad.specs.declared.storing.Known.{Known}
 use Rattle.zf_pad.{proofs.Copying.{IsRowCopied}, proofs.StoredLines.{all_sizes, others_fit, blocks_there, blocks_small, block_value, line_end}}
 
@@ -109,19 +109,19 @@ are_four_lines ns from n k shape is lt begins whole known number left =
     let x_in = λ (j : ℕ). ap (λ m. (from + j * n) % m) (sym is) ∙ x_of from n begins some j in
     record {
       each = λ j four. record {
-          shape = shape;
-          n_is = is;
-          before =
-              let up : from / n + j + 1 ≤ product (other_sizes ns) = omega (arith, known.within, number, left, four) in
-              let all : n * product (other_sizes ns) ≡ product ns = ap (λ m. m * product (other_sizes ns)) is ∙ all_sizes ns shape.four_at_most in
-              omega (arith, start_of from n begins some j, mul-le-mul_left n up, all, some);
-          is = rw (number_of from n begins some j, sym number) (known.each j (omega (arith, four, left)));
-          below = omega (arith, known.below, left, four);
-          fits = known.fits;
-          within = omega (arith, x_in j, is);
-          begins = ap (λ x. x % 4) (x_in j);
-          whole = inl whole;
-        };
+        shape = shape;
+        n_is = is;
+        before =
+            let up : from / n + j + 1 ≤ product (other_sizes ns) = omega (arith, known.within, number, left, four) in
+            let all : n * product (other_sizes ns) ≡ product ns = ap (λ m. m * product (other_sizes ns)) is ∙ all_sizes ns shape.four_at_most in
+            omega (arith, start_of from n begins some j, mul-le-mul_left n up, all, some);
+        is = rw (number_of from n begins some j, sym number) (known.each j (omega (arith, four, left)));
+        below = omega (arith, known.below, left, four);
+        fits = known.fits;
+        within = omega (arith, x_in j, is);
+        begins = ap (λ x. x % 4) (x_in j);
+        whole = inl whole;
+      };
       begins = begins;
       whole = whole;
     }

@@ -191,7 +191,14 @@ fn copy_next<T: Lane>(
     if n <= (room / 4) as u64 {
         if let Some(Line { first, lines, line }) = four_lines(shape, n, from, known) {
             let start = n * first + 4 * line;
-            copy_four(stored, start as usize, 4 * lines as usize, to, n as usize, part);
+            copy_four(
+                stored,
+                start as usize,
+                4 * lines as usize,
+                to,
+                n as usize,
+                part,
+            );
             return 4 * n as usize;
         }
     }

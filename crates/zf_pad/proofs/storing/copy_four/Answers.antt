@@ -1,4 +1,4 @@
-use Rattle.std.proofs.Common.{◌≡◌, refl, ◌+◌, ◌*◌, ◌/◌, ◌<◌, ◌≤◌, length, map, take, ◌∙◌, arith}
+use Rattle.std.proofs.Common.{refl, ◌+◌, ◌*◌, ◌≤◌, length, ◌∙◌, arith}
 use Rattle.zf_pad.{proofs.Copying.{row_copied}, proofs.StoredLines.{front_stays}, proofs.FourLines.{rows_more, row_of_line}}
 use Rattle.zf_pad.proofs.storing.copy_four.Goals as goal
 

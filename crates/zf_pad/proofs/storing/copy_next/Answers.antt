@@ -1,4 +1,4 @@
-use Rattle.std.proofs.Common.{◌≡◌, ℕ, ◌+◌, ◌-◌, ◌%◌, ◌≤◌, ◌⊎◌, inl, inr, ⊎_elim, map, ap, sym, ◌∙◌, arith}
+use Rattle.std.proofs.Common.{◌≡◌, ℕ, ◌+◌, ◌-◌, ◌%◌, ◌≤◌, ◌⊎◌, inl, inr, ⊎_elim, map, ap, sym, arith}
 use Rattle.zf_pad.{specs.Stored.{line_len}, proofs.StoredLines.{next_first, line_end}}
 use Rattle.zf_pad.proofs.FourLines.{four_there, four_small, lines_small, four_end, four_first, four_values}
 use Rattle.zf_pad.proofs.storing.copy_next.Goals as goal
