@@ -184,8 +184,7 @@ fn is_code(out: &BitWriter, len: u64, sum: u64) -> bool {
     out.len() == len && digest(out.words()) == sum
 }
 
-/// Writes a block, padded by the call and padded before, and reads it again. The answer is whether both codes
-/// have this length and this digest, and the code was there.
+/// Whether a block has this code, padded by the call and padded before, and the code is read again.
 fn both_ways<T: Lane>(
     alloc: Global,
     block: &mut Block<T>,
@@ -280,10 +279,8 @@ static ROWS: [Line<i32>; 11] = [
     ),
 ];
 
-/// Values that differ little: the first coefficient alone has ones in many planes.
-///
-/// Bits 36 to 39 of the code at a rate are those of plane 12: the digit that is known to come, a group bit,
-/// and a run.
+/// Values that differ little: the first coefficient alone has ones in many planes. Bits 36 to 39 of the code
+/// at a rate are those of plane 12: the digit that is known to come, a group bit, and a run.
 const SMOOTH: [i32; 4] = [268435456, 268437999, 268430001, 268435400];
 
 static FOURS: [Line<i32>; 11] = [
