@@ -66,6 +66,32 @@ IsWritten-put words len n v word end written here small some width narrow fits i
     (put_bits_are words len n v word written here small some width narrow fits)
     (long-put words len n v written ∙ sym is_end) (omega (arith, written.within)) (omega (arith, written.small))
 
+-- ---- zeros
+
+zeros_are : (words : List ℕ) (len n : ℕ) → IsWritten words len → n ≤ room words len
+    → word_bits words ≡ (take len (word_bits words) ++ replicate n false) ++ replicate (64 * length words - (len + n)) false
+zeros_are words len n written fits =
+    let bits = take len (word_bits words) in
+    let m = 64 * length words - (len + n) in
+    let all : 64 * length words - len ≡ n + m = omega (arith, written.within) in
+    bits_written written
+    ∙ ap (λ k. bits ++ replicate k false) all
+    ∙ ap (λ (bs : List Bool). bits ++ bs) (sym (replicate-append-replicate n m false))
+    ∙ sym (append_assoc bits (replicate n false) (replicate m false))
+
+long-zeros : (words : List ℕ) (len n : ℕ) → IsWritten words len → length (take len (word_bits words) ++ replicate n false) ≡ len + n
+long-zeros words len n written = omega (arith, length-append (take len (word_bits words)) (replicate n false), length-written written, length-replicate n false)
+
+pub IsWritten-zeros : (words : List ℕ) (len n : ℕ) → IsWritten words len → n ≤ room words len → IsWritten words (len + n)
+IsWritten-zeros words len n written fits =
+    IsWritten-from words (len + n) (64 * length words - (len + n)) (take len (word_bits words) ++ replicate n false)
+    (zeros_are words len n written fits) (long-zeros words len n written) (omega (arith, written.within)) (omega (arith, written.small))
+
+pub bits-zeros : (words : List ℕ) (len n : ℕ) → IsWritten words len → n ≤ room words len → take (len + n) (word_bits words) ≡ take len (word_bits words) ++ replicate n false
+bits-zeros words len n written fits =
+    ap (take (len + n)) (zeros_are words len n written fits)
+    ∙ take_at (take len (word_bits words) ++ replicate n false) (replicate (64 * length words - (len + n)) false) (len + n) (long-zeros words len n written)
+
 -- ---- whole words
 
 -- the words that hold the bits are filled with zeros

@@ -1,5 +1,6 @@
 //! A list of bits that grows at its end.
-ghost use Rattle.std.specs.Prelude.{◌≡◌, ◌+◌, ◌%◌, ◌^◌, ◌<◌, ◌≤◌, ◌↔◌, IsTrue, [], ◌∷◌, ◌++◌, length, OnOk, OnErr};
+ghost use Rattle.std.specs.Prelude.{◌≡◌, ◌+◌, ◌%◌, ◌^◌, ◌<◌, ◌≤◌, ◌↔◌, IsTrue, [], ◌∷◌, ◌++◌, false, length, replicate};
+ghost use Rattle.std.specs.Prelude.{OnOk, OnErr};
 ghost use Rattle.std.specs.Int.{div_ceil};
 ghost use Rattle.zf_spec.specs.Numbers.{field, word_bits};
 ghost use Rattle.zf_spec.specs.Stream.{fill, with_fill};
@@ -157,6 +158,17 @@ impl BitWriter {
         ensures room { self.new.room + 1 ≡ self.old.room }
     {
         self.write_reserved(u64::from(bit), 1);
+    }
+
+    /// Appends so many zero bits in room that is there already. There are zeros behind the bits, so nothing is
+    /// written.
+    #[inline]
+    pub fn write_zeros_reserved(&mut self, count: u64)
+        requires { count ≤ self.old.room }
+        ensures bits { Appends self.old self.new (replicate count false) }
+        ensures room { self.new.room + count ≡ self.old.room }
+    {
+        self.len += count;
     }
 
     /// Appends zero bits up to the next multiple of 64, and none where the length is a multiple already. The

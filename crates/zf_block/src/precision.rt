@@ -16,7 +16,7 @@ use crate::block_code::BlockCode;
 use crate::codec::{decode, encode, encode_part};
 use crate::first_code::first_code;
 use crate::uncut::{read_uncut, read_uncut_four, write_uncut, write_uncut_four, zeros_above};
-use crate::zero_block::{are_zeros, write_zeros};
+use crate::zero_block::are_zeros;
 use std::alloc::AllocError;
 use zf_base::{Extent, Lane};
 use zf_bits::{BitReader, BitWriter, Plane};
@@ -180,6 +180,6 @@ impl<T: Lane> BlockCode<T> for Precision {
     }
 
     fn write_zero_block(&self, size: usize, out: &mut BitWriter) {
-        write_zeros(u64::from(self.prec.min(T::WIDTH)), out);
+        out.write_zeros_reserved(u64::from(self.prec.min(T::WIDTH)));
     }
 }

@@ -17,7 +17,7 @@ use crate::block_code::BlockCode;
 use crate::codec::{decode, encode, encode_part};
 use crate::first_code::first_code;
 use crate::upper::{reaches_upper, write_upper};
-use crate::zero_block::{are_zeros, write_zeros};
+use crate::zero_block::are_zeros;
 use zf_base::{Extent, Lane};
 use zf_bits::{BitReader, BitWriter, Plane};
 
@@ -123,7 +123,7 @@ impl<T: Lane> BlockCode<T> for Rate {
         // The digits tell at once how many planes at the top are zero.
         let zeros = zf_coef::zero_planes(digits, width);
         let written = zf_planes::write_planes_below(zeros, bits, width, size, planes, out);
-        write_zeros(bits - written, out);
+        out.write_zeros_reserved(bits - written);
     }
 
     #[inline(always)]
@@ -169,7 +169,7 @@ impl<T: Lane> BlockCode<T> for Rate {
         let width = T::WIDTH;
         let zeros = zf_coef::zero_planes(digits, width);
         let used = zf_planes::write_four(zeros, bits, width, width, digits, out);
-        write_zeros(bits - used, out);
+        out.write_zeros_reserved(bits - used);
     }
 
     fn read_four(&self, reader: &mut BitReader<'_>, digits: &mut [u64; 4]) -> Option<()> {
@@ -204,6 +204,6 @@ impl<T: Lane> BlockCode<T> for Rate {
     }
 
     fn write_zero_block(&self, size: usize, out: &mut BitWriter) {
-        write_zeros(u64::from(self.bits), out);
+        out.write_zeros_reserved(u64::from(self.bits));
     }
 }

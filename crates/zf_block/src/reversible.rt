@@ -192,7 +192,7 @@ impl<T: Lane> BlockCode<T> for Reversible {
     }
 
     fn write_zero_block(&self, size: usize, out: &mut BitWriter) {
-        out.write_reserved(0, count_bits::<T>() + 1);
+        out.write_zeros_reserved(u64::from(count_bits::<T>() + 1));
     }
 }
 

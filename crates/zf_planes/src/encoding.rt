@@ -129,7 +129,7 @@ pub fn write_planes_below<P: Plane>(
         (take prec (planes_held size (map P.words planes.now))))) }
 {
     let count = budget.min(u64::from(zeros));
-    out.write_reserved(0, count as u32);
+    out.write_zeros_reserved(count);
     let mut left = budget - count;
     // A size that is known makes its own program, without the others' steps.
     if size == 16 {

@@ -7,7 +7,7 @@ use Rattle.zf_planes.{specs.Writes.{Remains}, proofs.Lengths.{length-code_words-
 use Rattle.zf_planes.proofs.Budgets.{Remains-start, Remains-same, Remains-fits, Remains-more, Remains-end}
 use Rattle.zf_planes.{proofs.Zeros.{take_zeros, zero_code}, proofs.encoding.write_planes_below.Given.{Over}}
 use Rattle.zf_planes.proofs.Unpacking.{length-top_held, code_next, each_long}
-use Rattle.zf_planes.proofs.encoding.write_planes_below.Goals.{After-write_reserved, then-loop-i-test+else-left-gt0, else-loop-i-test}
+use Rattle.zf_planes.proofs.encoding.write_planes_below.Goals.{After-write_zeros_reserved, then-loop-i-test+else-left-gt0, else-loop-i-test}
 use Rattle.zf_planes.proofs.encoding.write_planes_below.Goals as goal
 
 -- what remains begins with the code of the next plane
@@ -34,29 +34,29 @@ remains_all out words count budget prec size k planes long enough in_planes room
     zeros_first : (k : ℕ) → (k ≡ 0) ⊎ (0 < size) → code (replicate k (replicate size false) ++ drop k (take prec (planes_held size (map words planes)))) ≡ replicate k false ++ code_from 0 (drop k (take prec (planes_held size (map words planes))))
     zeros_first k = ⊎_elim (λ (none : k ≡ 0). rw none refl) (λ (size_some : 0 < size). zero_code k size (drop k (take prec (planes_held size (map words planes)))) size_some)
 
-pub write_reserved-requires-clause-fits : goal.write_reserved-requires-clause-fits
-write_reserved-requires-clause-fits g c = grind (arith, remains_all, length-replicate)
+pub write_zeros_reserved-requires : goal.write_zeros_reserved-requires
+write_zeros_reserved-requires g c = grind (arith, remains_all, length-replicate)
 
 -- behind the zeros of the first k planes the code of the others remains
 zeros_written : {A : Type 0} {new : Writer} (out : Writer) (words : A → List ℕ) (count budget prec size k bits : ℕ) (planes : List A) → ((plane : A) → length (words plane) ≡ count) → size ≤ 64 * count → prec ≤ length planes
     → min budget (size * prec + size) ≤ out.room → (k ≡ 0) ⊎ (0 < size) → k ≤ prec → take k (planes_held size (map words planes)) ≡ replicate k (replicate size false)
-    → bits ≡ min budget k → Appends out new (field bits 0)
+    → bits ≡ min budget k → Appends out new (replicate bits false)
     → Remains out new budget (budget - bits) (code (take prec (planes_held size (map words planes)))) (code_from 0 (drop k (take prec (planes_held size (map words planes)))))
 zeros_written out words count budget prec size k bits planes long enough in_planes room some within zeros is written =
     let remains = remains_all out words count budget prec size k planes long enough in_planes room some within zeros in
-    let appends = Appends-same written (field-zero bits ∙ ap (λ n. replicate n false) is ∙ sym (take_zeros budget k)) in
+    let appends = Appends-same written (ap (λ n. replicate n false) is ∙ sym (take_zeros budget k)) in
     let spent : budget - length (replicate k false) ≡ budget - bits = omega (arith, is, length-replicate k false) in
     rw spent at (Remains-more (replicate k false) _ remains appends)
 
-begun : (g : Over) (c : After-write_reserved g)
-    → Remains c.args.out.now c.write_reserved.new.self c.args.budget (c.args.budget - c.min-count.result) (code (take c.args.prec (planes_held c.args.size (map g.P.Plane.words c.args.planes.now))))
+begun : (g : Over) (c : After-write_zeros_reserved g)
+    → Remains c.args.out.now c.write_zeros_reserved.new.self c.args.budget (c.args.budget - c.min-count.result) (code (take c.args.prec (planes_held c.args.size (map g.P.Plane.words c.args.planes.now))))
     (code_from 0 (drop c.args.zeros (take c.args.prec (planes_held c.args.size (map g.P.Plane.words c.args.planes.now)))))
 begun g c =
     let k = c.args.zeros in
     let zeros = c.requires in
     let count : c.min-count.result ≡ min c.args.budget k = omega (arith, c.min-count.ensures, c.from.ensures) in
     zeros_written c.args.out.now g.P.Plane.words _ c.args.budget c.args.prec c.args.size k c.min-count.result c.args.planes.now g.met.P.Plane.long c.requires.words c.requires.planes c.requires.fits
-    zeros.some zeros.within zeros.zeros count c.write_reserved.ensures.bits
+    zeros.some zeros.within zeros.zeros count c.write_zeros_reserved.ensures.bits
 
 pub loop-i-init : goal.loop-i-init
 loop-i-init g c = record { remains = begun g c.before.before; above = omega arith }

@@ -11,4 +11,4 @@ returns g c =
     let planes = planes_of width (digits_in width c.args.digits.now) in
     let whole : take width planes ≡ planes = take_all width planes (omega (arith, length-planes_of width (digits_in width c.args.digits.now))) in
     let left : c.from-bits.result - c.write_four-used.result ≡ c.from-bits.result - length (code (take width planes)) = omega (arith, c.write_four-used.ensures.count) in
-    Appends-same (Appends-append c.write_four-used.ensures.bits c.write_zeros.ensures) (search (rules, first_bits-take))
+    Appends-same (Appends-append c.write_four-used.ensures.bits c.write_zeros_reserved.ensures.bits) (search (rules, first_bits-take))
