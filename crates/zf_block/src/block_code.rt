@@ -27,6 +27,10 @@ pub(crate) trait BlockCode<T: Lane> {
     // The code of planes.
     ghost code_of: { Self → List (List Bool) → List Bool };
 
+    // The coefficients of a block of zeros are zeros.
+    ghost keeps_zeros: { (d : ℕ) → IsDimension d
+        → forth d (replicate (4 ^ d) (pos 0)) ≡ pos 0 ∷ replicate (4 ^ d - 1) (pos 0) };
+
     // As many bits as the longest code has, of planes of this size.
     ghost longest: { Self → ℕ → ℕ };
 
@@ -131,9 +135,9 @@ pub(crate) trait BlockCode<T: Lane> {
         ensures planes { IfSome result (λ u. HoldsAbove size (planes_at self.now size)
             (planes_of T.WIDTH (digits_in T.WIDTH (u ∷ replicate (size - 1) 0))) (rest reader.old)) };
 
-    /// Appends the code of a block of zeros in room that is there already.
-    fn write_zero_block(&self, size: usize, out: &mut BitWriter)
+    /// How many bits the code of a block of zeros has, all of which are zero.
+    fn len_of_zeros(&self, size: usize) -> u64
         requires size { IsBlockSize size }
-        requires fits { longest self.now size ≤ out.old.room }
-        ensures { Appends out.old out.new (code_of self.now (replicate T.WIDTH (replicate size false))) };
+        ensures code { code_of self.now (replicate T.WIDTH (replicate size false)) ≡ replicate result false }
+        ensures fits { result ≤ longest self.now size };
 }

@@ -1,6 +1,7 @@
 //! The one way from a block to its code and back, whichever code it is.
 
-ghost use Rattle.std.specs.Prelude.{◌≡◌, ◌≤◌, ◌^◌, IsTrue, false, map, length, replicate};
+ghost use Rattle.std.specs.Prelude.{◌≡◌, ◌≤◌, ◌^◌, IsTrue, false, pos, map, length, replicate};
+ghost use Rattle.zf_spec.specs.Grid.{IsDimension};
 ghost use Rattle.zf_spec.specs.Codes as codes;
 ghost use Rattle.zf_bits.specs.Writer.{Appends};
 ghost use Rattle.zf_spec.specs.Padding.{pad};
@@ -12,7 +13,7 @@ ghost use Rattle.zf_block.specs.Decoding.{Decodes, StandsFor};
 use crate::Scratch;
 use crate::block_code::BlockCode;
 use crate::coefficients::{from_digits, from_planes, is_all, to_digits, to_planes_of_first};
-use zf_base::{Extent, Lane};
+use zf_base::{Extent, Lane, block_len};
 use zf_bits::{BitReader, BitWriter, Plane};
 
 /// Appends the code of a block in room that is there already. The block is padded, and becomes anything.
@@ -31,8 +32,8 @@ pub(crate) fn encode<C: BlockCode<T>, T: Lane>(
         (C.code_of code.now (codes.planes T.width d (C.forth d (map T.value block.old)))) }
     ensures scratch { s.new ≡ s.old }
 {
-    if is_zero::<C, T>(d, block) {
-        code.write_zero_block(block.len(), out);
+    if is_all(T::zero(), block) {
+        out.write_zeros_reserved(code.len_of_zeros(block.len()));
     } else if d == 1 {
         write_row(code, &mut block[..4], out);
     } else {
@@ -164,14 +165,15 @@ fn write_block<C: BlockCode<T>, T: Lane, P: Plane>(
     code.write(block.len(), digits, planes, out);
 }
 
-/// Whether a block is all zeros, as where a field is empty, and its coefficients are too.
+/// How many bits the code of a block of zeros has, as where a field is empty. All are zero.
 #[inline(always)]
-fn is_zero<C: BlockCode<T>, T: Lane>(d: u8, block: &[T]) -> bool
-    requires block { IsBlockOf d block.now }
-    ensures { IsTrue result → codes.planes T.width d (C.forth d (map T.value block.now))
-        ≡ replicate T.WIDTH (replicate (4 ^ d) false) }
+pub(crate) fn len_of_zeros<C: BlockCode<T>, T: Lane>(code: &C, d: u8) -> u64
+    requires { IsDimension d }
+    ensures code { C.code_of code.now (codes.planes T.width d (C.forth d (replicate (4 ^ d) (pos 0))))
+        ≡ replicate result false }
+    ensures fits { result ≤ C.longest code.now (4 ^ d) }
 {
-    is_all(T::zero(), block) && C::keeps_first(T::zero())
+    code.len_of_zeros(block_len(d))
 }
 
 /// Appends the code of a block where it is seen that the upper planes alone have it, and says so. Else it

@@ -1,19 +1,20 @@
 //! The code of a block at a fixed precision: its top planes are kept whole, and its values come back rounded.
 
 ghost use Rattle.std.specs.Prelude.{◌≡◌, ◌≤◌, ◌<◌, ◌+◌, ◌*◌, ◌^◌, min, map, length, take, OnOk, OnErr};
-ghost use Rattle.std.specs.Prelude.{IfNone, OnSome};
+ghost use Rattle.std.specs.Prelude.{IfNone, OnSome, false, pos, replicate};
 ghost use Rattle.zf_spec.specs.Grid.{IsDimension, fours};
 ghost use Rattle.zf_spec.specs.Codes as codes;
 ghost use Rattle.zf_spec.specs.Lift.{lift, unlift};
 ghost use Rattle.zf_spec.specs.Planes.{code};
 ghost use Rattle.zf_base.specs.Positions.{used_axes, IsExtent};
 ghost use Rattle.zf_bits.specs.Writer.{Appends};
+ghost use Rattle.zf_lift.proofs.FirstAlone.{lift-zeros};
 ghost use Rattle.zf_block.specs.Room.{longest_prec};
 ghost use Rattle.zf_block.specs.ReadBlocks.{ReadsPrec, LacksPrec, prec_planes, prec_len};
 
 use crate::Scratch;
 use crate::block_code::BlockCode;
-use crate::codec::{decode, encode, encode_part};
+use crate::codec::{decode, encode, encode_part, len_of_zeros};
 use crate::first_code::first_code;
 use crate::uncut::{read_uncut, read_uncut_four, write_uncut, write_uncut_four, zeros_above};
 use crate::zero_block::are_zeros;
@@ -75,6 +76,17 @@ pub fn encode_prec_padded<T: Lane>(
     Ok(())
 }
 
+/// How many bits the code of a block of zeros of `d` dimensions has at this precision: one a plane. All are
+/// zero.
+#[inline(always)]
+pub fn prec_len_of_zeros<T: Lane>(d: u8, prec: u32) -> u64
+    requires { IsDimension d }
+    ensures code { codes.prec T.width prec (fours d) (replicate (4 ^ d) (pos 0)) ≡ replicate result false }
+    ensures fits { result ≤ longest_prec T.WIDTH d }
+{
+    len_of_zeros::<Precision, T>(&Precision { prec }, d)
+}
+
 /// Reads the code of a block of `prec` planes, or of all where its type has fewer. `None` means that the bits
 /// end before the code does; then the reader stands where it stood, and the block holds anything.
 ///
@@ -108,6 +120,8 @@ impl<T: Lane> BlockCode<T> for Precision {
     ghost back = { λ d block. unlift T.width d block };
 
     ghost code_of = { λ self planes. code (take (min self.prec T.WIDTH) planes) };
+
+    ghost keeps_zeros = { λ d dims. lift-zeros T.width d };
 
     ghost longest = { λ self size. size * (T.WIDTH + 1) };
 
@@ -179,7 +193,7 @@ impl<T: Lane> BlockCode<T> for Precision {
         Some(first.digits << (width - prec))
     }
 
-    fn write_zero_block(&self, size: usize, out: &mut BitWriter) {
-        out.write_zeros_reserved(u64::from(self.prec.min(T::WIDTH)));
+    fn len_of_zeros(&self, size: usize) -> u64 {
+        u64::from(self.prec.min(T::WIDTH))
     }
 }

@@ -1,6 +1,7 @@
 //! The code of a block at a fixed rate: each block has as many bits, and its values come back rounded.
 
 ghost use Rattle.std.specs.Prelude.{◌≡◌, ◌≤◌, ◌<◌, ◌^◌, map, length, take};
+ghost use Rattle.std.specs.Prelude.{false, pos, replicate};
 ghost use Rattle.zf_spec.specs.Grid.{IsDimension, fours};
 ghost use Rattle.zf_spec.specs.Codes.{rate};
 ghost use Rattle.zf_spec.specs.Lift.{lift, unlift};
@@ -10,11 +11,12 @@ ghost use Rattle.zf_spec.specs.ReadPlanes.{first_bits, planes_in};
 ghost use Rattle.zf_base.specs.Positions.{used_axes, IsExtent};
 ghost use Rattle.zf_bits.specs.Writer.{Appends};
 ghost use Rattle.zf_bits.specs.Reader.{rest};
+ghost use Rattle.zf_lift.proofs.FirstAlone.{lift-zeros};
 ghost use Rattle.zf_block.specs.ReadBlocks.{ReadsRate};
 
 use crate::Scratch;
 use crate::block_code::BlockCode;
-use crate::codec::{decode, encode, encode_part};
+use crate::codec::{decode, encode, encode_part, len_of_zeros};
 use crate::first_code::first_code;
 use crate::upper::{reaches_upper, write_upper};
 use crate::zero_block::are_zeros;
@@ -66,6 +68,17 @@ pub fn encode_rate_padded<T: Lane>(
     encode(&Rate { bits }, d, block, s, out);
 }
 
+/// How many bits the code of a block of zeros of `d` dimensions has at this rate: as many as each. All are
+/// zero.
+#[inline(always)]
+pub fn rate_len_of_zeros<T: Lane>(d: u8, bits: u32) -> u64
+    requires { IsDimension d }
+    ensures code { rate T.width bits (fours d) (replicate (4 ^ d) (pos 0)) ≡ replicate result false }
+    ensures fits { result ≤ bits }
+{
+    len_of_zeros::<Rate, T>(&Rate { bits }, d)
+}
+
 /// Reads the code of a block of `bits` bits, whatever they are.
 ///
 /// `block` gets `4^d` values, x fastest. A code does not tell which of them exist; at places that do not, the
@@ -92,6 +105,8 @@ impl<T: Lane> BlockCode<T> for Rate {
     ghost back = { λ d block. unlift T.width d block };
 
     ghost code_of = { λ self planes. first_bits self.bits (code planes) };
+
+    ghost keeps_zeros = { λ d dims. lift-zeros T.width d };
 
     ghost longest = { λ self size. self.bits };
 
@@ -203,7 +218,7 @@ impl<T: Lane> BlockCode<T> for Rate {
         Some(first.digits)
     }
 
-    fn write_zero_block(&self, size: usize, out: &mut BitWriter) {
-        out.write_zeros_reserved(u64::from(self.bits));
+    fn len_of_zeros(&self, size: usize) -> u64 {
+        u64::from(self.bits)
     }
 }

@@ -1,6 +1,7 @@
 //! The reversible code of a block: its values come back exactly.
 
 ghost use Rattle.std.specs.Prelude.{◌≡◌, ◌≤◌, ◌<◌, ◌+◌, ◌-◌, ◌*◌, ◌^◌, max, map, length, take, OnOk, OnErr};
+ghost use Rattle.std.specs.Prelude.{false, pos, replicate};
 ghost use Rattle.std.specs.Prelude.{IfNone, IfSome, OnSome};
 ghost use Rattle.zf_spec.specs.Grid.{IsDimension, fours};
 ghost use Rattle.zf_spec.specs.Numbers.{field, number};
@@ -13,11 +14,12 @@ ghost use Rattle.zf_bits.specs.Writer.{Appends};
 ghost use Rattle.zf_bits.specs.Reader.{rest, Reads};
 ghost use Rattle.zf_block.specs.Decoding.{LacksBits};
 ghost use Rattle.zf_block.specs.Room.{longest_rev};
+ghost use Rattle.zf_lorenzo.proofs.FirstAlone.{lorenzo-zeros};
 ghost use Rattle.zf_block.specs.ReadBlocks.{ReadsRev, LacksRev, rev_planes, rev_len};
 
 use crate::Scratch;
 use crate::block_code::BlockCode;
-use crate::codec::{decode, encode, encode_part};
+use crate::codec::{decode, encode, encode_part, len_of_zeros};
 use crate::first_code::first_code;
 use crate::uncut::{read_uncut, read_uncut_four, write_uncut, write_uncut_four, zeros_above};
 use crate::zero_block::are_zeros;
@@ -76,6 +78,16 @@ pub fn encode_rev_padded<T: Lane>(
     Ok(())
 }
 
+/// How many bits the reversible code of a block of zeros of `d` dimensions has. All are zero.
+#[inline(always)]
+pub fn rev_len_of_zeros<T: Lane>(d: u8) -> u64
+    requires { IsDimension d }
+    ensures code { rev T.width (fours d) (replicate (4 ^ d) (pos 0)) ≡ replicate result false }
+    ensures fits { result ≤ longest_rev T.WIDTH d }
+{
+    len_of_zeros::<Reversible, T>(&Reversible, d)
+}
+
 /// Reads the reversible code of a block. `None` means that the bits end before the code does; then the reader
 /// stands where it stood, and the block holds anything.
 ///
@@ -102,6 +114,8 @@ impl<T: Lane> BlockCode<T> for Reversible {
     ghost back = { λ d block. unlorenzo T.width d block };
 
     ghost code_of = { λ self planes. rev_of_planes T.width planes };
+
+    ghost keeps_zeros = { λ d dims. lorenzo-zeros T.width d dims };
 
     ghost longest = { λ self size. 6 + size * (T.WIDTH + 1) };
 
@@ -191,8 +205,9 @@ impl<T: Lane> BlockCode<T> for Reversible {
         Some(first.digits << (T::WIDTH - prec))
     }
 
-    fn write_zero_block(&self, size: usize, out: &mut BitWriter) {
-        out.write_zeros_reserved(u64::from(count_bits::<T>() + 1));
+    // The count of planes less one, and the bit of one plane.
+    fn len_of_zeros(&self, size: usize) -> u64 {
+        u64::from(count_bits::<T>() + 1)
     }
 }
 

@@ -10,3 +10,5 @@ mod planes;
 mod planes_of_four;
 #[cfg(test)]
 mod support;
+#[cfg(test)]
+mod zeros;

@@ -224,6 +224,26 @@ fn writes_a_header_and_fills_the_word(rt: HostRuntime) -> Result<(), Fail> {
     Ok(())
 }
 
+static AROUND_ZEROS: [u64; 3] = [1, 0, 1 << 13];
+
+// Zeros behind a one, up to a place in the third word, and a one behind them.
+fn zeros_are_written(writer: &mut BitWriter) -> Result<bool, AllocError> {
+    writer.write(1, 1)?;
+    writer.reserve(192)?;
+    writer.write_zeros_reserved(140);
+    writer.write_bit_reserved(true);
+    Ok(writer.len() == 142 && writer.words() == AROUND_ZEROS.as_slice())
+}
+
+#[test]
+fn writes_zeros_over_words(rt: HostRuntime) -> Result<(), Fail> {
+    let mut writer = BitWriter::new(rt.alloc());
+    let written = zeros_are_written(&mut writer);
+    drop(writer);
+    assert!(rt; written?);
+    Ok(())
+}
+
 static OVER_TWO_WORDS: [u64; 2] = [0x8000_0000_0000_0000, 0x4000_0000_0000_0000];
 
 fn two_words_are_written(writer: &mut BitWriter) -> Result<bool, AllocError> {

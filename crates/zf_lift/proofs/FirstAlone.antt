@@ -1,9 +1,10 @@
 -- A line of which all coefficients but the first are zero: it becomes four values that are the first.
-use Rattle.std.proofs.Common.{◌≡◌, refl, sym, ap, ◌∙◌, ℤ, pos, ◌+ℤ◌, ◌-ℤ◌, ◌*ℤ◌, [], ◌∷◌, FitsSigned, arith, rules}
+use Rattle.std.proofs.Common.{◌≡◌, refl, sym, ap, ◌∙◌, ℤ, pos, ℕ, ◌+ℤ◌, ◌-ℤ◌, ◌*ℤ◌, ◌-◌, ◌^◌, [], ◌∷◌, replicate, FitsSigned, arith, rules}
 use Rattle.std.{proofs.lemmas.Int.{ints}, specs.Int.{Width}}
 use mir.Val.{bits}
-use Rattle.zf_spec.{specs.Numbers.{wrap, half, IsSameModulo}, specs.Lift.{lift_line, unlift_line}}
+use Rattle.zf_spec.{specs.Numbers.{wrap, half, floor_half, IsSameModulo}, specs.Lift.{lift_line, unlift_line, lift}}
 use Rattle.zf_spec.proofs.Wrapping.{wrap_value, wrap_only, wrap_is_same, zero_fits, same_modulo_sym}
+use Rattle.zf_axes.proofs.FirstAlone.{passes-first}
 
 -- twice a value less the value is the value, wrapped or not
 twice_less : (w : Width) (v : ℤ) → FitsSigned w v → wrap w (wrap w (pos 2 *ℤ v) -ℤ v) ≡ v
@@ -25,3 +26,10 @@ unlift_line-first w v fits =
 pub lift_line-same : (w : Width) (v : ℤ) → half w (v +ℤ v) ≡ v → lift_line w v v v v ≡ v ∷ pos 0 ∷ pos 0 ∷ pos 0 ∷ []
 lift_line-same w v twice =
     let zero = wrap_value w (pos 0) (zero_fits w) in search rules
+
+-- and so the coefficients of zeros are zeros
+pub lift-zeros : (w : Width) (d : ℕ) → lift w d (replicate (4 ^ d) (pos 0)) ≡ pos 0 ∷ replicate (4 ^ d - 1) (pos 0)
+lift-zeros w d =
+    let none : half w (pos 0 +ℤ pos 0) ≡ pos 0 = ap floor_half (wrap_value w (pos 0) (zero_fits w)) in
+    let line = lift_line-same w (pos 0) none in
+    passes-first (lift_line w) (pos 0) d line line

@@ -2,7 +2,7 @@
 use Rattle.std.proofs.Common.{rules, ◌≡◌, refl, sym, ap, ◌∙◌, ℕ, zero, suc, ◌-◌, ◌/◌, ◌^◌, ◌≤◌, ℤ, pos, ◌+ℤ◌, ◌*ℤ◌, [], ◌∷◌, replicate, FitsSigned, arith}
 use Rattle.std.{proofs.lemmas.Int.{ints}, proofs.lemmas.List.{length-replicate, get_or-replicate}}
 use Rattle.std.{proofs.Math.IntN.{*ℤ-zero, +ℤ_idl, *ℤ_comm, *ℤ-one}, specs.Int.{Width}}
-use Rattle.zf_spec.{specs.Numbers.{wrap}, proofs.Counting.{from_places}}
+use Rattle.zf_spec.{specs.Numbers.{wrap}, specs.Grid.{IsDimension}, proofs.Counting.{from_places}}
 use Rattle.zf_spec.specs.Lorenzo.{weight, weighted_sum, plain_choose, signed_choose, lorenzo, unlorenzo}
 use Rattle.zf_spec.proofs.Wrapping.{wrap_value, zero_fits}
 use Rattle.zf_axes.proofs.FirstAlone.{passes-first}
@@ -43,3 +43,7 @@ unfolding lorenzo
 lorenzo-same w d v some fits =
     sym (along_axes-sums w signed_choose d (replicate (4 ^ d) v) some (length-replicate (4 ^ d) v))
     ∙ passes-first (line_sums w signed_choose) v d (differences_of_same w v fits) (differences_of_same w (pos 0) (zero_fits w))
+
+-- and so the coefficients of zeros are zeros
+pub lorenzo-zeros : (w : Width) (d : ℕ) → IsDimension d → lorenzo w d (replicate (4 ^ d) (pos 0)) ≡ pos 0 ∷ replicate (4 ^ d - 1) (pos 0)
+lorenzo-zeros w d dims = lorenzo-same w d (pos 0) dims.0 (zero_fits w)

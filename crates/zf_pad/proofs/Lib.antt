@@ -8,6 +8,7 @@ pub mod Blocks
 pub mod Slabs
 pub mod FirstRow
 pub mod Lines
+pub mod Rows
 pub mod Stored
 pub mod Appended
 pub mod StoredLines

@@ -1,7 +1,8 @@
 //! Block b of an array, out of its raw values.
 
 ghost use Rattle.std.specs.Prelude.{◌≡◌, ◌<◌, ◌≤◌, ◌+◌, ◌-◌, ◌*◌, ◌^◌, ◌++◌, min, slice_index_or, length, map, take, drop};
-ghost use Rattle.zf_spec.specs.Grid.{product, grid, blocks, coordinates, extent_of, block_of};
+ghost use Rattle.std.specs.Prelude.{IsTrue, pos, replicate};
+ghost use Rattle.zf_spec.specs.Grid.{product, grid, blocks, coordinates, extent_of, block_of, fours};
 ghost use Rattle.zf_spec.specs.Codes.{existing_values};
 ghost use Rattle.zf_spec.specs.Padding.{pad};
 ghost use Rattle.zf_base.specs.Positions.{used_axes, with_unused, IsExtent};
@@ -46,6 +47,37 @@ pub fn gather_block<T: Lane>(
     gather(layout, &part, shape.dims(), values, block);
     pad(&part, shape.dims(), block);
     e
+}
+
+/// Whether it is seen that block `b` is whole, of one dimension, and all zeros, without a copy of it.
+///
+/// `values` are all of the array's, and `b` is below the number of blocks.
+#[inline(always)]
+pub fn is_row_of_zeros<T: Lane>(shape: &Shape, b: u64, values: &[T]) -> bool
+    requires in_array { b < blocks shape.now }
+    requires all { length values.now ≡ product shape.now }
+    ensures whole { IsTrue result → extent_of shape.now b ≡ fours (length shape.now) }
+    ensures zeros { IsTrue result → block_of shape.now (map T.value values.now) b
+        ≡ replicate (4 ^ length shape.now) (pos 0) }
+{
+    if shape.dims() != 1 {
+        return false;
+    }
+    b < shape.size(0) / 4 && are_zeros(values, (4 * b) as usize)
+}
+
+/// Whether the four values from `first` on are zeros. All are read before any is looked at, so that they are
+/// looked at together.
+#[inline(always)]
+fn are_zeros<T: Lane>(values: &[T], first: usize) -> bool
+    requires within { first + 4 ≤ length values.now }
+    ensures { IsTrue result → map T.value (take 4 (drop first values.now)) ≡ replicate 4 (pos 0) }
+{
+    let a = values[first];
+    let b = values[first + 1];
+    let c = values[first + 2];
+    let d = values[first + 3];
+    a == T::zero() && b == T::zero() && c == T::zero() && d == T::zero()
 }
 
 /// Copies the four values from `first` on, which are a whole block of one dimension.

@@ -9,7 +9,7 @@ mod layout;
 mod padding;
 mod storing;
 
-pub use array_block::gather_block;
+pub use array_block::{gather_block, is_row_of_zeros};
 pub use copies::{gather, scatter};
 pub use layout::Layout;
 pub use padding::pad;

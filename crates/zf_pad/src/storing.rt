@@ -32,7 +32,7 @@ pub fn has_whole_blocks(shape: &Shape) -> bool
 ///
 /// `block` has `4^d` values, x fastest; those at places that do not exist are not looked at. The room was
 /// taken before, so there is no want of memory.
-#[inline]
+#[inline(always)]
 pub fn append_block<T: Lane>(shape: &Shape, whole: bool, b: u64, block: &[T], stored: &mut Vec<T>)
     requires known { whole ≡ true → HasWholeBlocks shape.now }
     requires in_array { b < blocks shape.now }
@@ -56,7 +56,7 @@ pub fn append_block<T: Lane>(shape: &Shape, whole: bool, b: u64, block: &[T], st
 }
 
 // Appends all values of a block.
-#[inline]
+#[inline(always)]
 fn append_whole<T: Lane>(d: u8, block: &[T], stored: &mut Vec<T>)
     requires whole { length block.now ≡ 4 ^ d }
     requires room { vec_len stored.old + length block.now ≤ vec_capacity stored.old }
@@ -72,7 +72,7 @@ fn append_whole<T: Lane>(d: u8, block: &[T], stored: &mut Vec<T>)
 }
 
 // Appends values to a list that has room for them.
-#[inline]
+#[inline(always)]
 fn append<T: Lane>(values: &[T], stored: &mut Vec<T>)
     requires room { vec_len stored.old + length values.now ≤ vec_capacity stored.old }
     ensures items { stored.new.items ≡ stored.old.items ++ values.now }

@@ -1,6 +1,7 @@
 //! The codes of blocks on their way to a sink.
 
 ghost use Rattle.std.specs.Prelude.{◌≡◌, ◌≤◌, ◌<◌, ◌^◌, ◌+◌, ◌++◌, ◌≢◌, map, length, Err, IfErr, OnOk, OnErr};
+ghost use Rattle.std.specs.Prelude.{false, pos, replicate};
 ghost use Rattle.std.specs.List.{flat_map};
 ghost use Rattle.zf_spec.specs.Grid.{product, blocks, extent_of, block_of, fours};
 ghost use Rattle.zf_spec.specs.Stream.{block_code};
@@ -50,11 +51,27 @@ pub(crate) fn write_codes<T: Lane, O: Sink>(
     ensures keeps { Keeps room.old room.new }
     ensures sink { WritesOnly O.Sink result out.old out.new }
 {
+    let zeros = len_of_zeros::<T>(h);
     for b in 0..h.shape.blocks() {
-        write_code(layout, h, values, b, room);
+        write_code(layout, h, values, b, zeros, room);
         write_where_many(room, out)?;
     }
     Ok(())
+}
+
+/// How many bits the code of a whole block of zeros has. All are zero.
+fn len_of_zeros<T: Lane>(h: &Header) -> u64
+    requires same_type { T.width ≡ width_of h.now.ty }
+    ensures code { block_code T.width (coding h.now.mode) (fours (length h.now.shape))
+        (replicate (4 ^ length h.now.shape) (pos 0)) ≡ replicate result false }
+    ensures fits { result ≤ longest_code h.now }
+{
+    let d = h.shape.dims();
+    match h.mode {
+        Mode::Reversible => zf_block::rev_len_of_zeros::<T>(d),
+        Mode::Rate(bits) => zf_block::rate_len_of_zeros::<T>(d, bits),
+        Mode::Precision(prec) => zf_block::prec_len_of_zeros::<T>(d, prec),
+    }
 }
 
 /// Writes the whole words of codes where as many bits are at hand as the room keeps back.
@@ -72,19 +89,34 @@ fn write_where_many<T: Lane, O: Sink>(room: &mut Room<T>, out: &mut O) -> Result
     write_whole_words(&mut room.codes, &mut room.piece, out)
 }
 
-/// Appends the code of block `b`, whose values are gathered in the room.
+/// Appends the code of block `b`, whose values are gathered in the room. Of a whole block of zeros it has
+/// `zeros` bits; those of one dimension, which are small, are seen without more ado.
 #[inline(always)]
-fn write_code<T: Lane>(layout: &Layout, h: &Header, values: &[T], b: u64, room: &mut Room<T>)
+fn write_code<T: Lane>(
+    layout: &Layout,
+    h: &Header,
+    values: &[T],
+    b: u64,
+    zeros: u64,
+    room: &mut Room<T>,
+)
     requires same_type { T.width ≡ width_of h.now.ty }
     requires raster { IsRaster h.now.shape layout.now }
     requires all { length values.now ≡ product h.now.shape }
     requires in_array { b < blocks h.now.shape }
+    requires zeros { block_code T.width (coding h.now.mode) (fours (length h.now.shape))
+        (replicate (4 ^ length h.now.shape) (pos 0)) ≡ replicate zeros false }
+    requires few { zeros ≤ longest_code h.now }
     requires scratch { room.old.scratch ≡ length h.now.shape }
     requires fits { longest_code h.now ≤ room.old.codes.room }
     ensures code { Appends room.old.codes room.new.codes (block_code T.width (coding h.now.mode)
         (extent_of h.now.shape b) (block_of h.now.shape (map T.value values.now) b)) }
     ensures keeps { Keeps room.old room.new }
 {
+    if zf_pad::is_row_of_zeros(&h.shape, b, values) {
+        room.codes.write_zeros_reserved(zeros);
+        return;
+    }
     // Known by this call: there are one to four dimensions.
     let _dims = h.shape.dims();
     let _part = zf_pad::gather_block(layout, &h.shape, b, values, &mut room.block);

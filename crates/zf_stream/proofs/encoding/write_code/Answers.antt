@@ -1,4 +1,4 @@
-use Rattle.std.{proofs.lemmas.Grind.{common_steps}, proofs.Common.{rules, ◌≡◌, length, map, ap, sym, ◌∙◌, arith}}
+use Rattle.std.{proofs.lemmas.Grind.{common_steps}, proofs.Common.{rules, ◌≡◌, ◌^◌, pos, length, map, replicate, ap, sym, ◌∙◌, arith}}
 use Rattle.std.proofs.lemmas.List.{with_items_is, places}
 use Rattle.zf_spec.{specs.Grid.{fours, extent_of, block_of}, specs.Padding.{pad}, specs.Stream.{block_code}}
 use Rattle.zf_bits.proofs.Appending.{Appends-same}
@@ -23,6 +23,17 @@ returns-clause-code g c =
     ∙ ap (block_code w mode (fours (length ns))) c.gather_block-part.ensures.padded
     ∙ ap (λ d. block_code w mode (fours d) (pad es (block_of ns (map value c.args.values.now) c.args.b))) (sym (length-extent_of ns c.args.b))
     ∙ code_of_padded w mode es (block_of ns (map value c.args.values.now) c.args.b))
+
+pub returns-then-is_row_of_zeros-clause-code : goal.returns-then-is_row_of_zeros-clause-code
+returns-then-is_row_of_zeros-clause-code g c =
+    let w = g.T.Lane.width in
+    let mode = coding c.args.h.now.mode in
+    let d = length c.args.h.now.shape in
+    let zeros = c.is_row_of_zeros.ensures in
+    Appends-same c.write_zeros_reserved.ensures.bits
+    (sym (ap (block_code w mode (extent_of c.args.h.now.shape c.args.b)) (zeros.zeros c.if-is_row_of_zeros.true)
+    ∙ ap (λ es. block_code w mode es (replicate (4 ^ d) (pos 0))) (zeros.whole c.if-is_row_of_zeros.true)
+    ∙ c.requires.zeros))
 
 pub returns-clause-keeps : goal.returns-clause-keeps
 returns-clause-keeps g c = grind (arith, common_steps)
