@@ -29,17 +29,11 @@ pub(crate) fn put_values<T: Lane>(bytes: &[u8], values: &mut [T])
 }
 
 /// The value that has these bytes, the least significant first.
-#[inline(always)]
 fn value_of<T: Lane>(bytes: &[u8]) -> T
     requires { length bytes.now ≡ byte_len T.width }
     ensures { T.value result ≡ cast_signed T.width (from_le_bytes T.width bytes.now) }
 {
-    // Their number is said, so that they are read in one step.
-    if bytes.len() == 8 {
-        T::from_word(word_of(&bytes[..8]))
-    } else {
-        T::from_word(word_of(&bytes[..4]))
-    }
+    T::from_word(word_of(bytes))
 }
 
 /// Makes raw bytes of values.
