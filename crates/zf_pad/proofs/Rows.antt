@@ -1,6 +1,6 @@
 -- Whole blocks of arrays of one dimension, by their number: four values beside one another.
-use Rattle.std.proofs.Common.{rules, ◌≡◌, ℕ, ◌*◌, ◌+◌, ◌-◌, ◌/◌, ◌<◌, ◌≤◌, ◌^◌, min, pos, ℤ, List, [], ◌∷◌, get_or, length, map, take, drop, replicate, refl, ap, sym, subst, ◌∙◌, arith}
-use Rattle.zf_spec.{specs.Grid.{fours, grid, blocks, coordinates, extent_of, block_of, product, IsShape}, specs.Codes.{existing_values}}
+use Rattle.std.proofs.Common.{◌≡◌, ℕ, ◌*◌, ◌+◌, ◌<◌, ◌≤◌, ◌^◌, pos, ℤ, List, [], ◌∷◌, get_or, length, take, drop, replicate, refl, ap, sym, subst, ◌∙◌, arith}
+use Rattle.zf_spec.{specs.Grid.{fours, blocks, extent_of, block_of, IsShape}, specs.Codes.{existing_values}}
 use Rattle.zf_base.{specs.Positions.{used_axes, with_unused, IsExtent}, proofs.Extents.{used_size, IsExtent-of_block}}
 use Rattle.zf_base.specs.declared.{position.Pos.{Pos}, position.Extent.{Extent}}
 use Rattle.zf_pad.{specs.declared.layout.Layout.{Layout}, specs.Rasters.{IsRasterBlock}}

@@ -1,4 +1,4 @@
-use Rattle.std.proofs.Common.{◌≡◌, ◌*◌, ◌+◌, ◌≤◌, get_or, length, map, take, drop, ap, sym, ◌∙◌, arith}
+use Rattle.std.proofs.Common.{◌≡◌, ◌*◌, ◌+◌, ◌≤◌, get_or, length, map, take, drop, ap, ◌∙◌, arith}
 use Rattle.std.proofs.lemmas.List.{take-map, drop-map}
 use Rattle.zf_pad.proofs.Rows.{row_zeros}
 use Rattle.zf_pad.proofs.array_block.is_row_of_zeros.Goals as goal

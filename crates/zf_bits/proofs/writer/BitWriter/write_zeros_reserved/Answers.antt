@@ -1,4 +1,4 @@
-use Rattle.std.proofs.Common.{◌≡◌, ℕ, ◌≤◌, ap, ◌∙◌, arith, rules}
+use Rattle.std.proofs.Common.{◌≡◌, ap, arith, rules}
 use Rattle.std.proofs.lemmas.List.{length-replicate}
 use Rattle.zf_bits.{specs.Writer.{Writer, room}, proofs.Written.{IsWritten-zeros, bits-zeros}}
 use Rattle.zf_bits.proofs.writer.BitWriter.write_zeros_reserved.Goals as goal
