@@ -1,8 +1,7 @@
 -- Lists of zeros, and lists that are continued with zeros.
-use Rattle.std.proofs.Common.{rules, ◌≡◌, refl, sym, ap, ◌∙◌, ℕ, zero, suc, ◌+◌, ◌-◌, ◌≤◌, Bool, false, List, [], ◌∷◌, ◌++◌, length, take, replicate, arith}
-use Rattle.std.proofs.lemmas.List.{replicate-append-replicate, take-take, take-replicate}
-use Rattle.zf_spec.{specs.Numbers.{field}, specs.ReadPlanes.{first_bits}, proofs.Fields.{field-zero}}
-use Rattle.zf_bits.{specs.Writer.{Writer, Appends}, proofs.Appending.{Appends-append, Appends-same}}
+use Rattle.std.proofs.Common.{◌≡◌, refl, sym, ap, ◌∙◌, ℕ, zero, suc, ◌-◌, ◌≤◌, Bool, false, List, [], ◌∷◌, ◌++◌, length, take, replicate, arith}
+use Rattle.std.proofs.lemmas.List.{take-take, take-replicate}
+use Rattle.zf_spec.{specs.ReadPlanes.{first_bits}}
 
 -- fewer than those that are known to be alike are alike
 pub alike_fewer : {A : Type 0} (m n : ℕ) (x : A) (xs : List A) → m ≤ n → take n xs ≡ replicate n x → take m xs ≡ replicate m x

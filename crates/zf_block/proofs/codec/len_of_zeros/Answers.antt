@@ -1,4 +1,4 @@
-use Rattle.std.proofs.Common.{◌≡◌, ◌^◌, false, map, replicate, ap, sym, ◌∙◌}
+use Rattle.std.proofs.Common.{◌^◌, false, replicate, ap, sym, ◌∙◌}
 use Rattle.zf_spec.specs.Codes.{planes}
 use Rattle.zf_block.{proofs.Sizes.{block_sizes}, proofs.ZeroPlanes.{planes-zeros}}
 use Rattle.zf_block.proofs.codec.len_of_zeros.Goals as goal

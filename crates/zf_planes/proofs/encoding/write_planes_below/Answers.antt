@@ -1,7 +1,7 @@
 use Rattle.std.proofs.Common.{rules, ◌≡◌, ℕ, ◌+◌, ◌-◌, ◌*◌, ◌<◌, ◌≤◌, ◌⊎◌, ⊎_elim, min, max, Bool, false, List, [], ◌++◌, length, map, take, drop, get_or, replicate, refl, sym, ap, ◌∙◌, arith}
 use Rattle.std.proofs.lemmas.List.{append-nil, drop_all, length-map, take-take, take-append-drop, length-replicate}
-use Rattle.zf_spec.{specs.Planes.{code, code_from, plane_code, reach}, specs.Numbers.{field}}
-use Rattle.zf_spec.{specs.HeldPlanes.{planes_held, digits_held}, proofs.Fields.{field-zero}}
+use Rattle.zf_spec.{specs.Planes.{code, code_from, plane_code, reach}}
+use Rattle.zf_spec.{specs.HeldPlanes.{planes_held, digits_held}}
 use Rattle.zf_bits.{specs.Writer.{Writer, Appends}, proofs.Appending.{Appends-same}}
 use Rattle.zf_planes.{specs.Writes.{Remains}, proofs.Lengths.{length-code_words-le}}
 use Rattle.zf_planes.proofs.Budgets.{Remains-start, Remains-same, Remains-fits, Remains-more, Remains-end}
