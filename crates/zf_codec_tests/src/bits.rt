@@ -224,6 +224,15 @@ fn writes_a_header_and_fills_the_word(rt: HostRuntime) -> Result<(), Fail> {
     Ok(())
 }
 
+static OVER_TWO_WORDS: [u64; 2] = [0x8000_0000_0000_0000, 0x4000_0000_0000_0000];
+
+// A field over the end of a word: its lowest bit is the last of the first word.
+fn two_words_are_written(writer: &mut BitWriter) -> Result<bool, AllocError> {
+    writer.write(0, 63)?;
+    writer.write(0x8000_0000_0000_0001, 64)?;
+    Ok(writer.len() == 127 && writer.words() == OVER_TWO_WORDS.as_slice())
+}
+
 static AROUND_ZEROS: [u64; 3] = [1, 0, 1 << 13];
 
 // Zeros behind a one, up to a place in the third word, and a one behind them.
@@ -236,28 +245,12 @@ fn zeros_are_written(writer: &mut BitWriter) -> Result<bool, AllocError> {
 }
 
 #[test]
-fn writes_zeros_over_words(rt: HostRuntime) -> Result<(), Fail> {
+fn writes_over_the_ends_of_words(rt: HostRuntime) -> Result<(), Fail> {
     let mut writer = BitWriter::new(rt.alloc());
-    let written = zeros_are_written(&mut writer);
+    let field = two_words_are_written(&mut writer);
+    writer.clear();
+    let zeros = zeros_are_written(&mut writer);
     drop(writer);
-    assert!(rt; written?);
-    Ok(())
-}
-
-static OVER_TWO_WORDS: [u64; 2] = [0x8000_0000_0000_0000, 0x4000_0000_0000_0000];
-
-fn two_words_are_written(writer: &mut BitWriter) -> Result<bool, AllocError> {
-    writer.write(0, 63)?;
-    writer.write(0x8000_0000_0000_0001, 64)?;
-    Ok(writer.len() == 127 && writer.words() == OVER_TWO_WORDS.as_slice())
-}
-
-// A field over the end of a word: its lowest bit is the last of the first word.
-#[test]
-fn writes_a_field_over_two_words(rt: HostRuntime) -> Result<(), Fail> {
-    let mut writer = BitWriter::new(rt.alloc());
-    let written = two_words_are_written(&mut writer);
-    drop(writer);
-    assert!(rt; written?);
+    assert!(rt; field? && zeros?);
     Ok(())
 }
