@@ -31,6 +31,10 @@ pub(crate) trait BlockCode<T: Lane> {
     ghost keeps_zeros: { (d : ℕ) → IsDimension d
         → forth d (replicate (4 ^ d) (pos 0)) ≡ pos 0 ∷ replicate (4 ^ d - 1) (pos 0) };
 
+    // And the values of zeros are zeros.
+    ghost gives_zeros: { (d : ℕ) → IsDimension d
+        → back d (pos 0 ∷ replicate (4 ^ d - 1) (pos 0)) ≡ replicate (4 ^ d) (pos 0) };
+
     // As many bits as the longest code has, of planes of this size.
     ghost longest: { Self → ℕ → ℕ };
 

@@ -8,7 +8,8 @@ ghost use Rattle.zf_spec.specs.Padding.{pad};
 ghost use Rattle.zf_base.specs.Positions.{used_axes, IsExtent};
 ghost use Rattle.zf_base.specs.WholeBlocks.{IsBlockOf};
 ghost use Rattle.zf_block.specs.Held.{IsHeldSize, IsWorkRoom, AreBlank, HoldPlanes};
-ghost use Rattle.zf_block.specs.Decoding.{Decodes, StandsFor};
+ghost use Rattle.zf_bits.specs.Reader.{rest};
+ghost use Rattle.zf_block.specs.Decoding.{Decodes, PassesCode, StandsFor};
 
 use crate::Scratch;
 use crate::block_code::BlockCode;
@@ -232,6 +233,23 @@ fn write_or_turn<C: BlockCode<T>, T: Lane, P: Plane>(
     }
     zf_coef::planes_of_digits(digits, planes);
     false
+}
+
+/// Passes the code of a block of zeros, where it is seen that one is next, and says so.
+#[inline(always)]
+pub(crate) fn pass_zeros<C: BlockCode<T>, T: Lane>(
+    code: &C,
+    d: u8,
+    reader: &mut BitReader<'_>,
+) -> bool
+    requires { IsDimension d }
+    ensures unread { ¬ IsTrue result → reader.new ≡ reader.old }
+    ensures passes { IsTrue result
+        → PassesCode (C.len_at code.now (4 ^ d) (rest reader.old)) reader.old reader.new }
+    ensures zeros { IsTrue result → StandsFor T.width d (C.back d) (C.planes_at code.now (4 ^ d))
+        (replicate (4 ^ d) (pos 0)) (rest reader.old) }
+{
+    code.pass_zeros(block_len(d), reader)
 }
 
 /// Reads the code of a block, or answers `None` where the bits end before it does.

@@ -17,8 +17,10 @@ mod upper;
 mod whole;
 mod zero_block;
 
-pub use precision::{decode_prec, encode_prec, encode_prec_padded, prec_len_of_zeros};
-pub use rate::{decode_rate, encode_rate, encode_rate_padded, rate_len_of_zeros};
-pub use reversible::{decode_rev, encode_rev, encode_rev_padded, rev_len_of_zeros};
+pub use precision::{
+    decode_prec, encode_prec, encode_prec_padded, pass_prec_zeros, prec_len_of_zeros,
+};
+pub use rate::{decode_rate, encode_rate, encode_rate_padded, pass_rate_zeros, rate_len_of_zeros};
+pub use reversible::{decode_rev, encode_rev, encode_rev_padded, pass_rev_zeros, rev_len_of_zeros};
 pub use scratch::Scratch;
 pub use whole::whole_planes;

@@ -1,20 +1,20 @@
 //! The code of a block at a fixed precision: its top planes are kept whole, and its values come back rounded.
 
 ghost use Rattle.std.specs.Prelude.{◌≡◌, ◌≤◌, ◌<◌, ◌+◌, ◌*◌, ◌^◌, min, map, length, take, OnOk, OnErr};
-ghost use Rattle.std.specs.Prelude.{IfNone, OnSome, false, pos, replicate};
+ghost use Rattle.std.specs.Prelude.{IfNone, OnSome, IsTrue, false, pos, replicate};
 ghost use Rattle.zf_spec.specs.Grid.{IsDimension, fours};
 ghost use Rattle.zf_spec.specs.Codes as codes;
 ghost use Rattle.zf_spec.specs.Lift.{lift, unlift};
 ghost use Rattle.zf_spec.specs.Planes.{code};
 ghost use Rattle.zf_base.specs.Positions.{used_axes, IsExtent};
 ghost use Rattle.zf_bits.specs.Writer.{Appends};
-ghost use Rattle.zf_lift.proofs.FirstAlone.{lift-zeros};
+ghost use Rattle.zf_lift.proofs.FirstAlone.{lift-zeros, unlift-zeros};
 ghost use Rattle.zf_block.specs.Room.{longest_prec};
 ghost use Rattle.zf_block.specs.ReadBlocks.{ReadsPrec, LacksPrec, prec_planes, prec_len};
 
 use crate::Scratch;
 use crate::block_code::BlockCode;
-use crate::codec::{decode, encode, encode_part, len_of_zeros};
+use crate::codec::{decode, encode, encode_part, len_of_zeros, pass_zeros};
 use crate::first_code::first_code;
 use crate::uncut::{read_uncut, read_uncut_four, write_uncut, write_uncut_four, zeros_above};
 use crate::zero_block::are_zeros;
@@ -87,6 +87,18 @@ pub fn prec_len_of_zeros<T: Lane>(d: u8, prec: u32) -> u64
     len_of_zeros::<Precision, T>(&Precision { prec }, d)
 }
 
+/// Passes the code of a block of zeros of `d` dimensions at this precision, where it is seen that one is next,
+/// and says so.
+#[inline(always)]
+pub fn pass_prec_zeros<T: Lane>(d: u8, prec: u32, reader: &mut BitReader<'_>) -> bool
+    requires { IsDimension d }
+    ensures unread { ¬ IsTrue result → reader.new ≡ reader.old }
+    ensures reads { IsTrue result
+        → ReadsPrec T.width d prec reader.old reader.new (replicate (4 ^ d) (pos 0)) }
+{
+    pass_zeros::<Precision, T>(&Precision { prec }, d, reader)
+}
+
 /// Reads the code of a block of `prec` planes, or of all where its type has fewer. `None` means that the bits
 /// end before the code does; then the reader stands where it stood, and the block holds anything.
 ///
@@ -122,6 +134,8 @@ impl<T: Lane> BlockCode<T> for Precision {
     ghost code_of = { λ self planes. code (take (min self.prec T.WIDTH) planes) };
 
     ghost keeps_zeros = { λ d dims. lift-zeros T.width d };
+
+    ghost gives_zeros = { λ d dims. unlift-zeros T.width d };
 
     ghost longest = { λ self size. size * (T.WIDTH + 1) };
 

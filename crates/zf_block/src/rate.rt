@@ -1,7 +1,7 @@
 //! The code of a block at a fixed rate: each block has as many bits, and its values come back rounded.
 
 ghost use Rattle.std.specs.Prelude.{◌≡◌, ◌≤◌, ◌<◌, ◌^◌, map, length, take};
-ghost use Rattle.std.specs.Prelude.{false, pos, replicate};
+ghost use Rattle.std.specs.Prelude.{IsTrue, false, pos, replicate};
 ghost use Rattle.zf_spec.specs.Grid.{IsDimension, fours};
 ghost use Rattle.zf_spec.specs.Codes.{rate};
 ghost use Rattle.zf_spec.specs.Lift.{lift, unlift};
@@ -11,12 +11,12 @@ ghost use Rattle.zf_spec.specs.ReadPlanes.{first_bits, planes_in};
 ghost use Rattle.zf_base.specs.Positions.{used_axes, IsExtent};
 ghost use Rattle.zf_bits.specs.Writer.{Appends};
 ghost use Rattle.zf_bits.specs.Reader.{rest};
-ghost use Rattle.zf_lift.proofs.FirstAlone.{lift-zeros};
+ghost use Rattle.zf_lift.proofs.FirstAlone.{lift-zeros, unlift-zeros};
 ghost use Rattle.zf_block.specs.ReadBlocks.{ReadsRate};
 
 use crate::Scratch;
 use crate::block_code::BlockCode;
-use crate::codec::{decode, encode, encode_part, len_of_zeros};
+use crate::codec::{decode, encode, encode_part, len_of_zeros, pass_zeros};
 use crate::first_code::first_code;
 use crate::upper::{reaches_upper, write_upper};
 use crate::zero_block::are_zeros;
@@ -79,6 +79,19 @@ pub fn rate_len_of_zeros<T: Lane>(d: u8, bits: u32) -> u64
     len_of_zeros::<Rate, T>(&Rate { bits }, d)
 }
 
+/// Passes the code of a block of zeros of `d` dimensions at this rate, where it is seen that one is next, and
+/// says so.
+#[inline(always)]
+pub fn pass_rate_zeros<T: Lane>(d: u8, bits: u32, reader: &mut BitReader<'_>) -> bool
+    requires { IsDimension d }
+    ensures unread { ¬ IsTrue result → reader.new ≡ reader.old }
+    ensures there { IsTrue result → bits ≤ length (rest reader.old) }
+    ensures reads { IsTrue result
+        → ReadsRate T.width d bits reader.old reader.new (replicate (4 ^ d) (pos 0)) }
+{
+    pass_zeros::<Rate, T>(&Rate { bits }, d, reader)
+}
+
 /// Reads the code of a block of `bits` bits, whatever they are.
 ///
 /// `block` gets `4^d` values, x fastest. A code does not tell which of them exist; at places that do not, the
@@ -107,6 +120,8 @@ impl<T: Lane> BlockCode<T> for Rate {
     ghost code_of = { λ self planes. first_bits self.bits (code planes) };
 
     ghost keeps_zeros = { λ d dims. lift-zeros T.width d };
+
+    ghost gives_zeros = { λ d dims. unlift-zeros T.width d };
 
     ghost longest = { λ self size. self.bits };
 

@@ -1,7 +1,7 @@
 //! The reversible code of a block: its values come back exactly.
 
 ghost use Rattle.std.specs.Prelude.{◌≡◌, ◌≤◌, ◌<◌, ◌+◌, ◌-◌, ◌*◌, ◌^◌, max, map, length, take, OnOk, OnErr};
-ghost use Rattle.std.specs.Prelude.{false, pos, replicate};
+ghost use Rattle.std.specs.Prelude.{IsTrue, false, pos, replicate};
 ghost use Rattle.std.specs.Prelude.{IfNone, IfSome, OnSome};
 ghost use Rattle.zf_spec.specs.Grid.{IsDimension, fours};
 ghost use Rattle.zf_spec.specs.Numbers.{field, number};
@@ -14,12 +14,12 @@ ghost use Rattle.zf_bits.specs.Writer.{Appends};
 ghost use Rattle.zf_bits.specs.Reader.{rest, Reads};
 ghost use Rattle.zf_block.specs.Decoding.{LacksBits};
 ghost use Rattle.zf_block.specs.Room.{longest_rev};
-ghost use Rattle.zf_lorenzo.proofs.FirstAlone.{lorenzo-zeros};
+ghost use Rattle.zf_lorenzo.proofs.FirstAlone.{lorenzo-zeros, unlorenzo-zeros};
 ghost use Rattle.zf_block.specs.ReadBlocks.{ReadsRev, LacksRev, rev_planes, rev_len};
 
 use crate::Scratch;
 use crate::block_code::BlockCode;
-use crate::codec::{decode, encode, encode_part, len_of_zeros};
+use crate::codec::{decode, encode, encode_part, len_of_zeros, pass_zeros};
 use crate::first_code::first_code;
 use crate::uncut::{read_uncut, read_uncut_four, write_uncut, write_uncut_four, zeros_above};
 use crate::zero_block::are_zeros;
@@ -88,6 +88,18 @@ pub fn rev_len_of_zeros<T: Lane>(d: u8) -> u64
     len_of_zeros::<Reversible, T>(&Reversible, d)
 }
 
+/// Passes the reversible code of a block of zeros of `d` dimensions, where it is seen that one is next, and
+/// says so.
+#[inline(always)]
+pub fn pass_rev_zeros<T: Lane>(d: u8, reader: &mut BitReader<'_>) -> bool
+    requires { IsDimension d }
+    ensures unread { ¬ IsTrue result → reader.new ≡ reader.old }
+    ensures reads { IsTrue result
+        → ReadsRev T.width d reader.old reader.new (replicate (4 ^ d) (pos 0)) }
+{
+    pass_zeros::<Reversible, T>(&Reversible, d, reader)
+}
+
 /// Reads the reversible code of a block. `None` means that the bits end before the code does; then the reader
 /// stands where it stood, and the block holds anything.
 ///
@@ -116,6 +128,8 @@ impl<T: Lane> BlockCode<T> for Reversible {
     ghost code_of = { λ self planes. rev_of_planes T.width planes };
 
     ghost keeps_zeros = { λ d dims. lorenzo-zeros T.width d dims };
+
+    ghost gives_zeros = { λ d dims. unlorenzo-zeros T.width d };
 
     ghost longest = { λ self size. 6 + size * (T.WIDTH + 1) };
 

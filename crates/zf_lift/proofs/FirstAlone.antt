@@ -2,9 +2,9 @@
 use Rattle.std.proofs.Common.{◌≡◌, refl, sym, ap, ◌∙◌, ℤ, pos, ℕ, ◌+ℤ◌, ◌-ℤ◌, ◌*ℤ◌, ◌-◌, ◌^◌, [], ◌∷◌, replicate, FitsSigned, arith, rules}
 use Rattle.std.{proofs.lemmas.Int.{ints}, specs.Int.{Width}}
 use mir.Val.{bits}
-use Rattle.zf_spec.{specs.Numbers.{wrap, half, floor_half, IsSameModulo}, specs.Lift.{lift_line, unlift_line, lift}}
+use Rattle.zf_spec.{specs.Numbers.{wrap, half, floor_half, IsSameModulo}, specs.Lift.{lift_line, unlift_line, lift, unlift}}
 use Rattle.zf_spec.proofs.Wrapping.{wrap_value, wrap_only, wrap_is_same, zero_fits, same_modulo_sym}
-use Rattle.zf_axes.proofs.FirstAlone.{passes-first}
+use Rattle.zf_axes.proofs.FirstAlone.{passes-first, passes_back-first}
 
 -- twice a value less the value is the value, wrapped or not
 twice_less : (w : Width) (v : ℤ) → FitsSigned w v → wrap w (wrap w (pos 2 *ℤ v) -ℤ v) ≡ v
@@ -21,6 +21,10 @@ unlift_line-first w v fits =
     let twice = twice_less w v fits in
     let plain : wrap w (pos 0 +ℤ v) ≡ v = ap (wrap w) (omega (arith, ints)) ∙ wrap_value w v fits in
     simp (zero, plain, twice) refl
+
+-- and so the values of zeros are zeros
+pub unlift-zeros : (w : Width) (d : ℕ) → unlift w d (pos 0 ∷ replicate (4 ^ d - 1) (pos 0)) ≡ replicate (4 ^ d) (pos 0)
+unlift-zeros w d = let line = unlift_line-first w (pos 0) (zero_fits w) in passes_back-first (unlift_line w) (pos 0) d line line
 
 -- the way there: a line of one value, of which twice is no overflow
 pub lift_line-same : (w : Width) (v : ℤ) → half w (v +ℤ v) ≡ v → lift_line w v v v v ≡ v ∷ pos 0 ∷ pos 0 ∷ pos 0 ∷ []

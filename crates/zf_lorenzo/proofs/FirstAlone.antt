@@ -28,6 +28,10 @@ unlorenzo-first w d v fits =
     from_places sums (4 ^ d) (pos 0) (replicate (4 ^ d) v) (length-replicate (4 ^ d) v)
     (λ k below. get_or-replicate (4 ^ d) k v (pos 0) below ∙ sym (ap (wrap w) (sum_of_first d k (4 ^ d - 1) v) ∙ wrap_value w v fits))
 
+-- and so the values of zeros are zeros
+pub unlorenzo-zeros : (w : Width) (d : ℕ) → unlorenzo w d (pos 0 ∷ replicate (4 ^ d - 1) (pos 0)) ≡ replicate (4 ^ d) (pos 0)
+unlorenzo-zeros w d = unlorenzo-first w d (pos 0) (zero_fits w)
+
 -- the way there: the differences of one value are zero
 differences_of_same : (w : Width) (v : ℤ) → FitsSigned w v → line_sums w signed_choose v v v v ≡ v ∷ pos 0 ∷ pos 0 ∷ pos 0 ∷ []
 differences_of_same w v fits =

@@ -2,7 +2,7 @@
 use Rattle.std.proofs.Common.{rules, ◌≡◌, sym, ap, ◌∙◌, ℕ, ◌+◌, ◌*◌, ◌/◌, ◌%◌, ◌<◌, ℤ, List, [], ◌++◌, map, length, replicate, append_assoc, length-append, arith}
 use Rattle.std.{proofs.lemmas.List.{nil_from_length, map-append, length-map, length-replicate}, specs.Int.{w32}}
 use Rattle.zf_spec.{specs.Stream.{raw}, proofs.RawValues.{length-raw, length-values_from}}
-use Rattle.zf_stream.{proofs.RawValues.{raw-append}, proofs.Rows.{values_from-append}}
+use Rattle.zf_stream.proofs.RawValues.{raw-append, values_from-append}
 use Rattle.zf_narrow.{specs.declared.narrow.Narrow.{Narrow}}
 use Rattle.zf_narrow.{specs.Values.{width_of, size_of, promoted, demoted}, proofs.OneMore.{size_is}}
 use Rattle.zf_narrow.specs.RawNarrow.{values_in, promoted_bytes, promoted_all, raw_narrow, demoted_bytes}

@@ -133,13 +133,17 @@ pub four_copied : {X : Type 0} (source old : List X) (from to : ℕ) (a b c d : 
     → set (set (set (set old to a) (to + 1) b) (to + 2) c) (to + 3) d ≡ take to old ++ (take 4 (drop from source) ++ drop (to + 4) old)
 four_copied {X} source old from to a b c d there room e f g h = search (rules, put_four, take_four)
 
+-- so they are copied
+pub row_put : (from to : ℕ) (source old new : List ℤ) → from + 4 ≤ length source → to + 4 ≤ length old
+    → new ≡ take to old ++ (take 4 (drop from source) ++ drop (to + 4) old) → IsRowCopied from to source old new
+row_put from to source old new there room is = subst (IsRowCopied from to source old) (sym is) (copied_row from to source old there room)
+
 -- the same of the numbers of values
 pub row_copied : {X : Type 0} (f : X → ℤ) (from to : ℕ) (source old new : List X) → from + 4 ≤ length source → to + 4 ≤ length old
     → new ≡ take to old ++ (take 4 (drop from source) ++ drop (to + 4) old) → IsRowCopied from to (map f source) (map f old) (map f new)
 row_copied f from to source old new there room is =
-    let moved : take to (map f old) ++ (take 4 (drop from (map f source)) ++ drop (to + 4) (map f old)) ≡ map f new =
-    rw is (simp (map-append, take-map, drop-map)) in
-    rw (← moved) (copied_row from to (map f source) (map f old) (omega (arith, length-map source f)) (omega (arith, length-map old f)))
+    row_put from to (map f source) (map f old) (map f new) (omega (arith, length-map source f, there)) (omega (arith, length-map old f, room))
+    (rw is (simp (map-append, take-map, drop-map)))
 
 -- ---- gathering
 

@@ -11,5 +11,6 @@ pub mod Lines
 pub mod Rows
 pub mod Stored
 pub mod Appended
+pub mod RawValues
 pub mod StoredLines
 pub mod FourLines

@@ -1,8 +1,8 @@
 -- The lines of an array whose values are kept in the order of blocks.
-use Rattle.std.proofs.Common.{rules, ◌≡◌, ◌≢◌, refl, sym, ap, ◌∙◌, ℕ, zero, suc, ◌+◌, ◌-◌, ◌*◌, ◌/◌, ◌%◌, ◌<◌, ◌≤◌, ◌^◌, ◌⊎◌, ⊎_elim, min, ℤ, pos, List, [], ◌∷◌, ◌++◌, length, get_or, map, take, drop, replicate, mod-eq_of_lt, mul-le-mul_left, arith, ext_get_or, length-drop, lit≤}
+use Rattle.std.proofs.Common.{rules, ◌≡◌, ◌≢◌, refl, sym, ap, ◌∙◌, ℕ, zero, suc, ◌+◌, ◌-◌, ◌*◌, ◌/◌, ◌%◌, ◌<◌, ◌≤◌, ◌^◌, ◌⊎◌, ⊎_elim, min, ℤ, pos, List, [], ◌∷◌, ◌++◌, length, get_or, take, drop, replicate, mod-eq_of_lt, mul-le-mul_left, arith, ext_get_or, length-drop, lit≤}
 use Rattle.std.proofs.Math.Nat.{add-mul-mod_self_left, add-mul-div_left, div-eq_of_lt, div-add-mod, mul-mod_right, mul-le-mul_right, le-mul_of_pos_right}
 use Rattle.std.{proofs.lemmas.Bool.{cases_lt}, proofs.lemmas.Nat.{div_below}, proofs.Math.Seq.{take-take}}
-use Rattle.std.proofs.lemmas.List.{length-map, get_or-take, get_or-drop, get_or-append_right, length-take-le, take-append-le, take-map, drop-map, map-append}
+use Rattle.std.proofs.lemmas.List.{length-map, get_or-take, get_or-drop, get_or-append_right, length-take-le, take-append-le}
 use Rattle.std.proofs.Math.ListN.{get_or-append}
 use Rattle.zf_spec.specs.Grid.{IsShape, product, coordinates, extents, max_values}
 use Rattle.zf_spec.{proofs.Counting.{get_or-map-upto}, proofs.Raster.{length-coordinates, length-extents}}
@@ -233,16 +233,13 @@ module _ (ns : List ℕ) (from count n first lines line : ℕ) (h : LinePart ns 
 -- ---- what is copied
 
 -- some values were copied to places beside one another, and those before are as they were
-pub rest_copied : {X : Type 0} (f : X → ℤ) (from to count : ℕ) (source old new : List X) → from + count ≤ length source → to + count ≤ length old
+pub rest_copied : (from to count : ℕ) (source old new : List ℤ) → from + count ≤ length source → to + count ≤ length old
     → new ≡ take to old ++ (take count (drop from source) ++ drop (to + count) old)
-    → ((i : ℕ) → i < to → get_or (map f new) i (pos 0) ≡ get_or (map f old) i (pos 0)) × ((k : ℕ) → k < count → get_or (map f new) (to + k) (pos 0) ≡ get_or (map f source) (from + k) (pos 0))
-rest_copied {X} f from to count source old new there room is =
-    let vs = map f source in
-    let us = map f old in
-    let rest = take count (drop from vs) ++ drop (to + count) us in
-    let parts : map f new ≡ take to us ++ rest = ap (map f) is ∙ simp (map-append, take-map, drop-map) in
-    let prefix : length (take to us) ≡ to = length-take-le to us (omega (arith, length-map old f, room)) in
-    let some : length (take count (drop from vs)) ≡ count = length-take-le count (drop from vs) (omega (arith, length-drop from vs, length-map source f, there)) in
+    → ((i : ℕ) → i < to → get_or new i (pos 0) ≡ get_or old i (pos 0)) × ((k : ℕ) → k < count → get_or new (to + k) (pos 0) ≡ get_or source (from + k) (pos 0))
+rest_copied from to count source old new there room is =
+    let rest = take count (drop from source) ++ drop (to + count) old in
+    let prefix : length (take to old) ≡ to = length-take-le to old (omega (arith, room)) in
+    let some : length (take count (drop from source)) ≡ count = length-take-le count (drop from source) (omega (arith, length-drop from source, there)) in
     search (rules, get_or-append, get_or-take, get_or-append_right, get_or-drop)
 
 -- what stands before a place stays where values are put behind it

@@ -3,8 +3,10 @@
 use Rattle.std.specs.Prelude.{ℕ, ◌≡◌, ◌+◌, ◌*◌, ◌/◌, ◌%◌, ◌^◌, ◌<◌, ◌≤◌, ◌⊎◌, true, ℤ, pos, List, [], ◌∷◌}
 use Rattle.std.specs.Prelude.{◌++◌, map, length, slice_index_or}
 use Rattle.std.specs.List.{AllByRecursion}
+use Rattle.std.specs.Int.{Width, byte_len}
 use Rattle.zf_pad.specs.declared.storing.Known.{Known}
 use Rattle.zf_spec.specs.Grid.{IsShape, product, coordinates, raster, is_inside, indices, extents, upto}
+use Rattle.zf_spec.specs.Stream.{values_from}
 
 -- how many values the blocks before the one with these coordinates have
 abbrev pub start_at : List ℕ → List ℕ → ℕ
@@ -23,6 +25,10 @@ stored_index ns ps =
 abbrev pub raster_of : List ℕ → List ℤ → List ℤ
 raster_of ns stored =
     map (λ k. slice_index_or stored (stored_index ns (coordinates ns k)) (pos 0)) (upto (product ns))
+
+-- the values that raw bytes are, as many as are whole
+unfoldable pub values_in : Width → List ℕ → List ℤ
+values_in w bytes = values_from w (length bytes / byte_len w) bytes
 
 -- the values of a block that exist were put behind those that were there
 pub record AppendsBlock (es : List ℕ) (block old new : List ℤ) : Type 0 where

@@ -165,7 +165,7 @@ fn scatter_places<T: Lane>(layout: &Layout, e: &Extent, d: u8, block: &[T], valu
 // Copies the four values from `from` on to the places from `to` on, in one step, as none is written before
 // all are read.
 #[inline(always)]
-pub(crate) fn copy_row<T: Lane>(source: &[T], from: usize, target: &mut [T], to: usize)
+fn copy_row<T: Lane>(source: &[T], from: usize, target: &mut [T], to: usize)
     requires there { from + 4 ≤ length source.now }
     requires room { to + 4 ≤ length target.old }
     ensures { target.new ≡ take to target.old ++ (take 4 (drop from source.now) ++ drop (to + 4) target.old) }

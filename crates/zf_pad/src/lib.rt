@@ -7,10 +7,12 @@ pub mod laws;
 pub mod laws_of_slabs;
 mod layout;
 mod padding;
+mod raw;
 mod storing;
 
 pub use array_block::{gather_block, is_row_of_zeros};
 pub use copies::{gather, scatter};
 pub use layout::Layout;
 pub use padding::pad;
+pub use raw::{put_raw, value_len};
 pub use storing::{append_block, copy_lines, has_whole_blocks};

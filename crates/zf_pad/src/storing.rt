@@ -4,15 +4,18 @@
 ghost use Rattle.std.specs.Prelude.{◌≡◌, ◌⊎◌, ◌+◌, ◌-◌, ◌*◌, ◌/◌, ◌%◌, ◌^◌, ◌<◌, ◌≤◌, ◌++◌, min, ℕ, true};
 ghost use Rattle.std.specs.Prelude.{pos, length, map, take, drop, replicate, slice_index_or, vec_len};
 ghost use Rattle.std.specs.Prelude.{vec_capacity, IfSome};
+ghost use Rattle.std.specs.Int.{byte_len};
 ghost use Rattle.zf_spec.specs.Grid.{product, blocks, extent_of, max_values};
+ghost use Rattle.zf_spec.specs.Stream.{raw};
 ghost use Rattle.zf_base.specs.Positions.{used_axes, IsExtent};
 ghost use Rattle.zf_pad.specs.Stored.{HasWholeBlocks, AppendsBlock, raster_of, line_len, other_sizes};
-ghost use Rattle.zf_pad.specs.Stored.{IsFirst, IsKnown, LinePart, AreFourLines};
+ghost use Rattle.zf_pad.specs.Stored.{IsFirst, IsKnown, LinePart, AreFourLines, values_in};
 
 use crate::array_block::part_of;
-use crate::copies::{copy_row, scatter};
+use crate::copies::scatter;
 use crate::layout::Layout;
 use crate::padding::is_whole;
+use crate::raw::{put_raw_at, put_row, value_len};
 use zf_base::{Extent, Lane, Pos, Shape};
 
 /// Whether no size of an array cuts a block.
@@ -132,30 +135,32 @@ fn grow<T: Lane>(count: usize, stored: &mut Vec<T>)
     }
 }
 
-/// Copies values of an array that are kept in the order of blocks to `part`, in raster order, from raster
-/// number `from` on, and answers how many. At least one is copied, and as many as fit, but for three at most.
+/// Copies values of an array that are kept in the order of blocks to the start of `piece`, as raw bytes in
+/// raster order, from raster number `from` on, and answers how many values. At least one is copied, and as
+/// many as fit, but for three at most.
 ///
 /// `stored` are all of the array's. `from` is the first of its block along x, and so is what comes next.
-pub fn copy_lines<T: Lane>(shape: &Shape, stored: &[T], from: u64, part: &mut [T]) -> usize
+pub fn copy_lines<T: Lane>(shape: &Shape, stored: &[T], from: u64, piece: &mut [u8]) -> usize
     requires all { product shape.now ≤ length stored.now }
     requires within { from < product shape.now }
     requires first { IsFirst shape.now from }
-    requires room { 4 ≤ length part.old }
+    requires room { 4 * byte_len T.width ≤ length piece.old }
     ensures some { 1 ≤ result }
-    ensures room { result ≤ length part.new }
+    ensures room { result * byte_len T.width ≤ length piece.new }
     ensures within { from + result ≤ product shape.now }
     ensures first { IsFirst shape.now (from + result) }
-    ensures values { map T.value (take result part.new)
-        ≡ take result (drop from (raster_of shape.now (map T.value stored.now))) }
+    ensures values { take (result * byte_len T.width) piece.new
+        ≡ raw T.width (take result (drop from (raster_of shape.now (map T.value stored.now)))) }
 {
     // tells that the sizes are a shape's, so lines end within the values
     let _dims = shape.dims();
     let n = shape.size(0);
     let left = (shape.values() - from) as usize;
+    let room = piece.len() / value_len::<T>();
     let mut known = known_line(shape, from / n);
     let mut held = 0;
-    while held < left && held + 4 <= part.len() {
-        held += copy_next(shape, stored, from + held as u64, held, &mut known, part);
+    while held < left && held + 4 <= room {
+        held += copy_next(shape, stored, from + held as u64, held, &mut known, piece);
     }
     held
 }
@@ -168,26 +173,26 @@ fn copy_next<T: Lane>(
     from: u64,
     to: usize,
     known: &mut Known,
-    part: &mut [T],
+    piece: &mut [u8],
 ) -> usize
     requires all { product shape.now ≤ length stored.now }
     requires known { IsKnown (other_sizes shape.now) known.old }
     requires within { from < product shape.now }
     requires first { IsFirst shape.now from }
-    requires room { to + 4 ≤ length part.old }
+    requires room { to + 4 ≤ length piece.old / byte_len T.width }
     ensures some { 1 ≤ result }
-    ensures room { to + result ≤ length part.new }
+    ensures room { to + result ≤ length piece.new / byte_len T.width }
     ensures within { from + result ≤ product shape.now }
     ensures first { IsFirst shape.now (from + result) }
-    ensures before { take to part.new ≡ take to part.old }
-    ensures values { (i : ℕ) → i < result → slice_index_or (map T.value part.new) (to + i) (pos 0)
+    ensures before { take to (values_in T.width piece.new) ≡ take to (values_in T.width piece.old) }
+    ensures values { (i : ℕ) → i < result → slice_index_or (values_in T.width piece.new) (to + i) (pos 0)
         ≡ slice_index_or (raster_of shape.now (map T.value stored.now)) (from + i) (pos 0) }
     ensures known { IsKnown (other_sizes shape.now) known.new }
 {
     // tells that the sizes are a shape's, so lines end within the values
     let _dims = shape.dims();
     let n = shape.size(0);
-    let room = part.len() - to;
+    let room = piece.len() / value_len::<T>() - to;
     if n <= (room / 4) as u64 {
         if let Some(Line { first, lines, line }) = four_lines(shape, n, from, known) {
             let start = n * first + 4 * line;
@@ -197,13 +202,13 @@ fn copy_next<T: Lane>(
                 4 * lines as usize,
                 to,
                 n as usize,
-                part,
+                piece,
             );
             return 4 * n as usize;
         }
     }
     let count = next_count(n - from % n, room);
-    copy_line(shape, stored, from, to, count, known, part);
+    copy_line(shape, stored, from, to, count, known, piece);
     count
 }
 
@@ -232,23 +237,23 @@ fn four_lines(shape: &Shape, n: u64, from: u64, known: &mut Known) -> Option<Lin
 // Copies four whole lines of so many values, of which each block has the first values of four beside one
 // another, and the blocks so far behind one another.
 #[inline]
-fn copy_four<T: Lane>(stored: &[T], from: usize, step: usize, to: usize, n: usize, part: &mut [T])
+fn copy_four<T: Lane>(stored: &[T], from: usize, step: usize, to: usize, n: usize, piece: &mut [u8])
     requires whole { n % 4 ≡ 0 }
     requires there { (b : ℕ) → b < n / 4 → from + b * step + 16 ≤ length stored.now }
     requires small { from + n / 4 * step < 2 ^ 64 }
-    requires room { to + 4 * n ≤ length part.old }
-    ensures before { take to part.new ≡ take to part.old }
+    requires room { to + 4 * n ≤ length piece.old / byte_len T.width }
+    ensures before { take to (values_in T.width piece.new) ≡ take to (values_in T.width piece.old) }
     ensures rows { (j b k : ℕ) → j < 4 → b < n / 4 → k < 4
-        → slice_index_or (map T.value part.new) (to + (j * n + (4 * b + k))) (pos 0)
+        → slice_index_or (values_in T.width piece.new) (to + (j * n + (4 * b + k))) (pos 0)
         ≡ slice_index_or (map T.value stored.now) (from + 4 * j + b * step + k) (pos 0) }
 {
     let mut at = from;
     for b in 0..n / 4 {
         let to = to + 4 * b;
-        copy_row(stored, at, part, to);
-        copy_row(stored, at + 4, part, to + n);
-        copy_row(stored, at + 8, part, to + 2 * n);
-        copy_row(stored, at + 12, part, to + 3 * n);
+        put_row(stored, at, piece, to);
+        put_row(stored, at + 4, piece, to + n);
+        put_row(stored, at + 8, piece, to + 2 * n);
+        put_row(stored, at + 12, piece, to + 3 * n);
         at += step;
     }
 }
@@ -280,7 +285,7 @@ fn copy_line<T: Lane>(
     to: usize,
     count: usize,
     known: &mut Known,
-    part: &mut [T],
+    piece: &mut [u8],
 )
     requires all { product shape.now ≤ length stored.now }
     requires known { IsKnown (other_sizes shape.now) known.old }
@@ -288,9 +293,9 @@ fn copy_line<T: Lane>(
     requires line { from % line_len shape.now + count ≤ line_len shape.now }
     requires first { IsFirst shape.now from }
     requires whole { (count % 4 ≡ 0) ⊎ (from % line_len shape.now + count ≡ line_len shape.now) }
-    requires room { to + count ≤ length part.old }
-    ensures before { take to part.new ≡ take to part.old }
-    ensures values { (i : ℕ) → i < count → slice_index_or (map T.value part.new) (to + i) (pos 0)
+    requires room { to + count ≤ length piece.old / byte_len T.width }
+    ensures before { take to (values_in T.width piece.new) ≡ take to (values_in T.width piece.old) }
+    ensures values { (i : ℕ) → i < count → slice_index_or (values_in T.width piece.new) (to + i) (pos 0)
         ≡ slice_index_or (raster_of shape.now (map T.value stored.now)) (from + i) (pos 0) }
     ensures known { IsKnown (other_sizes shape.now) known.new }
 {
@@ -306,11 +311,11 @@ fn copy_line<T: Lane>(
         4 * lines as usize,
         to,
         blocks,
-        part,
+        piece,
     );
     // What is left of the line's last block, in which lines are shorter.
     let last = start + (4 * blocks) as u64 * lines + rest as u64 * line;
-    copy_rest(stored, last as usize, to + 4 * blocks, rest, part);
+    put_rest(stored, last as usize, rest, piece, to + 4 * blocks);
 }
 
 // Copies so many rows of four, each so far behind the one before, to places beside one another.
@@ -321,36 +326,35 @@ fn copy_blocks<T: Lane>(
     step: usize,
     to: usize,
     blocks: usize,
-    part: &mut [T],
+    piece: &mut [u8],
 )
     requires there { (b : ℕ) → b < blocks → from + b * step + 4 ≤ length stored.now }
     requires small { from + blocks * step < 2 ^ 64 }
-    requires room { to + 4 * blocks ≤ length part.old }
-    ensures before { take to part.new ≡ take to part.old }
+    requires room { to + 4 * blocks ≤ length piece.old / byte_len T.width }
+    ensures before { take to (values_in T.width piece.new) ≡ take to (values_in T.width piece.old) }
     ensures rows { (b k : ℕ) → b < blocks → k < 4
-        → slice_index_or (map T.value part.new) (to + (4 * b + k)) (pos 0)
+        → slice_index_or (values_in T.width piece.new) (to + (4 * b + k)) (pos 0)
         ≡ slice_index_or (map T.value stored.now) (from + b * step + k) (pos 0) }
 {
     let mut at = from;
     for b in 0..blocks {
-        copy_row(stored, at, part, to + 4 * b);
+        put_row(stored, at, piece, to + 4 * b);
         at += step;
     }
 }
 
-// Copies so many values that stand beside one another.
+// Puts so many values. Mostly there are none, which needs no call.
 #[inline]
-fn copy_rest<T: Lane>(stored: &[T], from: usize, to: usize, count: usize, part: &mut [T])
+fn put_rest<T: Lane>(stored: &[T], from: usize, count: usize, piece: &mut [u8], to: usize)
     requires there { from + count ≤ length stored.now }
-    requires room { to + count ≤ length part.old }
-    ensures { part.new
-        ≡ take to part.old ++ (take count (drop from stored.now) ++ drop (to + count) part.old) }
+    requires room { to + count ≤ length piece.old / byte_len T.width }
+    ensures { values_in T.width piece.new ≡ take to (values_in T.width piece.old)
+        ++ (take count (drop from (map T.value stored.now)) ++ drop (to + count) (values_in T.width piece.old)) }
 {
-    // mostly there are none, which needs no call
     if count == 0 {
         return;
     }
-    part[to..to + count].copy_from_slice(&stored[from..from + count]);
+    put_raw_at(stored, from, count, piece, to);
 }
 
 // Of a line, the values that differ in x alone: how many lines the layers of blocks before its own have, how

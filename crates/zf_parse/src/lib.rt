@@ -9,4 +9,4 @@ mod reading;
 
 pub use fault::StreamFault;
 pub use longest::longest_code;
-pub use reading::{check_fill, read_code};
+pub use reading::{check_fill, pass_zero_code, read_code};

@@ -1,6 +1,6 @@
 //! The code of a block as its header says, and the fill behind all codes.
 
-ghost use Rattle.std.specs.Prelude.{◌≡◌, ◌≤◌, ◌^◌, map, length, OnSome, IfNone};
+ghost use Rattle.std.specs.Prelude.{◌≡◌, ◌≤◌, ◌^◌, pos, map, length, replicate, IsTrue, OnSome, IfNone};
 ghost use Rattle.zf_bits.specs.Reader.{rest};
 ghost use Rattle.zf_parse.specs.Parsing.{fill_answer};
 ghost use Rattle.zf_parse.specs.ReadStreams.{ReadsCode, LacksCode};
@@ -26,6 +26,22 @@ pub fn read_code<T: Lane>(h: &Header, reader: &mut BitReader<'_>, block: &mut [T
         Mode::Reversible => zf_block::decode_rev(d, reader, block),
         Mode::Rate(bits) => read_rate(d, bits, reader, block),
         Mode::Precision(prec) => zf_block::decode_prec(d, prec, reader, block),
+    }
+}
+
+/// Passes the code of a block of zeros of an array with this header, where it is seen that one is next, and
+/// says so.
+#[inline(always)]
+pub fn pass_zero_code<T: Lane>(h: &Header, reader: &mut BitReader<'_>) -> bool
+    ensures unread { ¬ IsTrue result → reader.new ≡ reader.old }
+    ensures reads { IsTrue result → ReadsCode T.width h.now.mode (length h.now.shape) reader.old reader.new
+        (replicate (4 ^ length h.now.shape) (pos 0)) }
+{
+    let d = h.shape.dims();
+    match h.mode {
+        Mode::Reversible => zf_block::pass_rev_zeros::<T>(d, reader),
+        Mode::Rate(bits) => zf_block::pass_rate_zeros::<T>(d, bits, reader),
+        Mode::Precision(prec) => zf_block::pass_prec_zeros::<T>(d, prec, reader),
     }
 }
 

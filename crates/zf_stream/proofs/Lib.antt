@@ -19,6 +19,7 @@
 --     Endings        how compressing ends, put together
 --     Windows        the bits of a window, as it moves on
 --     SlabsBack      the blocks and the values of an array, slab by slab
+--     Runs           the codes of a slab that were read so far
 --     Restored       an array that is restored slab by slab
 --     RestoredAll    the end of an array that is restored
 --     FromPrefix      what is restored of a window, said of the whole stream
@@ -46,6 +47,7 @@ pub mod Rooms
 pub mod Endings
 pub mod Windows
 pub mod SlabsBack
+pub mod Runs
 pub mod Restored
 pub mod RestoredAll
 pub mod FromPrefix

@@ -5,11 +5,7 @@ use Rattle.std.specs.Int.{Width, w32, w64, byte_len, from_le_bytes, cast_signed}
 use Rattle.zf_spec.{specs.Numbers.{wrap}, specs.Stream.{first_bytes, values_from}}
 use Rattle.zf_spec.proofs.Bytes.{first_bytes-all, from_le_bytes_below}
 use Rattle.zf_base.proofs.Wrapping.{cast_signed_low}
-
--- bytes that are there
-pub first_bytes-take : (n : ℕ) (s : List ℕ) → n ≤ length s → first_bytes n s ≡ take n s
-first_bytes-take (suc n) (b ∷ s) within = ap (λ (bs : List ℕ). b ∷ bs) (first_bytes-take n s (omega arith))
-first_bytes-take _ s within = search rules
+use Rattle.zf_pad.proofs.RawValues.{first_bytes-take}
 
 -- four bytes as a word of eight
 narrow_word : (bytes : List ℕ) → length bytes ≡ 4 → from_le_bytes w64 (first_bytes 8 bytes) ≡ from_le_bytes w32 bytes

@@ -7,7 +7,7 @@ use Rattle.zf_spec.specs.Stream.{values_from}
 use Rattle.zf_dev.{specs.Source.{Takes, Gives}, proofs.Taking.{Takes-append}, proofs.Giving.{Gives-append}}
 use Rattle.zf_parse.specs.declared.fault.StreamFault.{StreamFault}
 use Rattle.zf_parse.specs.declared.fault.StreamFault.TheVariants as faults
-use Rattle.zf_stream.{specs.ReadRaw.{ReadsValues, LacksRaw}, proofs.Rows.{values_from-append}}
+use Rattle.zf_stream.{specs.ReadRaw.{ReadsValues, LacksRaw}, proofs.RawValues.{values_from-append}}
 
 -- the values of the next bytes were put behind those that were read
 pub reads_more : {X : Type 0} (w : Width) (value : X → ℤ) (at n k : ℕ) (xs ys : List X) (old mid new : Option (List ℕ)) {a b c : List ℕ → Type 0} (more : List ℕ)

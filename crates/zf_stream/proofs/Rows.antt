@@ -10,25 +10,8 @@ use Rattle.zf_pad.specs.Slabs.{rows_of, row_len, with_rows, IsSlab, slab_of, fir
 use Rattle.zf_pad.proofs.Slabs.{product-rows, rows_of-grid, blocks-with_rows, extent_of-slab, block_of-slab}
 use Rattle.zf_header.{specs.declared.header.Header.{Header}, specs.HeaderBits.{coding}}
 use Rattle.zf_stream.specs.Rows.{rows_len, code_of_block, codes_of_rows}
-use Rattle.zf_stream.proofs.LittleEndian.{first_bytes-take}
+use Rattle.zf_pad.proofs.RawValues.{values_from-append}
 use Rattle.zf_parse.proofs.Codes.{joined-prefix}
-
--- ---- values of bytes, one part after another
-
-pub values_from-append : (w : Width) (a b : ℕ) (xs ys : List ℕ) → length xs ≡ a * byte_len w → values_from w (a + b) (xs ++ ys) ≡ values_from w a xs ++ values_from w b ys
-values_from-append w zero b xs ys long =
-    let count : 0 + b ≡ b = omega arith in
-    rw (nil_from_length xs (omega arith)) (ap (λ n. values_from w n ys) count)
-values_from-append w (suc a) b xs ys long =
-    let n = byte_len w in
-    let within : n ≤ length xs = omega arith in
-    let count : suc a + b ≡ suc (a + b) = omega arith in
-    let here = first_bytes-take n xs within in
-    let first = first_bytes-take n (xs ++ ys) (omega (arith, length-append xs ys)) in
-    let same = take-append-le n xs ys within in
-    let behind = drop-append-le n xs ys within in
-    let rest = values_from-append w a b (drop n xs) ys (omega (arith, length-drop n xs)) in
-    rw count (cc)
 
 -- the values of a slab are those of its bytes
 pub slab_of-bytes : (h : Header) (c rows : ℕ) (before raw more : List ℕ) → IsSlab h.shape c rows → length before ≡ rows_len h (4 * c) → length raw ≡ rows_len h rows

@@ -1,6 +1,6 @@
 -- An array that is restored slab by slab: how far its codes were read, and its values written. The codes are
 -- those of the bits that were left in a window, and of the bytes that were taken of the source behind them.
-use Rattle.std.specs.Prelude.{ℕ, ◌≡◌, ◌+◌, ◌-◌, ◌*◌, ◌/◌, ◌<◌, ◌≤◌, ◌⊎◌, ℤ, Bool, List, [], ◌++◌, map, length}
+use Rattle.std.specs.Prelude.{ℕ, zero, suc, ◌≡◌, ◌+◌, ◌-◌, ◌*◌, ◌/◌, ◌<◌, ◌≤◌, ◌⊎◌, ℤ, Bool, List, [], ◌++◌, map, length}
 use Rattle.std.specs.Prelude.{drop, Option, Some, None, Result, Ok, Err, IfErr, OnOk, OnErr}
 use Rattle.std.specs.Result.{result_map_both}
 use Rattle.zf_spec.specs.Grid.{blocks, upto, extent_of, block_of, blocks_of}
@@ -73,6 +73,12 @@ pub record ReadsStored (h : Header) (b : ℕ) (old new : Reader) (before now : L
       (existing_values (extent_of h.shape b) block, new.at - old.at)
   pub passed : rest new ≡ drop (new.at - old.at) (rest old)
   pub appended : AppendsBlock (extent_of h.shape b) block before now
+
+-- so many codes were read from block b on, one after another
+abbrev pub ReadsRun : Header → ℕ → ℕ → Reader → Reader → List ℤ → List ℤ → Type 0
+ReadsRun h b zero old new before now = (new ≡ old) × (now ≡ before)
+ReadsRun h b (suc n) old new before now = (middle : Reader) × ((values : List ℤ)
+    × (ReadsRun h b n old middle before values × ReadsStored h (b + n) middle new values now))
 
 -- its codes were read, which are those of these values
 pub record ReadsSlab (part : Header) (src_before src_now : Option (List ℕ)) (old new : Window)

@@ -20,13 +20,12 @@ use crate::encoding::write_codes;
 use crate::reading::{read_end, read_values};
 use crate::room::{Room, room_for};
 use crate::slabs::{rows_of, with_rows};
-use crate::values::value_len;
 use crate::writing::write_whole_words;
 use std::alloc::Global;
 use zf_base::{Lane, Ty};
 use zf_dev::{Sink, Source};
 use zf_header::Header;
-use zf_pad::Layout;
+use zf_pad::{Layout, value_len};
 
 /// Reads raw values, each little-endian in 4 or 8 bytes, x fastest, and writes their stream.
 ///

@@ -10,17 +10,21 @@ ghost use Rattle.zf_parse.specs.Parsing.{longest_code};
 ghost use Rattle.zf_parse.specs.ReadStreams.{ReadsCode, LacksCode};
 ghost use Rattle.zf_stream.specs.Windows.{left_of, KnowsEnd};
 ghost use Rattle.zf_stream.specs.Rooms.{CanRestore, Stays};
-ghost use Rattle.zf_stream.specs.Restoring.{ReadsStored, ReadsSlab, LacksSlab};
+ghost use Rattle.zf_stream.specs.Restoring.{ReadsStored, ReadsRun, ReadsSlab, LacksSlab};
 ghost use Rattle.zf_parse.specs.declared.fault.StreamFault.TheVariants.{Read};
 
 use crate::StreamFault;
 use crate::restore_room::RestoreRoom;
 use crate::window::Window;
+use zf_axes::fill;
 use zf_base::{Lane, block_len};
 use zf_dev::Source;
 use zf_header::Header;
 use zf_pad::{append_block, has_whole_blocks};
-use zf_parse::read_code;
+use zf_parse::{pass_zero_code, read_code};
+
+/// No code of a block that has other values has fewer bits, but at the lowest rates and precisions.
+const FEW: u64 = 9;
 
 /// Reads the codes of a slab, an array of its own whose blocks are those of the array from block `first` on.
 ///
@@ -47,9 +51,27 @@ pub(crate) fn read_slab<T: Lane, S: Source>(
 {
     let size = block_len(part.shape.dims());
     let whole = has_whole_blocks(&part.shape);
+    let blocks = part.shape.blocks();
     room.stored.clear();
-    for b in 0..part.shape.blocks() {
+    let mut b = 0;
+    let mut look = whole;
+    while b < blocks {
         room.window.reach(room.longest, &mut room.piece, src)?;
+        let zeros = read_zeros(
+            part,
+            look,
+            size,
+            b,
+            &mut room.window,
+            &mut room.stored,
+            &mut room.block,
+        );
+        if zeros > 0 {
+            b += zeros;
+            look = false;
+            continue;
+        }
+        let before = room.window.left();
         let read = read_block(
             part,
             whole,
@@ -57,16 +79,79 @@ pub(crate) fn read_slab<T: Lane, S: Source>(
             b,
             &mut room.window,
             &mut room.stored,
-            &mut room.lines,
+            &mut room.block,
         );
         let Some(()) = read else {
             return Err(StreamFault::Truncated(first + b));
         };
+        look = may_go_on(whole, before, room.window.left());
+        b += 1;
     }
     Ok(())
 }
 
-/// Reads the code of block `b`, whose values are so many, by way of `lines`, or answers `None` where the bits
+/// Whether a code that was read, of so many bits as are left fewer, may be the first of several of zeros. Those
+/// of most blocks are longer, so that these are not looked at twice.
+#[inline(always)]
+fn may_go_on(whole: bool, before: u64, after: u64) -> bool
+    ensures { result ≡ true → whole ≡ true }
+{
+    whole && before.wrapping_sub(after) < FEW
+}
+
+/// Reads the codes of blocks of zeros from block `b` on, as long as one is seen to be next, and answers how
+/// many. They are copied out of `block`. Where a size of the array cuts blocks, none are read.
+#[inline(always)]
+fn read_zeros<T: Lane>(
+    part: &Header,
+    whole: bool,
+    size: usize,
+    b: u64,
+    window: &mut Window,
+    stored: &mut Vec<T>,
+    block: &mut [T],
+) -> u64
+    requires same_type { T.width ≡ width_of part.now.ty }
+    requires known { whole ≡ true → HasWholeBlocks part.now.shape }
+    requires in_array { b ≤ blocks part.now.shape }
+    requires values { whole ≡ true → vec_len stored.old + 4 ^ length part.now.shape * (blocks part.now.shape - b)
+        ≤ vec_capacity stored.old }
+    requires size { size ≡ 4 ^ length part.now.shape }
+    requires block { size ≤ length block.old }
+    ensures within { b + result ≤ blocks part.now.shape }
+    ensures read { ReadsRun part.now b result window.old.reader window.new.reader
+        (map T.value stored.old.items) (map T.value stored.new.items) }
+    ensures place { window.new.reader.at + length (left_of window.new)
+        ≡ window.old.reader.at + length (left_of window.old) }
+    ensures values { vec_capacity stored.old ≤ vec_capacity stored.new }
+    ensures room { window.new.room ≡ window.old.room }
+    ensures ended { window.new.ended ≡ window.old.ended }
+{
+    if !whole {
+        return 0;
+    }
+    let mut reader = window.reader();
+    // A look, so that nothing is filled where another block comes.
+    let mut ahead = reader.another();
+    if !pass_zero_code::<T>(part, &mut ahead) {
+        return 0;
+    }
+    let block = &mut block[..size];
+    fill(T::zero(), block);
+    let blocks = part.shape.blocks();
+    let mut n = 0;
+    while b + n < blocks && pass_zero_code::<T>(part, &mut reader) {
+        append_block(&part.shape, whole, b + n, block, stored);
+        n += 1;
+    }
+    // Known by this call: the place is not behind the end.
+    let _left = reader.left();
+    let at = reader.at();
+    window.go_to(at);
+    n
+}
+
+/// Reads the code of block `b`, whose values are so many, by way of `block`, or answers `None` where the bits
 /// that are held end too early.
 #[inline(always)]
 fn read_block<T: Lane>(
@@ -76,14 +161,14 @@ fn read_block<T: Lane>(
     b: u64,
     window: &mut Window,
     stored: &mut Vec<T>,
-    lines: &mut [T],
+    block: &mut [T],
 ) -> Option<()>
     requires same_type { T.width ≡ width_of part.now.ty }
     requires known { whole ≡ true → HasWholeBlocks part.now.shape }
     requires in_array { b < blocks part.now.shape }
     requires values { vec_len stored.old + product (extent_of part.now.shape b) ≤ vec_capacity stored.old }
     requires size { size ≡ 4 ^ length part.now.shape }
-    requires lines { size ≤ length lines.old }
+    requires block { size ≤ length block.old }
     ensures some { OnSome result (ReadsStored part.now b window.old.reader window.new.reader
         (map T.value stored.old.items) (map T.value stored.new.items)) }
     ensures place { OnSome result (window.new.reader.at + length (left_of window.new)
@@ -93,7 +178,7 @@ fn read_block<T: Lane>(
     ensures room { window.new.room ≡ window.old.room }
     ensures ended { window.new.ended ≡ window.old.ended }
 {
-    let block = &mut lines[..size];
+    let block = &mut block[..size];
     let mut reader = window.reader();
     read_code(part, &mut reader, block)?;
     // Known by this call: the place is not behind the end.

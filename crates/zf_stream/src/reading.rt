@@ -10,9 +10,10 @@ ghost use Rattle.zf_stream.specs.ReadRaw.{ReadsValues, LacksRaw, GoesOn};
 ghost use Rattle.zf_parse.specs.declared.fault.StreamFault.TheVariants.{Read};
 
 use crate::StreamFault;
-use crate::values::{put_values, value_len};
+use crate::values::put_values;
 use zf_base::Lane;
 use zf_dev::{Source, fill};
+use zf_pad::value_len;
 
 /// Fills `raw` with the next bytes, of which `before` came before.
 pub(crate) fn read_raw<S: Source>(

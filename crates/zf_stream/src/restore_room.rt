@@ -16,9 +16,8 @@ use zf_base::Lane;
 use zf_header::Header;
 use zf_parse::longest_code;
 
-// How many values are brought in raster order at once, and so written: 64 KiB or more, which a sink hands on
-// as they are, and no block has more.
-const LINES: usize = 1 << 14;
+// No block has more values.
+const BLOCK: usize = 256;
 
 /// What a stream is restored in, so many rows at a time.
 #[derive(Drop)]
@@ -29,12 +28,12 @@ pub(crate) struct RestoreRoom<T: Lane> {
     pub(crate) longest: u64,
     /// The values of a slab, in the order of blocks.
     pub(crate) stored: Vec<T>,
-    /// Values of a block, and then of the slab in raster order.
-    pub(crate) lines: Vec<T>,
+    /// The values of a block.
+    pub(crate) block: Vec<T>,
     /// Bytes on their way from the source or to the sink.
     pub(crate) piece: Vec<u8>,
-    ghost long: { 256 ≤ vec_len lines },
-    ghost wide: { 8 ≤ vec_len piece },
+    ghost long: { 256 ≤ vec_len block },
+    ghost wide: { 32 ≤ vec_len piece },
 }
 
 /// Takes all memory for an array whose stream has these first bytes, the header among them.
@@ -63,7 +62,7 @@ pub(crate) fn restore_room<T: Lane>(
     let longest = longest_code::<T>(h);
     let first = (8 * PIECE).min(slab.blocks() * longest);
     let window = Window::new(alloc, longest + first, prefix, u64::from(header_len))?;
-    let lines = vec![in alloc; T::zero(); LINES]?;
+    let block = vec![in alloc; T::zero(); BLOCK]?;
     let piece = vec![in alloc; 0; PIECE as usize]?;
     // Room for a slab is taken here, and written block by block: a stream that ends early needs no more than
     // its values.
@@ -73,7 +72,7 @@ pub(crate) fn restore_room<T: Lane>(
         window,
         longest,
         stored,
-        lines,
+        block,
         piece,
     })
 }

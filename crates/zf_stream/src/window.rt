@@ -149,8 +149,8 @@ impl Window {
         Ok(())
     }
 
-    // How many bits are held that are not read yet.
-    fn left(&self) -> u64
+    /// How many bits are held that are not read yet.
+    pub(crate) fn left(&self) -> u64
         ensures count { result ≡ length (left_of self.now) }
         ensures within { self.now.reader.at + result ≡ length self.now.reader.all }
     {

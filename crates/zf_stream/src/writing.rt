@@ -12,11 +12,10 @@ ghost use Rattle.zf_parse.specs.declared.fault.StreamFault.TheVariants.{Write};
 
 use crate::StreamFault;
 use crate::bytes::put_bytes;
-use crate::values::{put_raw, value_len};
 use zf_base::{Lane, Shape};
 use zf_bits::{BitWriter, get_bits};
 use zf_dev::{Sink, write_all};
-use zf_pad::copy_lines;
+use zf_pad::{copy_lines, put_raw, value_len};
 
 /// Writes the whole words of a code, and keeps the bits behind them.
 pub(crate) fn write_whole_words<O: Sink>(
@@ -99,17 +98,15 @@ pub(crate) fn write_values<T: Lane, O: Sink>(
 }
 
 /// Writes the values of an array that are kept in the order of blocks, in raster order as raw bytes, by way
-/// of `lines` and `piece`.
+/// of `piece`.
 pub(crate) fn write_stored<T: Lane, O: Sink>(
     shape: &Shape,
     stored: &[T],
-    lines: &mut [T],
     piece: &mut [u8],
     out: &mut O,
 ) -> Result<(), StreamFault>
     requires all { product shape.now ≤ length stored.now }
-    requires lines { 4 ≤ length lines.old }
-    requires piece { 8 ≤ length piece.old }
+    requires piece { 32 ≤ length piece.old }
     ensures ok { OnOk result (Appends (O.contents out.old) (O.contents out.new)
         (raw T.width (raster_of shape.now (map T.value stored.now)))) }
     ensures err { OnErr result (AppendsPrefix (O.contents out.old) (O.contents out.new)
@@ -121,10 +118,11 @@ pub(crate) fn write_stored<T: Lane, O: Sink>(
         // In one dimension the two orders are one.
         return write_values(&stored[..all as usize], piece, out);
     }
+    let len = value_len::<T>();
     let mut at = 0;
     while at < all {
-        let count = copy_lines(shape, stored, at, lines);
-        write_values(&lines[..count], piece, out)?;
+        let count = copy_lines(shape, stored, at, piece);
+        write_bytes(&piece[..count * len], out)?;
         at += count as u64;
     }
     Ok(())

@@ -165,6 +165,39 @@ fn arrays_of_several_slabs_come_back(rt: HostRuntime) -> Result<(), Fail> {
     Ok(())
 }
 
+// In one to four dimensions, of which the second and the fourth have a size that cuts blocks.
+const EMPTY: [Kind; 6] = [
+    (Ty::I64, 1, [4128, 1, 1, 1], Mode::Reversible),
+    (Ty::I32, 1, [4130, 1, 1, 1], Mode::Reversible),
+    (Ty::I32, 2, [8, 48, 1, 1], Mode::Reversible),
+    (Ty::I64, 2, [9, 24, 1, 1], Mode::Reversible),
+    (Ty::I32, 3, [8, 8, 12, 1], Mode::Reversible),
+    (Ty::I64, 4, [4, 8, 4, 8], Mode::Reversible),
+];
+
+/// Bytes of zeros, but for one value in 97, for so many values as the array has.
+fn mostly_zeros(alloc: Global, kind: &Kind) -> Result<Vec<u8>, AllocError> {
+    let (ty, _, [nx, ny, nz, nw], _) = *kind;
+    let len = if ty == Ty::I32 { 4 } else { 8 };
+    let mut raw = Vec::new(alloc);
+    for at in 0..nx.wrapping_mul(ny).wrapping_mul(nz).wrapping_mul(nw) {
+        let value: u64 = if at % 97 == 50 { at } else { 0 };
+        raw.extend_from_slice(&value.to_le_bytes()[..len])?;
+    }
+    Ok(raw)
+}
+
+#[test]
+fn fields_of_zeros_come_back(rt: HostRuntime) -> Result<(), Fail> {
+    for kind in EMPTY.iter() {
+        let raw = mostly_zeros(rt.alloc(), kind)?;
+        let out = compressed(&rt, rt.alloc(), kind, &raw, &PIECES[1], &Ok(()))?;
+        let values = restored(&rt, rt.alloc(), out.bytes(), &PIECES[1], &Ok(()))?;
+        assert!(rt; hash(values.bytes()) == hash(&raw));
+    }
+    Ok(())
+}
+
 // How many bytes of a stream of 784 there are, of which the last one is so, the answer, and how many bytes of
 // zeros are written at least.
 const CUTS: [(usize, u8, Result<(), StreamFault>, usize); 7] = [

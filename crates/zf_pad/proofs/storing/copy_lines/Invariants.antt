@@ -1,14 +1,16 @@
-use Rattle.std.proofs.Common.{◌≡◌, ◌+◌, ◌-◌, ◌≤◌, map, take, drop, length}
-use Rattle.zf_pad.specs.Stored.{raster_of, IsFirst, IsKnown, other_sizes}
+use Rattle.std.proofs.Common.{◌≡◌, ◌<◌, All, ◌+◌, ◌-◌, ◌/◌, ◌≤◌, map, take, drop, length}
+use Rattle.std.specs.Int.{byte_len}
+use Rattle.zf_pad.specs.Stored.{raster_of, IsFirst, IsKnown, other_sizes, values_in}
 use Rattle.zf_pad.proofs.storing.copy_lines.Given as goal
 
 -- the values so far were copied
 pub record Copied (g : goal.Over) (l : goal.Live-loop-held g) : Type 0 where
   pub within : l.held ≤ l.left
-  pub room : l.held ≤ length l.part
+  pub room : l.held ≤ length l.piece / byte_len g.T.Lane.width
   pub known : IsKnown (other_sizes l.shape) l.known
   pub first : IsFirst l.shape (l.from + l.held)
-  pub values : take l.held (map g.T.Lane.value l.part) ≡ take l.held (drop l.from (raster_of l.shape (map g.T.Lane.value l.stored)))
+  pub bytes : All (λ b. b < 256) l.piece
+  pub values : take l.held (values_in g.T.Lane.width l.piece) ≡ take l.held (drop l.from (raster_of l.shape (map g.T.Lane.value l.stored)))
 
 abbrev pub invariant-loop-held : goal.invariant-loop-held
 invariant-loop-held g l = Copied g l

@@ -1,5 +1,5 @@
 use Rattle.std.proofs.Common.{◌≡◌, ℕ, ◌+◌, ◌-◌, ◌%◌, ◌≤◌, ◌⊎◌, inl, inr, ⊎_elim, map, ap, sym, arith}
-use Rattle.zf_pad.{specs.Stored.{line_len}, proofs.StoredLines.{next_first, line_end}}
+use Rattle.zf_pad.{specs.Stored.{line_len, values_in}, proofs.StoredLines.{next_first, line_end}}
 use Rattle.zf_pad.proofs.FourLines.{four_there, four_small, lines_small, four_end, four_first, four_values}
 use Rattle.zf_pad.proofs.storing.copy_next.Goals as goal
 
@@ -29,7 +29,7 @@ returns-in-Some-clause-first g c = four_first _ _ _ _ _ _ c.in-Some.ensures.four
 
 pub returns-in-Some-clause-values : goal.returns-in-Some-clause-values
 returns-in-Some-clause-values g c =
-    four_values _ _ _ _ _ _ c.in-Some.ensures.four (map g.T.Lane.value c.args.stored.now) (map g.T.Lane.value c.copy_four.new.part) c.args.to c.copy_four.ensures.rows
+    four_values _ _ _ _ _ _ c.in-Some.ensures.four (map g.T.Lane.value c.args.stored.now) (values_in g.T.Lane.width c.copy_four.new.piece) c.args.to c.copy_four.ensures.rows
 
 -- so much of a line, by its size as the shape tells it
 module _ (n m at count : ℕ) (is : m ≡ n) (some : 1 ≤ count) (left : count ≤ m - at % m) where

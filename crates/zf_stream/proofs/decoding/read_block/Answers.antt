@@ -4,11 +4,8 @@ use Rattle.zf_bits.specs.Reader.{Reader, rest, Reads}
 use Rattle.zf_header.specs.declared.header.Header.{Header}
 use Rattle.zf_stream.{specs.Restoring.{ReadsStored}, specs.Windows.{Window}}
 use Rattle.zf_parse.proofs.Joining.{rest_behind}
+use Rattle.zf_stream.proofs.Runs.{place_behind}
 use Rattle.zf_stream.proofs.decoding.read_block.Goals as goal
-
--- what was read and what is left are what was left
-place_behind : (old new : Reader) (bits : List Bool) → Reads old new bits → new.at + length (rest new) ≡ old.at + length (rest old)
-place_behind old new bits read = omega (arith, read.place, ap length read.next, length-append bits (rest new))
 
 -- a window that went to where its reader stands
 module _ (w v : Window) (mid new : Reader) (at : ℕ) (from : mid ≡ w.reader) (all : new.all ≡ mid.all) (is : at ≡ new.at) (gone : v ≡ record { reader = record { all = w.reader.all; at = at }; room = w.room; ended = w.ended }) where

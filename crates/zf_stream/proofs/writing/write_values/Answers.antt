@@ -22,7 +22,7 @@ returns-in_err-write_bytes-clause-err g c =
     let bytes = λ (vs : List g.row.T.Denot). raw g.T.Lane.width (map g.T.Lane.value vs) in
     let both = joined g.T.Lane.width g.T.Lane.value in
     let fits = fits_piece _ _ len _ _ c.min-n.ensures c.loop-at.auto.piece in
-    let same = piece_is bytes both _ c.loop-at.at _ _ c.loop-at.piece _ c.put_raw.ensures c.put_raw.auto.bytes fits in
+    let same = piece_is bytes both _ c.loop-at.at _ _ c.loop-at.piece _ c.put_raw.ensures.bytes c.put_raw.auto.bytes fits in
     let failed = rw same at c.in_err-write_bytes.ensures.err in
     on_err c.from_residual.result _ (part_failed bytes both _ _ _ _ _ _ c.loop-at.invariant.written failed)
 
@@ -32,7 +32,7 @@ loop-at-preserved g c =
     let bytes = λ (vs : List g.row.T.Denot). raw g.T.Lane.width (map g.T.Lane.value vs) in
     let both = joined g.T.Lane.width g.T.Lane.value in
     let fits = fits_piece _ _ len _ _ c.min-n.ensures c.loop-at.auto.piece in
-    let same = piece_is bytes both _ c.loop-at.at _ _ c.loop-at.piece _ c.put_raw.ensures c.put_raw.auto.bytes fits in
+    let same = piece_is bytes both _ c.loop-at.at _ _ c.loop-at.piece _ c.put_raw.ensures.bytes c.put_raw.auto.bytes fits in
     let written = rw same at c.in_ok-write_bytes.ensures.ok in
     record {
       within = omega (arith, c.loop-at-test.true, c.min-n.ensures);
