@@ -30,14 +30,11 @@ pub fn has_whole_blocks(shape: &Shape) -> bool
     true
 }
 
-/// Puts the values that exist of block `b` behind those of the blocks before it. `whole` is what
-/// [`has_whole_blocks`] says of the array, so that it is asked once.
+/// Puts the values that exist of block `b` behind those of the blocks before it.
 ///
 /// `block` has `4^d` values, x fastest; those at places that do not exist are not looked at. The room was
 /// taken before, so there is no want of memory.
-#[inline(always)]
-pub fn append_block<T: Lane>(shape: &Shape, whole: bool, b: u64, block: &[T], stored: &mut Vec<T>)
-    requires known { whole ≡ true → HasWholeBlocks shape.now }
+pub fn append_block<T: Lane>(shape: &Shape, b: u64, block: &[T], stored: &mut Vec<T>)
     requires in_array { b < blocks shape.now }
     requires whole { length block.now ≡ 4 ^ length shape.now }
     requires room { vec_len stored.old + product (extent_of shape.now b) ≤ vec_capacity stored.old }
@@ -46,10 +43,6 @@ pub fn append_block<T: Lane>(shape: &Shape, whole: bool, b: u64, block: &[T], st
     ensures capacity { vec_capacity stored.old ≤ vec_capacity stored.new }
 {
     let d = shape.dims();
-    if whole {
-        append_whole(d, block, stored);
-        return;
-    }
     let e = part_of(shape, b);
     if is_whole(&e.size, d) {
         append_whole(d, block, stored);

@@ -1,5 +1,5 @@
 -- The room that an array is compressed in, and the one that a stream is restored in.
-use Rattle.std.specs.Prelude.{ℕ, ◌≡◌, ◌+◌, ◌*◌, ◌≤◌, List, length, Option, vec_capacity}
+use Rattle.std.specs.Prelude.{ℕ, ◌≡◌, ◌+◌, ◌*◌, ◌≤◌, List, length, Option}
 use Rattle.std.specs.Int.{Width}
 use Rattle.std.specs.declared.cmp.PartialEq.{Ghosts as PartialEq}
 use Rattle.zf_base.specs.declared.lane.Lane.{Ghosts as Lane}
@@ -41,7 +41,7 @@ pub record CanRestore {X : Type 0} {l : Lane X} {e : PartialEq X} (h : Header) (
   pub longest : longest_code h ≤ room.longest
   pub held : room.longest + 64 ≤ 64 * room.window.room
   pub fill : 128 ≤ 64 * room.window.room
-  pub values : count ≤ vec_capacity room.stored
+  pub values : count ≤ room.stored.room
   pub ended : KnowsEnd room.window src
 
 -- and for the values of the rows that are restored at a time, which have such a width
@@ -56,4 +56,4 @@ pub record Stays {X : Type 0} {l : Lane X} {e : PartialEq X} (old new : RestoreR
   pub rows : new.rows ≡ old.rows
   pub longest : new.longest ≡ old.longest
   pub held : new.window.room ≡ old.window.room
-  pub values : vec_capacity old.stored ≤ vec_capacity new.stored
+  pub values : old.stored.room ≤ new.stored.room

@@ -1,7 +1,7 @@
 //! The values of a slab.
 
 ghost use Rattle.std.specs.Prelude.{◌≡◌, ◌≢◌, ◌-◌, ◌+◌, ◌*◌, ◌<◌, ◌≤◌, ◌^◌, true, map, length, Err, IfErr};
-ghost use Rattle.std.specs.Prelude.{OnOk, OnErr, OnSome, IfNone, vec_len, vec_capacity};
+ghost use Rattle.std.specs.Prelude.{OnOk, OnErr, OnSome, IfNone};
 ghost use Rattle.zf_spec.specs.Grid.{product, blocks, extent_of};
 ghost use Rattle.zf_base.specs.Widths.{width_of};
 ghost use Rattle.zf_pad.specs.Stored.{HasWholeBlocks, raster_of};
@@ -15,16 +15,18 @@ ghost use Rattle.zf_parse.specs.declared.fault.StreamFault.TheVariants.{Read};
 
 use crate::StreamFault;
 use crate::restore_room::RestoreRoom;
+use crate::stored::Stored;
 use crate::window::Window;
-use zf_axes::fill;
 use zf_base::{Lane, block_len};
+use zf_bits::BitReader;
 use zf_dev::Source;
 use zf_header::Header;
-use zf_pad::{append_block, has_whole_blocks};
+use zf_pad::has_whole_blocks;
 use zf_parse::{pass_zero_code, read_code};
 
-/// No code of a block that has other values has fewer bits, but at the lowest rates and precisions.
-const FEW: u64 = 9;
+/// Without loss, no code of a block with a value that is not zero has fewer bits. It only says where another
+/// look is worth its time, and so does no harm at rates and precisions, where there are such codes.
+const FEW: u64 = 8;
 
 /// Reads the codes of a slab, an array of its own whose blocks are those of the array from block `first` on.
 ///
@@ -44,7 +46,7 @@ pub(crate) fn read_slab<T: Lane, S: Source>(
         room.old.window room.new.window (raster_of part.now.shape (map T.value room.new.stored.items))) }
     ensures err { IfErr result (LacksSlab part.now first (S.contents src.old)
         (S.contents src.new) room.old.window) }
-    ensures all { OnOk result (vec_len room.new.stored ≡ product part.now.shape) }
+    ensures all { OnOk result (length room.new.stored.items ≡ product part.now.shape) }
     ensures stays { OnOk result (Stays room.old room.new) }
     ensures ended { OnOk result (KnowsEnd room.new.window (S.contents src.new)) }
     ensures source { Reads S.Source (result ≡ Err Read) src.old src.new }
@@ -57,15 +59,7 @@ pub(crate) fn read_slab<T: Lane, S: Source>(
     let mut look = whole;
     while b < blocks {
         room.window.reach(room.longest, &mut room.piece, src)?;
-        let zeros = read_zeros(
-            part,
-            look,
-            size,
-            b,
-            &mut room.window,
-            &mut room.stored,
-            &mut room.block,
-        );
+        let zeros = read_zeros(part, look, size, b, &mut room.window, &mut room.stored);
         if zeros > 0 {
             b += zeros;
             look = false;
@@ -100,7 +94,7 @@ fn may_go_on(whole: bool, before: u64, after: u64) -> bool
 }
 
 /// Reads the codes of blocks of zeros from block `b` on, as long as one is seen to be next, and answers how
-/// many. They are copied out of `block`. Where a size of the array cuts blocks, none are read.
+/// many. Where a size of the array cuts blocks, none are read.
 #[inline(always)]
 fn read_zeros<T: Lane>(
     part: &Header,
@@ -108,22 +102,21 @@ fn read_zeros<T: Lane>(
     size: usize,
     b: u64,
     window: &mut Window,
-    stored: &mut Vec<T>,
-    block: &mut [T],
+    stored: &mut Stored<T>,
 ) -> u64
     requires same_type { T.width ≡ width_of part.now.ty }
     requires known { whole ≡ true → HasWholeBlocks part.now.shape }
     requires in_array { b ≤ blocks part.now.shape }
-    requires values { whole ≡ true → vec_len stored.old + 4 ^ length part.now.shape * (blocks part.now.shape - b)
-        ≤ vec_capacity stored.old }
+    requires values { whole ≡ true → length stored.old.items
+        + 4 ^ length part.now.shape * (blocks part.now.shape - b) ≤ stored.old.room }
     requires size { size ≡ 4 ^ length part.now.shape }
-    requires block { size ≤ length block.old }
+    requires few { size ≤ 256 }
     ensures within { b + result ≤ blocks part.now.shape }
     ensures read { ReadsRun part.now b result window.old.reader window.new.reader
         (map T.value stored.old.items) (map T.value stored.new.items) }
     ensures place { window.new.reader.at + length (left_of window.new)
         ≡ window.old.reader.at + length (left_of window.old) }
-    ensures values { vec_capacity stored.old ≤ vec_capacity stored.new }
+    ensures values { stored.old.room ≤ stored.new.room }
     ensures room { window.new.room ≡ window.old.room }
     ensures ended { window.new.ended ≡ window.old.ended }
 {
@@ -131,17 +124,10 @@ fn read_zeros<T: Lane>(
         return 0;
     }
     let mut reader = window.reader();
-    // A look, so that nothing is filled where another block comes.
-    let mut ahead = reader.another();
-    if !pass_zero_code::<T>(part, &mut ahead) {
-        return 0;
-    }
-    let block = &mut block[..size];
-    fill(T::zero(), block);
     let blocks = part.shape.blocks();
     let mut n = 0;
     while b + n < blocks && pass_zero_code::<T>(part, &mut reader) {
-        append_block(&part.shape, whole, b + n, block, stored);
+        stored.append_zeros(size);
         n += 1;
     }
     // Known by this call: the place is not behind the end.
@@ -151,8 +137,8 @@ fn read_zeros<T: Lane>(
     n
 }
 
-/// Reads the code of block `b`, whose values are so many, by way of `block`, or answers `None` where the bits
-/// that are held end too early.
+/// Reads the code of block `b`, whose values are so many, or answers `None` where the bits that are held end
+/// too early. Where a size of the array cuts blocks, it goes by way of `block`.
 #[inline(always)]
 fn read_block<T: Lane>(
     part: &Header,
@@ -160,31 +146,60 @@ fn read_block<T: Lane>(
     size: usize,
     b: u64,
     window: &mut Window,
-    stored: &mut Vec<T>,
+    stored: &mut Stored<T>,
     block: &mut [T],
 ) -> Option<()>
     requires same_type { T.width ≡ width_of part.now.ty }
     requires known { whole ≡ true → HasWholeBlocks part.now.shape }
     requires in_array { b < blocks part.now.shape }
-    requires values { vec_len stored.old + product (extent_of part.now.shape b) ≤ vec_capacity stored.old }
+    requires values { length stored.old.items + product (extent_of part.now.shape b) ≤ stored.old.room }
     requires size { size ≡ 4 ^ length part.now.shape }
+    requires few { size ≤ 256 }
     requires block { size ≤ length block.old }
     ensures some { OnSome result (ReadsStored part.now b window.old.reader window.new.reader
         (map T.value stored.old.items) (map T.value stored.new.items)) }
     ensures place { OnSome result (window.new.reader.at + length (left_of window.new)
         ≡ window.old.reader.at + length (left_of window.old)) }
     ensures none { IfNone result (LacksCode T.width part.now.mode (length part.now.shape) window.old.reader) }
-    ensures values { vec_capacity stored.old ≤ vec_capacity stored.new }
+    ensures values { stored.old.room ≤ stored.new.room }
     ensures room { window.new.room ≡ window.old.room }
     ensures ended { window.new.ended ≡ window.old.ended }
 {
-    let block = &mut block[..size];
     let mut reader = window.reader();
-    read_code(part, &mut reader, block)?;
+    if whole {
+        stored.read_whole(part, size, &mut reader)?;
+    } else {
+        read_cut(part, size, b, &mut reader, stored, block)?;
+    }
     // Known by this call: the place is not behind the end.
     let _left = reader.left();
     let at = reader.at();
     window.go_to(at);
-    append_block(&part.shape, whole, b, block, stored);
+    Some(())
+}
+
+/// Reads that code by way of `block`, and puts the values that exist behind those that are stored.
+#[inline(always)]
+fn read_cut<T: Lane>(
+    part: &Header,
+    size: usize,
+    b: u64,
+    reader: &mut BitReader<'_>,
+    stored: &mut Stored<T>,
+    block: &mut [T],
+) -> Option<()>
+    requires same_type { T.width ≡ width_of part.now.ty }
+    requires in_array { b < blocks part.now.shape }
+    requires values { length stored.old.items + product (extent_of part.now.shape b) ≤ stored.old.room }
+    requires size { size ≡ 4 ^ length part.now.shape }
+    requires block { size ≤ length block.old }
+    ensures some { OnSome result (ReadsStored part.now b reader.old reader.new
+        (map T.value stored.old.items) (map T.value stored.new.items)) }
+    ensures none { IfNone result (LacksCode T.width part.now.mode (length part.now.shape) reader.old) }
+    ensures values { stored.old.room ≤ stored.new.room }
+{
+    let block = &mut block[..size];
+    read_code(part, reader, block)?;
+    stored.append_block(&part.shape, b, block);
     Some(())
 }

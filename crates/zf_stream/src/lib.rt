@@ -12,6 +12,7 @@ mod restore_room;
 mod restoring;
 mod room;
 mod slabs;
+mod stored;
 mod values;
 mod window;
 mod writing;

@@ -1,6 +1,6 @@
 //! The room that a stream is restored in.
 
-ghost use Rattle.std.specs.Prelude.{◌≡◌, ◌≤◌, ◌<◌, ◌+◌, ◌*◌, true, length, IfOk, vec_len, vec_capacity};
+ghost use Rattle.std.specs.Prelude.{◌≡◌, ◌≤◌, ◌<◌, ◌+◌, ◌*◌, true, length, IfOk, vec_len};
 ghost use Rattle.zf_spec.specs.Stream.{to_bits};
 ghost use Rattle.zf_base.specs.Widths.{width_of};
 ghost use Rattle.zf_pad.specs.Slabs.{row_len};
@@ -10,6 +10,7 @@ ghost use Rattle.zf_stream.specs.Rows.{ArePieces};
 
 use crate::room::PIECE;
 use crate::slabs::{most_rows, rows_of, with_rows};
+use crate::stored::Stored;
 use crate::window::Window;
 use std::alloc::{AllocError, Global};
 use zf_base::Lane;
@@ -27,8 +28,8 @@ pub(crate) struct RestoreRoom<T: Lane> {
     pub(crate) window: Window,
     pub(crate) longest: u64,
     /// The values of a slab, in the order of blocks.
-    pub(crate) stored: Vec<T>,
-    /// The values of a block.
+    pub(crate) stored: Stored<T>,
+    /// The values of a block, of which a part exists.
     pub(crate) block: Vec<T>,
     /// Bytes on their way from the source or to the sink.
     pub(crate) piece: Vec<u8>,
@@ -50,7 +51,7 @@ pub(crate) fn restore_room<T: Lane>(
     ensures longest { IfOk result (λ room. longest_code h.now ≤ room.longest) }
     ensures held { IfOk result (λ room. room.longest + 64 ≤ 64 * room.window.room) }
     ensures fill { IfOk result (λ room. 128 ≤ 64 * room.window.room) }
-    ensures values { IfOk result (λ room. row_len h.now.shape * room.rows ≤ vec_capacity room.stored) }
+    ensures values { IfOk result (λ room. row_len h.now.shape * room.rows ≤ room.stored.room) }
     ensures bits { IfOk result (λ room. room.window.reader.all ≡ to_bits prefix.now) }
     ensures place { IfOk result (λ room. room.window.reader.at ≡ header_len) }
     ensures ended { IfOk result (λ room. room.window.ended ≡ true → length prefix.now < 24) }
@@ -64,9 +65,9 @@ pub(crate) fn restore_room<T: Lane>(
     let window = Window::new(alloc, longest + first, prefix, u64::from(header_len))?;
     let block = vec![in alloc; T::zero(); BLOCK]?;
     let piece = vec![in alloc; 0; PIECE as usize]?;
-    // Room for a slab is taken here, and written block by block: a stream that ends early needs no more than
+    // Room for a slab is taken here, and written as blocks come: a stream that ends early needs no more than
     // its values.
-    let stored = Vec::with_capacity(alloc, slab.values() as usize)?;
+    let stored = Stored::with_room(alloc, slab.values() as usize)?;
     Ok(RestoreRoom {
         rows,
         window,

@@ -176,7 +176,7 @@ fn restore_slabs<T: Lane, S: Source, O: Sink>(
             mode: h.mode,
         };
         read_slab(&part, first, room, src)?;
-        write_stored(&part.shape, &room.stored, &mut room.piece, out)?;
+        write_stored(&part.shape, room.stored.values(), &mut room.piece, out)?;
         first += part.shape.blocks();
         row += here;
     }

@@ -1,4 +1,4 @@
-use Rattle.std.proofs.Common.{rules, ◌≡◌, ◌+◌, ◌/◌, ◌<◌, ◌≤◌, ℕ, ◌++◌, pos, map, take, drop, length, get_or, take-append-drop, sym, ap, ◌∙◌, arith}
+use Rattle.std.proofs.Common.{rules, ◌≡◌, ◌+◌, ◌/◌, ◌<◌, ◌++◌, pos, map, take, drop, length, get_or, take-append-drop, sym, ap, ◌∙◌, arith}
 use Rattle.std.{proofs.lemmas.List.{length-map, length-drop, get_or-map, get_or-drop}, specs.Int.{byte_len}}
 use Rattle.zf_pad.{specs.Stored.{values_in}, proofs.RawValues.{length-values_in, one_put}}
 use Rattle.zf_pad.proofs.raw.put_raw_at.Goals as goal

@@ -1,4 +1,4 @@
-use Rattle.std.proofs.Common.{rules, suc, refl, ◌≡◌, FitsSigned, All, ◌+◌, ◌*◌, ◌≤◌, ◌<◌, ℕ, List, [], ◌∷◌, ◌++◌, length, take, drop, get_or, set, take-append-drop, sym, ap, ◌∙◌, arith}
+use Rattle.std.proofs.Common.{suc, refl, ◌≡◌, FitsSigned, All, ◌+◌, ◌*◌, ◌≤◌, ◌<◌, [], ◌∷◌, ◌++◌, length, take, drop, get_or, take-append-drop, sym, ap, ◌∙◌, arith}
 use Rattle.std.{proofs.lemmas.List.{append-nil, drop-drop, set_split}, proofs.lemmas.List.Elements.{All-nil, All-cons}}
 use Rattle.std.{proofs.Math.Nat.{add-mul}, specs.Int.{w64, byte_len, to_le_bytes, cast_unsigned}}
 use borrow.Rule.Slice.PartMut.{put_mid}
