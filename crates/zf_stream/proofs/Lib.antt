@@ -11,6 +11,7 @@
 --     ReadingValues  values that are read piece by piece
 --     Slabwise       an array that is compressed slab by slab
 --     Padded         the codes of padded blocks
+--     Places         values that are put behind those that are held
 --     LookedAt       what the stream of raw bytes looks at
 --     PrefixesOfStreams    what was written of a stream
 --     Headed         what the first bytes of a source say of all of it
@@ -39,6 +40,7 @@ pub mod RawRows
 pub mod ReadingValues
 pub mod Slabwise
 pub mod Padded
+pub mod Places
 pub mod LookedAt
 pub mod PrefixesOfStreams
 pub mod Headed

@@ -1,5 +1,5 @@
 -- The values of a slab that are held, and what is read to behind them.
-use Rattle.std.specs.Prelude.{ℕ, ◌≡◌, ◌++◌, ℤ, List, length, refl}
+use Rattle.std.specs.Prelude.{ℕ, ◌≡◌, ◌^◌, ◌++◌, ℤ, List, length, refl}
 use Rattle.std.specs.Coded.{Coded, code_by, coded×, coded_list, coded_ℕ}
 use Rattle.std.specs.Int.{Width}
 use Rattle.zf_bits.specs.Reader.{Reader}
@@ -20,4 +20,5 @@ held_code {X} code =
 pub record ReadsBehind (w : Width) (h : Header) (old new : Reader) (before now : List ℤ) : Type 0 where
   pub block : List ℤ
   pub code : ReadsCode w h.mode (length h.shape) old new block
+  pub long : length block ≡ 4 ^ length h.shape
   pub behind : now ≡ before ++ block

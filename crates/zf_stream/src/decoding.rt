@@ -5,6 +5,7 @@ ghost use Rattle.std.specs.Prelude.{OnOk, OnErr, OnSome, IfNone};
 ghost use Rattle.zf_spec.specs.Grid.{product, blocks, extent_of};
 ghost use Rattle.zf_base.specs.Widths.{width_of};
 ghost use Rattle.zf_pad.specs.Stored.{HasWholeBlocks, raster_of};
+ghost use Rattle.zf_bits.specs.Reader.{rest};
 ghost use Rattle.zf_dev.specs.Devices.{Reads};
 ghost use Rattle.zf_parse.specs.Parsing.{longest_code};
 ghost use Rattle.zf_parse.specs.ReadStreams.{ReadsCode, LacksCode};
@@ -166,11 +167,7 @@ fn read_block<T: Lane>(
     ensures ended { window.new.ended ≡ window.old.ended }
 {
     let mut reader = window.reader();
-    if whole {
-        stored.read_whole(part, size, &mut reader)?;
-    } else {
-        read_cut(part, size, b, &mut reader, stored, block)?;
-    }
+    read_next(part, whole, size, b, &mut reader, stored, block)?;
     // Known by this call: the place is not behind the end.
     let _left = reader.left();
     let at = reader.at();
@@ -178,10 +175,11 @@ fn read_block<T: Lane>(
     Some(())
 }
 
-/// Reads that code by way of `block`, and puts the values that exist behind those that are stored.
+/// Reads that code from a reader.
 #[inline(always)]
-fn read_cut<T: Lane>(
+fn read_next<T: Lane>(
     part: &Header,
+    whole: bool,
     size: usize,
     b: u64,
     reader: &mut BitReader<'_>,
@@ -189,15 +187,23 @@ fn read_cut<T: Lane>(
     block: &mut [T],
 ) -> Option<()>
     requires same_type { T.width ≡ width_of part.now.ty }
+    requires known { whole ≡ true → HasWholeBlocks part.now.shape }
     requires in_array { b < blocks part.now.shape }
     requires values { length stored.old.items + product (extent_of part.now.shape b) ≤ stored.old.room }
     requires size { size ≡ 4 ^ length part.now.shape }
+    requires few { size ≤ 256 }
     requires block { size ≤ length block.old }
     ensures some { OnSome result (ReadsStored part.now b reader.old reader.new
         (map T.value stored.old.items) (map T.value stored.new.items)) }
+    ensures place { OnSome result (reader.new.at + length (rest reader.new)
+        ≡ reader.old.at + length (rest reader.old)) }
+    ensures all { OnSome result (reader.new.all ≡ reader.old.all) }
     ensures none { IfNone result (LacksCode T.width part.now.mode (length part.now.shape) reader.old) }
     ensures values { stored.old.room ≤ stored.new.room }
 {
+    if whole {
+        return stored.read_whole(part, size, reader);
+    }
     let block = &mut block[..size];
     read_code(part, reader, block)?;
     stored.append_block(&part.shape, b, block);

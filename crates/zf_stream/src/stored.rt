@@ -1,6 +1,6 @@
 //! The values of a slab, in room that slabs share.
 
-ghost use Rattle.std.specs.Prelude.{◌≡◌, ◌≤◌, ◌<◌, ◌+◌, ◌^◌, ◌++◌, [], pos, IfOk, OnSome, IfNone};
+ghost use Rattle.std.specs.Prelude.{◌≡◌, ◌≤◌, ◌<◌, ◌⊎◌, ◌+◌, ◌^◌, ◌++◌, [], pos, IfOk, OnSome, IfNone};
 ghost use Rattle.std.specs.Prelude.{map, length, take, replicate, vec_len, vec_capacity};
 ghost use Rattle.zf_spec.specs.Grid.{product, blocks, extent_of};
 ghost use Rattle.zf_base.specs.Widths.{width_of};

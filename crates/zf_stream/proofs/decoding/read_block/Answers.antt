@@ -1,10 +1,7 @@
-use Rattle.std.proofs.Common.{rules, ◌≡◌, ℕ, ◌+◌, ℤ, Bool, List, length, sym, ap, ◌∙◌, length-append, arith}
-use Rattle.zf_base.proofs.Extents.{length-extent_of}
-use Rattle.zf_bits.specs.Reader.{Reader, rest, Reads}
+use Rattle.std.proofs.Common.{rules, ◌≡◌, ℕ, ◌+◌, ℤ, Bool, List, length, sym, ap, ◌∙◌}
+use Rattle.zf_bits.specs.Reader.{Reader, rest}
 use Rattle.zf_header.specs.declared.header.Header.{Header}
 use Rattle.zf_stream.{specs.Restoring.{ReadsStored}, specs.Windows.{Window}}
-use Rattle.zf_parse.proofs.Joining.{rest_behind}
-use Rattle.zf_stream.proofs.Runs.{place_behind}
 use Rattle.zf_stream.proofs.decoding.read_block.Goals as goal
 
 -- a window that went to where its reader stands
@@ -19,7 +16,7 @@ module _ (w v : Window) (mid new : Reader) (at : ℕ) (from : mid ≡ w.reader) 
   place_read place = ap (λ r. r.at + length (rest r)) (sym same) ∙ place ∙ ap (λ r. r.at + length (rest r)) from
 
 pub returns-clause-some : goal.returns-clause-some
-returns-clause-some g c = search (rules, block_read, length-extent_of, rest_behind)
+returns-clause-some g c = search (rules, block_read)
 
 pub returns-clause-place : goal.returns-clause-place
-returns-clause-place g c = search (rules, place_read, place_behind)
+returns-clause-place g c = search (rules, place_read)

@@ -21,7 +21,7 @@ pub returns-clause-values : goal.returns-clause-values
 returns-clause-values g c =
     omega (
       arith,
-      c.in_ok-stored.ensures.capacity,
+      c.in_ok-stored.ensures,
       c.values.ensures.value,
       ap product c.with_rows-slab.ensures,
       product-with_rows c.min-rows.result c.args.h.now.shape c.dims-dims.ensures.shape.some_dimension,
