@@ -1,7 +1,7 @@
 -- The codes of an array, row by row.
-use Rattle.std.proofs.Common.{rules, ◌≡◌, sym, ap, ◌∙◌, ℕ, zero, suc, ◌+◌, ◌-◌, ◌*◌, ◌/◌, ◌<◌, ◌≤◌, inl, Bool, ℤ, List, [], ◌++◌, map, length, take, drop, length-append, take_at, drop_at, arith}
-use Rattle.std.proofs.lemmas.List.{nil_from_length, append-nil, length-map, take-append-le, drop-append-le, length-drop, get_or-map}
-use Rattle.std.{proofs.Math.Nat.{mul-add}, specs.List.{flat_map}, specs.Int.{Width, byte_len}}
+use Rattle.std.proofs.Common.{rules, ◌≡◌, sym, ap, ◌∙◌, ℕ, ◌+◌, ◌-◌, ◌*◌, ◌/◌, ◌<◌, ◌≤◌, inl, Bool, ℤ, List, [], ◌++◌, map, length, take, drop, take_at, drop_at, arith}
+use Rattle.std.proofs.lemmas.List.{append-nil, length-map, get_or-map}
+use Rattle.std.{proofs.Math.Nat.{mul-add}, specs.List.{flat_map}}
 use Rattle.zf_spec.specs.Grid.{product, blocks, upto, count_from, extent_of, block_of}
 use Rattle.zf_spec.{specs.Stream.{values_from, block_code, codes}, proofs.RawValues.{length-values_from}}
 use Rattle.zf_spec.proofs.Counting.{map-upto_same, from_places, length-count_from, get_or-count_from}

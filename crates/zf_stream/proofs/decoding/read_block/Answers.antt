@@ -1,4 +1,4 @@
-use Rattle.std.proofs.Common.{rules, ◌≡◌, ℕ, ◌+◌, ℤ, Bool, List, length, sym, ap, ◌∙◌}
+use Rattle.std.proofs.Common.{rules, ◌≡◌, ℕ, ◌+◌, ℤ, List, length, sym, ap, ◌∙◌}
 use Rattle.zf_bits.specs.Reader.{Reader, rest}
 use Rattle.zf_header.specs.declared.header.Header.{Header}
 use Rattle.zf_stream.{specs.Restoring.{ReadsStored}, specs.Windows.{Window}}

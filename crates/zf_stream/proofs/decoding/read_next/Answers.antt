@@ -1,8 +1,7 @@
-use Rattle.std.proofs.Common.{rules, ◌≡◌, ◌+◌, ℤ, List, length, refl, arith, Option, Some, None}
+use Rattle.std.proofs.Common.{refl, arith, Option, Some, None}
 use Rattle.std.specs.Option.{OnSome}
-use Rattle.zf_bits.specs.Reader.{Reader, rest}
 use Rattle.zf_pad.proofs.Appended.{whole_block, whole_size}
-use Rattle.zf_stream.{specs.Held.{ReadsBehind}, proofs.Runs.{place_behind, stored_code}}
+use Rattle.zf_stream.{proofs.Runs.{place_behind, stored_code}}
 use Rattle.zf_stream.proofs.decoding.read_next.Goals as goal
 
 on_some : {A : Type 0} {P Q : Type 0} (r : Option A) → (P → Q) → OnSome r P → OnSome r Q

@@ -1,12 +1,12 @@
-use Rattle.std.proofs.Common.{rules, ◌≡◌, ◌^◌, ◌<◌, ℤ, map, vec_len, Bool, true, false, List, [], ◌∷◌, ◌++◌, None, Ok, length-append, refl, sym, ap, ◌∙◌, arith}
+use Rattle.std.proofs.Common.{rules, ◌≡◌, ◌^◌, ℤ, map, length, Bool, true, false, List, [], ◌++◌, None, Ok, refl, sym, ap, ◌∙◌, arith}
 use Rattle.std.{proofs.lemmas.List.{append-nil, length-map}, proofs.lemmas.Result.{err_from_is_err_and}, proofs.lemmas.Bool.{false≢true}}
-use Rattle.zf_spec.{specs.Grid.{blocks, extent_of}, specs.Codes.{existing_values}}
-use Rattle.zf_pad.proofs.Stored.{stored_before, stores_none, stores_more, blocks_stored, all_stored, stored_within}
+use Rattle.zf_spec.{specs.Grid.{blocks, extent_of}}
+use Rattle.zf_pad.proofs.Stored.{stored_before, stores_none, blocks_stored, all_stored}
 use Rattle.zf_base.{specs.Widths.{width_of}, proofs.Extents.{length-extent_of}}
 use Rattle.zf_bits.specs.Reader.{rest}
 use Rattle.zf_dev.{proofs.Taking.{Takes-append}, proofs.Devices.{Reads-none, Reads-more}}
 use Rattle.zf_parse.{specs.Parsing.{read_code}, proofs.Enough.{enough_for_one}}
-use Rattle.zf_parse.proofs.Joining.{read_codes-next, read_codes-cut}
+use Rattle.zf_parse.proofs.Joining.{read_codes-cut}
 use Rattle.zf_stream.{specs.Windows.{left_of}, specs.Restoring.{stream_from}, proofs.Failing.{Reads-ok}}
 use Rattle.zf_stream.{proofs.Windows.{Goes-none, Goes-next, Goes-read}, proofs.Runs.{run_more, run_none, run_of_none, read_more, read_refilled, room_for_one, room_for_rest}}
 use Rattle.zf_stream.proofs.Rooms.{Stays-next, still_restores}
@@ -24,7 +24,7 @@ loop-b-init g c = record {
     codes = ap (λ (s : List Bool). Ok ([], s)) (append-nil (left_of c.args.room.now.window));
     stores = rw c.clear.ensures.items (stores_none c.args.part.now.shape);
   };
-  stays = record { rows = refl; longest = refl; held = refl; values = omega (arith, c.clear.ensures.capacity) };
+  stays = record { rows = refl; longest = refl; held = refl; values = omega (arith, c.clear.ensures.room) };
   ended = c.requires.room.ended;
   source = Reads-none _;
 }
@@ -44,7 +44,7 @@ pub read_zeros-zeros-requires-clause-values : goal.read_zeros-zeros-requires-cla
 read_zeros-zeros-requires-clause-values g c =
     let so_far = c.loop-b.invariant in
     λ whole.
-    room_for_rest c.args.part.now c.loop-b.b (vec_len c.loop-b.room.stored) _ _ _ _ so_far.read (so_far.look whole) (omega (arith, c.loop-b-test.true, c.blocks-blocks.ensures.value))
+    room_for_rest c.args.part.now c.loop-b.b (length c.loop-b.room.stored.items) _ _ _ _ so_far.read (so_far.look whole) (omega (arith, c.loop-b-test.true, c.blocks-blocks.ensures.value))
     (omega (arith, length-map c.loop-b.room.stored.items g.T.Lane.value)) (omega (arith, so_far.stays.values, c.requires.room.values))
 
 pub returns-in_default-clause-err : goal.returns-in_default-clause-err
@@ -79,7 +79,7 @@ read_block-read-requires-clause-values g c =
     let so_far = c.loop-b.invariant in
     let read =
     run_none h b _ _ _ _ _ _ c.if-zeros-gt0.false c.read_zeros-zeros.ensures.read (read_refilled h b c.args.room.now.window so_far.bytes _ so_far.read c.in_ok-reach.ensures.ok) in
-    room_for_one h b (vec_len c.read_zeros-zeros.new.stored) _ _ _ _ read (omega (arith, c.loop-b-test.true, c.blocks-blocks.ensures.value))
+    room_for_one h b (length c.read_zeros-zeros.new.stored.items) _ _ _ _ read (omega (arith, c.loop-b-test.true, c.blocks-blocks.ensures.value))
     (omega (arith, length-map c.read_zeros-zeros.new.stored.items g.T.Lane.value)) (omega (arith, so_far.stays.values, c.read_zeros-zeros.ensures.values, c.requires.room.values))
 
 pub loop-b-preserved-then-zeros-gt0 : goal.loop-b-preserved-then-zeros-gt0
@@ -157,14 +157,10 @@ pub read_block-read-requires-clause-size : goal.read_block-read-requires-clause-
 read_block-read-requires-clause-size g c = c.block_len-size.ensures.value ∙ ap (λ d. 4 ^ d) c.dims.ensures.value
 
 pub read_block-read-requires-clause-block : goal.read_block-read-requires-clause-block
-read_block-read-requires-clause-block g c =
-    omega (arith, c.block_len-size.ensures.bound, c.loop-b.room.long, c.deref_mut-in-loop-b.ensures.len, c.read_zeros-zeros.auto.block, c.deref_mut-in-loop-b-2.ensures.len)
+read_block-read-requires-clause-block g c = omega (arith, c.block_len-size.ensures.bound, c.loop-b.room.long, c.deref_mut-in-loop-b.ensures.len)
 
 pub read_zeros-zeros-requires-clause-size : goal.read_zeros-zeros-requires-clause-size
 read_zeros-zeros-requires-clause-size g c = c.block_len-size.ensures.value ∙ ap (λ d. 4 ^ d) c.dims.ensures.value
-
-pub read_zeros-zeros-requires-clause-block : goal.read_zeros-zeros-requires-clause-block
-read_zeros-zeros-requires-clause-block g c = omega (arith, c.block_len-size.ensures.bound, c.loop-b.room.long, c.deref_mut-in-loop-b.ensures.len)
 
 pub invariant_of-room-then-zeros-gt0 : goal.invariant_of-room-then-zeros-gt0
 invariant_of-room-then-zeros-gt0 g c = record { long = c.loop-b.room.long; wide = c.loop-b.room.wide }

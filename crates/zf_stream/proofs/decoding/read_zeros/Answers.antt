@@ -1,6 +1,6 @@
-use Rattle.std.proofs.Common.{rules, ◌≡◌, ◌+◌, ◌-◌, ◌*◌, ◌<◌, ◌≤◌, ◌^◌, ◌++◌, pos, replicate, suc, true, map, length, length-append, refl, subst, sym, ap, ◌∙◌, arith, ℤ}
+use Rattle.std.proofs.Common.{◌≡◌, ◌+◌, ◌-◌, ◌<◌, ◌≤◌, ◌^◌, ◌++◌, pos, replicate, suc, true, map, length, length-append, refl, subst, sym, ap, ◌∙◌, arith}
 use Rattle.std.{proofs.lemmas.List.{length-map, length-replicate}, proofs.Math.Nat.{mul-le-mul_left}}
-use Rattle.zf_spec.specs.Grid.{blocks, extent_of}
+use Rattle.zf_spec.specs.Grid.{blocks}
 use Rattle.zf_pad.proofs.Appended.{whole_block}
 use Rattle.zf_stream.{specs.Restoring.{ReadsRun, ReadsStored}, proofs.Runs.{place_behind, stored_code}}
 use Rattle.zf_stream.proofs.decoding.read_zeros.Goals as goal
@@ -22,11 +22,11 @@ loop-n-preserved g c =
     let value = g.T.Lane.value in
     let so_far = c.loop-n.invariant in
     let old = c.loop-n.reader in
-    let new = c.pass_zero_code-in-loop-n.new.reader in
+    let new = c.pass_zero_code.new.reader in
     let before = map value c.loop-n.stored.items in
     let now = map value c.append_zeros.new.self.items in
     let none = replicate (4 ^ length ns) (pos 0) in
-    let reads = c.pass_zero_code-in-loop-n.ensures.reads c.if-pass_zero_code.true in
+    let reads = c.pass_zero_code.ensures.reads c.if-pass_zero_code.true in
     let put : now ≡ before ++ none = c.append_zeros.ensures.items ∙ ap (λ k. before ++ replicate k (pos 0)) c.requires.size in
     let whole : c.args.whole ≡ true = cc in
     let lt : b + n < blocks ns = omega (arith, c.loop-n-test.true, c.blocks-blocks.ensures.value) in

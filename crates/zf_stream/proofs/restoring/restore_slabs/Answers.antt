@@ -74,7 +74,7 @@ returns-in_err-write_stored-clause-err g c =
     let stored = map g.T.Lane.value c.read_slab.new.room.stored.items in
     let long = length-raster_of c.with_rows.result stored ∙ slab.count in
     let read = rw c.with_rows.ensures at c.in_ok-read_slab.ensures.ok in
-    let written = rw (c.deref.ensures.value, c.requires.room.same_type) at c.in_err-write_stored.ensures.err in
+    let written = rw (c.values.ensures, c.requires.room.same_type) at c.in_err-write_stored.ensures.err in
     let here = rw c.with_rows.ensures at written in
     let size = rw c.with_rows.ensures at long in
     on_err c.from_residual-in_err-write_stored.result _
@@ -91,7 +91,7 @@ loop-row-preserved g c =
     let stored = map g.T.Lane.value c.read_slab.new.room.stored.items in
     let long = length-raster_of c.with_rows.result stored ∙ slab.count in
     let read = rw c.with_rows.ensures at c.in_ok-read_slab.ensures.ok in
-    let written = rw (c.deref.ensures.value, c.requires.room.same_type) at c.in_ok-write_stored.ensures.ok in
+    let written = rw (c.values.ensures, c.requires.room.same_type) at c.in_ok-write_stored.ensures.ok in
     let here = rw c.with_rows.ensures at written in
     let size = rw c.with_rows.ensures at long in
     record {

@@ -1,4 +1,4 @@
-use Rattle.std.proofs.Common.{◌≡◌, ◌++◌, ℤ, pos, List, map, length, take, replicate, sym, ap, ◌∙◌}
+use Rattle.std.proofs.Common.{◌≡◌, ◌++◌, ℤ, pos, List, map, take, replicate, sym, ap, ◌∙◌}
 use Rattle.std.proofs.lemmas.List.{map-append}
 use Rattle.zf_stream.proofs.Places.{length-behind, put_behind}
 use Rattle.zf_stream.proofs.stored.Stored.append_zeros.Goals as goal

@@ -1,4 +1,4 @@
-use Rattle.std.proofs.Common.{◌++◌, map, length, take, sym, ap, ◌∙◌}
+use Rattle.std.proofs.Common.{◌++◌, map, take, sym, ap, ◌∙◌}
 use Rattle.std.proofs.lemmas.List.{map-append, length-map}
 use Rattle.zf_stream.proofs.Places.{length-behind, put_behind}
 use Rattle.zf_stream.proofs.stored.Stored.read_whole.Goals as goal
