@@ -93,8 +93,8 @@ fn take_16<P: Plane>(planes: &[P], number: usize, digits: &mut [u64])
 {
     // A number of planes that is known needs no loop.
     match planes.len() {
-        32 => join::<8>(&half_of_16(planes, 0, number), &[0; 8], digits),
-        64 => join::<8>(
+        32 => unfold::<8>(&half_of_16(planes, 0, number), &[0; 8], digits),
+        64 => unfold::<8>(
             &half_of_16(planes, 0, number),
             &half_of_16(planes, 32, number),
             digits,
@@ -113,9 +113,9 @@ fn take_16_of<P: Plane>(planes: &[P], number: usize, digits: &mut [u64])
 {
     let low = half_of_16(planes, 0, number);
     if planes.len() > 32 {
-        join::<8>(&low, &half_of_16(planes, 32, number), digits);
+        unfold::<8>(&low, &half_of_16(planes, 32, number), digits);
     } else {
-        join::<8>(&low, &[0; 8], digits);
+        unfold::<8>(&low, &[0; 8], digits);
     }
 }
 
@@ -215,7 +215,7 @@ fn take_64<P: Plane>(planes: &[P], number: usize, digits: &mut [u64])
 {
     // A number of planes that is known needs no loop.
     match planes.len() {
-        32 => join::<32>(&whole_half(planes, 0, number), &[0; 32], digits),
+        32 => unfold::<32>(&whole_half(planes, 0, number), &[0; 32], digits),
         64 => take_64_of_64(planes, number, digits),
         _ => take_64_of(planes, number, digits),
     }
@@ -232,9 +232,9 @@ fn take_64_of_64<P: Plane>(planes: &[P], number: usize, digits: &mut [u64])
 {
     let from = zeros_below(planes, number);
     if are_zeros(planes, from + 32, number) {
-        join_from(&whole_half(planes, from, number), from, digits);
+        unfold_from(&whole_half(planes, from, number), from, digits);
     } else {
-        join::<32>(
+        unfold::<32>(
             &whole_half(planes, 0, number),
             &whole_half(planes, 32, number),
             digits,
@@ -283,9 +283,9 @@ fn take_64_of<P: Plane>(planes: &[P], number: usize, digits: &mut [u64])
 {
     let low = half(planes, 0, number);
     if planes.len() > 32 {
-        join::<32>(&low, &half(planes, 32, number), digits);
+        unfold::<32>(&low, &half(planes, 32, number), digits);
     } else {
-        join::<32>(&low, &[0; 32], digits);
+        unfold::<32>(&low, &[0; 32], digits);
     }
 }
 
@@ -315,7 +315,7 @@ fn half<P: Plane>(planes: &[P], from: usize, number: usize) -> [u64; 32]
 
 /// Each word has 32 digits of a rank below `N`, and then those of the rank `N` above it.
 #[inline(always)]
-fn join<const N: usize>(low: &[u64], high: &[u64], digits: &mut [u64])
+fn unfold<const N: usize>(low: &[u64], high: &[u64], digits: &mut [u64])
     requires halves { length low.now ≡ N }
     requires others { length high.now ≡ N }
     requires digits { length digits.old ≡ 2 * N }
@@ -334,7 +334,7 @@ fn join<const N: usize>(low: &[u64], high: &[u64], digits: &mut [u64])
 /// Each word has 32 digits of a rank below 32, and then those of the rank 32 above it; the digits stand
 /// behind `from` zeros.
 #[inline(always)]
-fn join_from(words: &[u64], from: usize, digits: &mut [u64])
+fn unfold_from(words: &[u64], from: usize, digits: &mut [u64])
     requires words { length words.now ≡ 32 }
     requires from { from ≤ 32 }
     requires digits { length digits.old ≡ 64 }

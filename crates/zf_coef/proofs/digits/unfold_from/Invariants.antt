@@ -1,6 +1,6 @@
 use Rattle.std.proofs.Common.{ℕ, ◌<◌, ◌+◌, slice_index_or}
 use Rattle.zf_coef.specs.Groups.{IsMoved}
-use Rattle.zf_coef.proofs.digits.join_from.Given as goal
+use Rattle.zf_coef.proofs.digits.unfold_from.Given as goal
 
 abbrev pub invariant-loop-r : goal.invariant-loop-r
 invariant-loop-r l =

@@ -1,7 +1,7 @@
 use Rattle.std.proofs.Common.{rules, ◌≡◌, ℕ, ◌+◌, ◌<◌, ◌≤◌, get_or, length-set, get_or-set_same, get_or-set_other, ⊎_elim, arith}
 use Rattle.std.proofs.lemmas.Bool.{cases_lt}
 use Rattle.zf_coef.proofs.ShiftedBits.{low_half_moved, high_half_moved}
-use Rattle.zf_coef.proofs.digits.join_from.Goals as goal
+use Rattle.zf_coef.proofs.digits.unfold_from.Goals as goal
 
 pub loop-r-preserved : goal.loop-r-preserved
 loop-r-preserved c =
