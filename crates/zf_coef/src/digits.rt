@@ -99,9 +99,9 @@ fn take_16<P: Plane>(planes: &[P], number: usize, digits: &mut [u64])
     }
 }
 
-/// Takes sixteen digits of 64 planes. Where 32 planes beside one another have all the ones, as a budget mostly
-/// leaves it, no others are turned. The planes are asked by sixteens: a turn of sixteen digits is so short that
-/// to ask them one by one takes as long as it saves.
+/// Takes sixteen digits of 64 planes. Where 32 planes from a multiple of sixteen on have all the ones, as a
+/// budget mostly leaves it, no others are turned. Planes are asked by sixteens: so few digits are turned soon,
+/// and to ask for each plane costs as much as is saved.
 #[inline(always)]
 fn take_16_of_64<P: Plane>(planes: &[P], number: usize, digits: &mut [u64])
     requires number { number < P.word_count }
@@ -138,8 +138,8 @@ fn zeros_below_by_16<P: Plane>(planes: &[P], number: usize) -> usize
     }
 }
 
-/// Whether none of 64 planes has a one from this one on, which is one of the upper 32 or their end. Sixteen
-/// that begin before it are asked whole.
+/// Whether none of 64 planes has a one from this one on, which is one of the upper 32 or their end. Those
+/// before it that are of the same sixteen are asked too.
 #[inline(always)]
 fn are_zeros_by_16<P: Plane>(planes: &[P], from: usize, number: usize) -> bool
     requires number { number < P.word_count }
@@ -147,12 +147,12 @@ fn are_zeros_by_16<P: Plane>(planes: &[P], from: usize, number: usize) -> bool
     requires from { 32 ≤ from }
     ensures { IsTrue result → (k : ℕ) → from ≤ k → word_of (map P.words planes.now) number k ≡ 0 }
 {
-    (from >= 64 || are_16_zeros(planes, 48, number))
-        && (from >= 48 || are_16_zeros(planes, 32, number))
+    (from >= 48 || are_16_zeros(planes, 32, number))
+        && (from >= 64 || are_16_zeros(planes, 48, number))
 }
 
-/// Whether none of the sixteen planes from this one on has a one. With no way out of its loop this is compiled
-/// to lanes.
+/// Whether none of the sixteen planes from this one on has a one. Its loop has no way out, so that it is
+/// compiled to lanes.
 #[inline(always)]
 fn are_16_zeros<P: Plane>(planes: &[P], from: usize, number: usize) -> bool
     requires number { number < P.word_count }
