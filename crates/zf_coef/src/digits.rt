@@ -100,8 +100,8 @@ fn take_16<P: Plane>(planes: &[P], number: usize, digits: &mut [u64])
 }
 
 /// Takes sixteen digits of 64 planes. Where 32 planes from a multiple of sixteen on have all the ones, as a
-/// budget mostly leaves it, no others are turned. Planes are asked by sixteens: so few digits are turned soon,
-/// and to ask for each plane costs as much as is saved.
+/// budget mostly leaves it, no others are turned. Planes are asked by sixteens: as so few digits are turned
+/// soon, it costs as much as it saves to ask each one.
 #[inline(always)]
 fn take_16_of_64<P: Plane>(planes: &[P], number: usize, digits: &mut [u64])
     requires number { number < P.word_count }
