@@ -121,19 +121,20 @@ fn planes_by_digits(digits: &[u64]) -> [[u64; 4]; 64] {
     planes
 }
 
-// Digits that follow no rule, the same each time.
-fn digits_of(planes: usize) -> [u64; 256] {
+// Digits that follow no rule, the same each time, of the planes that the mask has.
+fn digits_of(planes: usize, mask: u64) -> [u64; 256] {
     let mut digits = [0; 256];
     let mut word: u64 = 1;
     for digit in digits.iter_mut() {
         word = word
             .wrapping_mul(6_364_136_223_846_793_005)
             .wrapping_add(1_442_695_040_888_963_407);
-        *digit = if planes == 64 {
+        let all = if planes == 64 {
             word.rotate_left(32)
         } else {
             word >> 32
         };
+        *digit = all & mask;
     }
     digits
 }
@@ -142,7 +143,7 @@ fn digits_of(planes: usize) -> [u64; 256] {
 fn are_as_the_plain(count: usize, size: usize) -> bool
     requires { (count ≤ 64) × (size ≤ 256) }
 {
-    let all = digits_of(count);
+    let all = digits_of(count, u64::MAX);
     let digits = &all[..size];
     let plain = planes_by_digits(digits);
     let mut planes = [[7; 4]; 64];
@@ -185,11 +186,11 @@ fn are_first_words(planes: &[u64], others: &[[u64; 4]; 64]) -> bool
     same
 }
 
-// The same as `are_as_the_plain`, where one word a plane is enough.
-fn words_are_as_the_plain(count: usize, size: usize) -> bool
+// The same as `are_as_the_plain`, where one word a plane is enough, and only the planes of a mask have ones.
+fn words_are_as_the_plain(count: usize, size: usize, mask: u64) -> bool
     requires { (count ≤ 64) × (size ≤ 64) }
 {
-    let all = digits_of(count);
+    let all = digits_of(count, mask);
     let digits = &all[..size];
     let plain = planes_by_digits(digits);
     let mut planes = [7; 64];
@@ -199,17 +200,31 @@ fn words_are_as_the_plain(count: usize, size: usize) -> bool
     are_first_words(&planes[..count], &plain) && &again[..size] == digits
 }
 
-fn all_words_are_as_the_plain(rt: &impl Abort, counts: &[usize], sizes: &[usize]) {
+// Masks: all planes, none, 32 from a multiple of sixteen on, and two that no 32 beside one another have.
+static WITH_ONES: [u64; 6] = [
+    u64::MAX,
+    0,
+    0x0000_0000_ffff_ffff,
+    0x0000_ffff_ffff_0000,
+    0xffff_ffff_0000_0000,
+    0x0000_8000_0000_8000,
+];
+
+fn all_words_are_as_the_plain(rt: &impl Abort, counts: &[usize], sizes: &[usize], masks: &[u64]) {
     for count in counts {
         for size in sizes {
-            assert!(rt; *count <= 64 && *size <= 64 && words_are_as_the_plain(*count, *size));
+            for mask in masks {
+                assert!(rt;
+                    *count <= 64 && *size <= 64 && words_are_as_the_plain(*count, *size, *mask)
+                );
+            }
         }
     }
 }
 
 #[test]
 fn kernels_of_a_word_are_the_plain_program(rt: HostRuntime) {
-    all_words_are_as_the_plain(&rt, &PLANE_COUNTS, &SIZES);
+    all_words_are_as_the_plain(&rt, &PLANE_COUNTS, &SIZES, &WITH_ONES);
 }
 
 // Digits, the width, how many planes are needed, those above the lowest digit that any coefficient has, and

@@ -2,8 +2,8 @@
 use Rattle.std.proofs.Common.{rules, ◌≡◌, ◌∙◌, ℕ, ◌+◌, ◌-◌, ◌*◌, ◌/◌, ◌%◌, ◌^◌, ◌<◌, ◌≤◌, ◌≢◌, ⊎_elim, List, length, get_or, arith, max}
 use Rattle.std.{specs.Int.{bit_at}, specs.Int.RustNames.{bit_or}, proofs.lemmas.Bool.{cases_lt}}
 use Rattle.std.{proofs.lemmas.List.{get_or_past}, proofs.lemmas.Nat.Bits.{bit_at_or, bit_at-zero}}
-use Rattle.zf_coef.{specs.Turned.{bit_of, folded_bit, IsFoldedTurned}, proofs.Halves.{word_of-past}}
-use Rattle.zf_coef.specs.Groups.{word_of, HoldsSome, IsOfGroup, HoldsFrom, HoldsFolded, IsFoldOf}
+use Rattle.zf_coef.{specs.Turned.{bit_of, folded_bit, IsFoldedTurned}, proofs.Halves.{word_of-past, digits_in_window}}
+use Rattle.zf_coef.specs.Groups.{word_of, HoldsSome, IsOfGroup, HoldsFrom, HoldsFolded, IsFoldOf, IsMoved}
 use Rattle.zf_coef.proofs.ShiftedBits.{bit_at-shr, bit_at-mod_pow, bit_at-mod_above, bit_at-mod, bit_at-shl_low, bit_at-shl_high}
 
 -- ---- planes of folded rows
@@ -151,3 +151,16 @@ digits_of_folds number planes low high digits long is_low is_high lower upper r 
     let c = lower (r % 8) (k % 32) in
     let d = upper (r % 8) (k % 32) in
     grind (arith, cases_lt)
+
+-- a window of 32 planes has all the ones: they are those of eight words, moved up
+pub digits_of_folded_window : (number from : ℕ) (planes : List (List ℕ)) (words digits : List ℕ) → length digits ≡ 16
+    → ((k : ℕ) → k < from → word_of planes number k ≡ 0)
+    → ((k : ℕ) → from + 32 ≤ k → word_of planes number k ≡ 0)
+    → AreFold number from planes words
+    → ((r : ℕ) → r < 8 → IsMoved 0 from (get_or words r 0) (get_or digits r 0))
+    → ((r : ℕ) → r < 8 → IsMoved 32 from (get_or words r 0) (get_or digits (8 + r) 0))
+    → IsOfGroup number planes digits
+digits_of_folded_window number from planes words digits long below above fold lower upper =
+    digits_in_window 8 number from planes words digits long below above
+    (λ j i less few. search rules)
+    lower upper

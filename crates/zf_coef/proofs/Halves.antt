@@ -92,7 +92,39 @@ digits_of_halves number planes low high digits long is_low is_high lower upper r
     let j : r / 32 * 32 + k % 32 < 64 = omega arith in
     grind (arith, cases_lt)
 
--- a window of 32 planes has all the ones
+-- a window of 32 planes has all the ones: n words have its digits, each those of a rank below n and then those of the rank
+-- n above it, and they are moved up
+pub digits_in_window : (n number from : ℕ) (planes : List (List ℕ)) (words digits : List ℕ) → length digits ≡ 2 * n
+    → ((k : ℕ) → k < from → word_of planes number k ≡ 0)
+    → ((k : ℕ) → from + 32 ≤ k → word_of planes number k ≡ 0)
+    → ((j i : ℕ) → j < n → i < 32 → (bit_of words j i ≡ bit_at (word_of planes number (from + i)) j)
+    × (bit_of words j (32 + i) ≡ bit_at (word_of planes number (from + i)) (n + j)))
+    → ((r : ℕ) → r < n → IsMoved 0 from (get_or words r 0) (get_or digits r 0))
+    → ((r : ℕ) → r < n → IsMoved 32 from (get_or words r 0) (get_or digits (n + r) 0))
+    → IsOfGroup number planes digits
+unfolding IsOfGroup
+digits_in_window n number from planes words digits long below above held lower upper r k h small =
+    let digit : (start word : ℕ) → ((i : ℕ) → i < 32 → bit_at word (start + i) ≡ bit_at (word_of planes number (from + i)) r)
+    → IsMoved start from word (get_or digits r 0)
+    → bit_of digits r k ≡ bit_at (word_of planes number k) r =
+    λ start word here moved. ⊎_elim
+    (λ (first : k < from). cc (moved.below k first, below k first, bit_at-zero r))
+    (λ (later : from ≤ k). ⊎_elim
+    (λ (inside : k - from < 32).
+    let back : from + (k - from) ≡ k = omega arith in
+    cc (moved.inside (k - from) inside, here (k - from) inside))
+    (λ (past : 32 ≤ k - from). cc (moved.above k (omega arith) small, above k (omega arith), bit_at-zero r))
+    (cases_lt (k - from) 32))
+    (cases_lt k from) in
+    ⊎_elim
+    (λ (prefix : r < n). digit 0 (get_or words r 0) (λ i few. let start : 0 + i ≡ i = omega arith in cc (held r i prefix few).0) (lower r prefix))
+    (λ (behind : n ≤ r).
+    let row : n + (r - n) ≡ r = omega arith in
+    let less : r - n < n = omega arith in
+    digit 32 (get_or words (r - n) 0) (λ i few. rw row at (held (r - n) i less few).1) (rw row at (upper (r - n) less)))
+    (cases_lt r n)
+
+-- so have 32 words the digits of 64 coefficients
 pub digits_of_window : (number from : ℕ) (planes : List (List ℕ)) (words digits : List ℕ) → length digits ≡ 64
     → ((k : ℕ) → k < from → word_of planes number k ≡ 0)
     → ((k : ℕ) → from + 32 ≤ k → word_of planes number k ≡ 0)
@@ -100,30 +132,10 @@ pub digits_of_window : (number from : ℕ) (planes : List (List ℕ)) (words dig
     → ((r : ℕ) → r < 32 → IsMoved 0 from (get_or words r 0) (get_or digits r 0))
     → ((r : ℕ) → r < 32 → IsMoved 32 from (get_or words r 0) (get_or digits (32 + r) 0))
     → IsOfGroup number planes digits
-unfolding IsOfGroup
-digits_of_window number from planes words digits long below above half lower upper r k h small =
-    let digit : (start j : ℕ) → j < 32 → start + j ≡ r → start % 32 ≡ 0 → start < 33
-    → IsMoved start from (get_or words j 0) (get_or digits r 0)
-    → bit_of digits r k ≡ bit_at (word_of planes number k) r =
-    λ start j less at whole few moved. ⊎_elim
-    (λ (first : k < from). cc (moved.below k first, below k first, bit_at-zero r))
-    (λ (later : from ≤ k). ⊎_elim
-    (λ (inside : k - from < 32).
-    let i = k - from in
-    let back : from + i ≡ k = omega arith in
-    let column : (start + i) % 32 ≡ i = omega arith in
-    let row : start + i - (start + i) % 32 + j ≡ r = omega arith in
-    cc (moved.inside i inside, half j (start + i) less (omega arith)))
-    (λ (past : 32 ≤ k - from). cc (moved.above k (omega arith) small, above k (omega arith), bit_at-zero r))
-    (cases_lt (k - from) 32))
-    (cases_lt k from) in
-    ⊎_elim
-    (λ (prefix : r < 32). digit 0 r prefix (omega arith) (omega arith) (omega arith) (lower r prefix))
-    (λ (behind : 32 ≤ r).
-    let row : 32 + (r - 32) ≡ r = omega arith in
-    digit 32 (r - 32) (omega arith) row (omega arith) (omega arith)
-    (rw row at (upper (r - 32) (omega arith))))
-    (cases_lt r 32)
+digits_of_window number from planes words digits long below above half lower upper =
+    digits_in_window 32 number from planes words digits long below above
+    (λ j i less few. search rules)
+    lower upper
 
 -- the first of more digits
 pub group_of_prefix : (number : ℕ) (planes : List (List ℕ)) (whole digits : List ℕ) → length digits ≤ length whole

@@ -93,14 +93,78 @@ fn take_16<P: Plane>(planes: &[P], number: usize, digits: &mut [u64])
 {
     // A number of planes that is known needs no loop.
     match planes.len() {
-        32 => join::<8>(&half_of_16(planes, 0, number), &[0; 8], digits),
-        64 => join::<8>(
+        32 => unfold::<8>(&half_of_16(planes, 0, number), &[0; 8], digits),
+        64 => take_16_of_64(planes, number, digits),
+        _ => take_16_of(planes, number, digits),
+    }
+}
+
+/// Takes sixteen digits of 64 planes. Where 32 planes from a multiple of sixteen on have all the ones, as a
+/// budget mostly leaves it, no others are turned. Planes are asked by sixteens: as so few digits are turned
+/// soon, it costs as much as it saves to ask each one.
+#[inline(always)]
+fn take_16_of_64<P: Plane>(planes: &[P], number: usize, digits: &mut [u64])
+    requires number { number < P.word_count }
+    requires planes { length planes.now ≡ 64 }
+    requires digits { length digits.old ≡ 16 }
+    ensures { IsOfGroup number (map P.words planes.now) digits.new }
+{
+    let from = zeros_below_by_16(planes, number);
+    if are_zeros_by_16(planes, from + 32, number) {
+        unfold_from::<8>(&half_of_16(planes, from, number), from, digits);
+    } else {
+        unfold::<8>(
             &half_of_16(planes, 0, number),
             &half_of_16(planes, 32, number),
             digits,
-        ),
-        _ => take_16_of(planes, number, digits),
+        );
     }
+}
+
+/// How many of the lowest 32 planes have no one, up to the first sixteen of which one has.
+#[inline(always)]
+fn zeros_below_by_16<P: Plane>(planes: &[P], number: usize) -> usize
+    requires number { number < P.word_count }
+    requires planes { 32 ≤ length planes.now }
+    ensures within { result ≤ 32 }
+    ensures zeros { (k : ℕ) → k < result → word_of (map P.words planes.now) number k ≡ 0 }
+{
+    if !are_16_zeros(planes, 0, number) {
+        0
+    } else if !are_16_zeros(planes, 16, number) {
+        16
+    } else {
+        32
+    }
+}
+
+/// Whether none of 64 planes has a one from this one on, which is one of the upper 32 or their end. Those
+/// before it that are of the same sixteen are asked too.
+#[inline(always)]
+fn are_zeros_by_16<P: Plane>(planes: &[P], from: usize, number: usize) -> bool
+    requires number { number < P.word_count }
+    requires planes { length planes.now ≡ 64 }
+    requires from { 32 ≤ from }
+    ensures { IsTrue result → (k : ℕ) → from ≤ k → word_of (map P.words planes.now) number k ≡ 0 }
+{
+    (from >= 48 || are_16_zeros(planes, 32, number))
+        && (from >= 64 || are_16_zeros(planes, 48, number))
+}
+
+/// Whether none of the sixteen planes from this one on has a one. Its loop has no way out, so that it is
+/// compiled to lanes.
+#[inline(always)]
+fn are_16_zeros<P: Plane>(planes: &[P], from: usize, number: usize) -> bool
+    requires number { number < P.word_count }
+    requires from { from + 16 ≤ length planes.now }
+    ensures { IsTrue result
+        → (k : ℕ) → from ≤ k → k < from + 16 → word_of (map P.words planes.now) number k ≡ 0 }
+{
+    let mut any = 0;
+    for k in from..from + 16 {
+        any |= planes[k].word(number);
+    }
+    any == 0
 }
 
 /// Takes sixteen digits of planes of any number.
@@ -113,9 +177,9 @@ fn take_16_of<P: Plane>(planes: &[P], number: usize, digits: &mut [u64])
 {
     let low = half_of_16(planes, 0, number);
     if planes.len() > 32 {
-        join::<8>(&low, &half_of_16(planes, 32, number), digits);
+        unfold::<8>(&low, &half_of_16(planes, 32, number), digits);
     } else {
-        join::<8>(&low, &[0; 8], digits);
+        unfold::<8>(&low, &[0; 8], digits);
     }
 }
 
@@ -215,7 +279,7 @@ fn take_64<P: Plane>(planes: &[P], number: usize, digits: &mut [u64])
 {
     // A number of planes that is known needs no loop.
     match planes.len() {
-        32 => join::<32>(&whole_half(planes, 0, number), &[0; 32], digits),
+        32 => unfold::<32>(&whole_half(planes, 0, number), &[0; 32], digits),
         64 => take_64_of_64(planes, number, digits),
         _ => take_64_of(planes, number, digits),
     }
@@ -232,9 +296,9 @@ fn take_64_of_64<P: Plane>(planes: &[P], number: usize, digits: &mut [u64])
 {
     let from = zeros_below(planes, number);
     if are_zeros(planes, from + 32, number) {
-        join_from(&whole_half(planes, from, number), from, digits);
+        unfold_from::<32>(&whole_half(planes, from, number), from, digits);
     } else {
-        join::<32>(
+        unfold::<32>(
             &whole_half(planes, 0, number),
             &whole_half(planes, 32, number),
             digits,
@@ -283,9 +347,9 @@ fn take_64_of<P: Plane>(planes: &[P], number: usize, digits: &mut [u64])
 {
     let low = half(planes, 0, number);
     if planes.len() > 32 {
-        join::<32>(&low, &half(planes, 32, number), digits);
+        unfold::<32>(&low, &half(planes, 32, number), digits);
     } else {
-        join::<32>(&low, &[0; 32], digits);
+        unfold::<32>(&low, &[0; 32], digits);
     }
 }
 
@@ -315,7 +379,7 @@ fn half<P: Plane>(planes: &[P], from: usize, number: usize) -> [u64; 32]
 
 /// Each word has 32 digits of a rank below `N`, and then those of the rank `N` above it.
 #[inline(always)]
-fn join<const N: usize>(low: &[u64], high: &[u64], digits: &mut [u64])
+fn unfold<const N: usize>(low: &[u64], high: &[u64], digits: &mut [u64])
     requires halves { length low.now ≡ N }
     requires others { length high.now ≡ N }
     requires digits { length digits.old ≡ 2 * N }
@@ -331,20 +395,20 @@ fn join<const N: usize>(low: &[u64], high: &[u64], digits: &mut [u64])
     }
 }
 
-/// Each word has 32 digits of a rank below 32, and then those of the rank 32 above it; the digits stand
+/// Each word has 32 digits of a rank below `N`, and then those of the rank `N` above it; the digits stand
 /// behind `from` zeros.
 #[inline(always)]
-fn join_from(words: &[u64], from: usize, digits: &mut [u64])
-    requires words { length words.now ≡ 32 }
+fn unfold_from<const N: usize>(words: &[u64], from: usize, digits: &mut [u64])
+    requires words { length words.now ≡ N }
     requires from { from ≤ 32 }
-    requires digits { length digits.old ≡ 64 }
-    ensures lower { (r : ℕ) → r < 32
+    requires digits { length digits.old ≡ 2 * N }
+    ensures lower { (r : ℕ) → r < N
         → IsMoved 0 from (slice_index_or words.now r 0) (slice_index_or digits.new r 0) }
-    ensures upper { (r : ℕ) → r < 32
-        → IsMoved 32 from (slice_index_or words.now r 0) (slice_index_or digits.new (32 + r) 0) }
+    ensures upper { (r : ℕ) → r < N
+        → IsMoved 32 from (slice_index_or words.now r 0) (slice_index_or digits.new (N + r) 0) }
 {
-    for r in 0..32 {
+    for r in 0..N {
         digits[r] = (words[r] & 0xffff_ffff) << from;
-        digits[r + 32] = (words[r] >> 32) << from;
+        digits[r + N] = (words[r] >> 32) << from;
     }
 }

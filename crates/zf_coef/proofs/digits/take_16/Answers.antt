@@ -5,11 +5,6 @@ use Rattle.zf_coef.proofs.digits.take_16.Goals as goal
 pub returns-in-32 : goal.returns-in-32
 returns-in-32 g c =
     let planes = map g.P.Plane.words c.args.planes.now in
-    digits_of_folds c.args.number planes c.half_of_16.result (replicate 8 0) c.join.new.digits (omega arith)
+    digits_of_folds c.args.number planes c.half_of_16.result (replicate 8 0) c.unfold.new.digits (omega arith)
     c.half_of_16.ensures (fold_past c.args.number planes (replicate 8 0) (omega (arith, length-map c.args.planes.now g.P.Plane.words, c.in-32.is)) (no_word 8))
-    c.join.ensures.lower c.join.ensures.upper
-
-pub returns-in-64 : goal.returns-in-64
-returns-in-64 g c =
-    digits_of_folds c.args.number (map g.P.Plane.words c.args.planes.now) c.half_of_16-in-64.result c.half_of_16-in-64-2.result c.join-in-64.new.digits (omega arith)
-    c.half_of_16-in-64.ensures c.half_of_16-in-64-2.ensures c.join-in-64.ensures.lower c.join-in-64.ensures.upper
+    c.unfold.ensures.lower c.unfold.ensures.upper

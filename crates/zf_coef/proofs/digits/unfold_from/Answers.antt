@@ -1,10 +1,10 @@
 use Rattle.std.proofs.Common.{rules, ◌≡◌, ℕ, ◌+◌, ◌<◌, ◌≤◌, get_or, length-set, get_or-set_same, get_or-set_other, ⊎_elim, arith}
 use Rattle.std.proofs.lemmas.Bool.{cases_lt}
 use Rattle.zf_coef.proofs.ShiftedBits.{low_half_moved, high_half_moved}
-use Rattle.zf_coef.proofs.digits.join_from.Goals as goal
+use Rattle.zf_coef.proofs.digits.unfold_from.Goals as goal
 
 pub loop-r-preserved : goal.loop-r-preserved
-loop-r-preserved c =
+loop-r-preserved g c =
     let fits = (c.type_inv.words c.loop-r.r).fits in
     let low = low_half_moved (get_or c.args.words.now c.loop-r.r 0) c.args.from c.requires.from in
     let high = high_half_moved (get_or c.args.words.now c.loop-r.r 0) c.args.from fits c.requires.from in

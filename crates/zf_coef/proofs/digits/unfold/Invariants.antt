@@ -1,6 +1,6 @@
 use Rattle.std.proofs.Common.{◌≡◌, ℕ, ◌<◌, ◌+◌}
 use Rattle.zf_coef.specs.Turned.{bit_of}
-use Rattle.zf_coef.proofs.digits.join.Given as goal
+use Rattle.zf_coef.proofs.digits.unfold.Given as goal
 
 abbrev pub invariant-loop-r : goal.invariant-loop-r
 invariant-loop-r g l =
