@@ -7,9 +7,9 @@ use zf_base::Ty;
 use zf_header::Mode;
 use zf_stream::StreamFault;
 
-// Of several slabs and windows in each number of dimensions, type and mode, the last slab with fewer rows;
-// the hashes of the stream and of what comes back.
-const SLABS: [(Kind, u64, u64); 24] = [
+// Of several slabs and windows in each number of dimensions, type and mode, the last slab with fewer rows; of
+// the last three arrays the other slabs have whole blocks. The hashes of the stream and of what comes back.
+const SLABS: [(Kind, u64, u64); 27] = [
     (
         (Ty::I32, 1, [4101, 1, 1, 1], Mode::Reversible),
         0x6aedad11554e78a1,
@@ -129,6 +129,21 @@ const SLABS: [(Kind, u64, u64); 24] = [
         (Ty::I64, 4, [3, 2, 5, 8], Mode::Precision(20)),
         0x9b7ca03caefdd60e,
         0x510564f51d844331,
+    ),
+    (
+        (Ty::I64, 2, [8, 10, 1, 1], Mode::Reversible),
+        0xd41faca41996c981,
+        0x0c95f933284914d8,
+    ),
+    (
+        (Ty::I32, 3, [4, 8, 9, 1], Mode::Rate(1232)),
+        0x8e81d0695a722340,
+        0xa08e7a6d3c8a1512,
+    ),
+    (
+        (Ty::I64, 4, [4, 4, 4, 10], Mode::Precision(20)),
+        0x96e2033da2466919,
+        0xabce88ad7c9914ba,
     ),
 ];
 
