@@ -181,7 +181,7 @@ impl BitWriter {
         ensures least { length self.new.bits < length self.old.bits + 64 }
     {
         let missing = (64 - self.len() % 64) % 64;
-        self.write_reserved(0, missing as u32);
+        self.write_zeros_reserved(missing);
     }
 
     /// Forgets all bits and keeps the memory.

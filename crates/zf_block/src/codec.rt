@@ -34,7 +34,7 @@ pub(crate) fn encode<C: BlockCode<T>, T: Lane>(
     ensures scratch { s.new ≡ s.old }
 {
     if is_all(T::zero(), block) {
-        out.write_zeros_reserved(code.len_of_zeros(block.len()));
+        out.write_zeros_reserved(len_of_zeros::<C, T>(code, d));
     } else if d == 1 {
         write_row(code, &mut block[..4], out);
     } else {

@@ -1,7 +1,7 @@
 //! The digits and bit planes of the coefficients of a block.
 
-ghost use Rattle.std.specs.Prelude.{◌≡◌, ◌≤◌, ◌-◌, ◌*◌, ◌^◌, pos, ◌∷◌, ◌%◌, ◌+◌, IsTrue, map, length};
-ghost use Rattle.std.specs.Prelude.{take, drop, replicate};
+ghost use Rattle.std.specs.Prelude.{◌≡◌, ◌≤◌, ◌-◌, ◌*◌, ◌^◌, pos, ◌∷◌, ◌%◌, IsTrue, map, length};
+ghost use Rattle.std.specs.Prelude.{replicate};
 ghost use Rattle.zf_spec.specs.Grid.{IsDimension};
 ghost use Rattle.zf_spec.specs.Codes as codes;
 ghost use Rattle.zf_spec.specs.Codes.{coefficients_of};
@@ -13,6 +13,7 @@ ghost use Rattle.zf_block.specs.Held.{IsWorkRoom, HoldPlanes};
 
 use zf_base::Lane;
 use zf_bits::Plane;
+use zf_pad::is_row_of;
 
 /// Whether all values, which are whole rows of four, are this one.
 #[inline(always)]
@@ -21,26 +22,11 @@ pub(crate) fn is_all<T: Lane>(value: T, values: &[T]) -> bool
     ensures { IsTrue result → map T.value values.now ≡ replicate (length values.now) (T.value value) }
 {
     for row in 0..values.len() / 4 {
-        if !is_row(value, values, 4 * row) {
+        if !is_row_of(value, values, 4 * row) {
             return false;
         }
     }
     true
-}
-
-/// Whether the four values from this place on are this one. All are read before any is looked at, so that
-/// they are looked at together.
-#[inline(always)]
-fn is_row<T: Lane>(value: T, values: &[T], at: usize) -> bool
-    requires there { at + 4 ≤ length values.now }
-    ensures { IsTrue result
-        → map T.value (take 4 (drop at values.now)) ≡ replicate 4 (T.value value) }
-{
-    let a = values[at];
-    let b = values[at + 1];
-    let c = values[at + 2];
-    let d = values[at + 3];
-    a == value && b == value && c == value && d == value
 }
 
 /// Makes the planes of coefficients of which all but the first are zero.

@@ -66,7 +66,7 @@ impl Demotion {
         if self.held == 0 && bytes.len() >= 4 {
             return self.write_values(out, bytes);
         }
-        self.write_part(out, bytes)
+        self.write_rest(out, bytes)
     }
 
     /// Writes the byte that is owed, where one is.
@@ -88,7 +88,7 @@ impl Demotion {
     }
 
     // Takes bytes of a value behind those that are held, and writes it where it is whole.
-    fn write_part<O: Sink>(&mut self, out: &mut O, bytes: &[u8]) -> Result<usize, Failed>
+    fn write_rest<O: Sink>(&mut self, out: &mut O, bytes: &[u8]) -> Result<usize, Failed>
         requires some { 0 < length bytes.now }
         requires settled { self.old.owed ≡ None }
         ensures some { IfOk result (λ k. 0 < k) }

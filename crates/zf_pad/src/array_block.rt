@@ -63,21 +63,22 @@ pub fn is_row_of_zeros<T: Lane>(shape: &Shape, b: u64, values: &[T]) -> bool
     if shape.dims() != 1 {
         return false;
     }
-    b < shape.size(0) / 4 && are_zeros(values, (4 * b) as usize)
+    b < shape.size(0) / 4 && is_row_of(T::zero(), values, (4 * b) as usize)
 }
 
-/// Whether the four values from `first` on are zeros. All are read before any is looked at, so that they are
+/// Whether the four values from `first` on are this one. All are read before any is looked at, so that they are
 /// looked at together.
 #[inline(always)]
-fn are_zeros<T: Lane>(values: &[T], first: usize) -> bool
+pub fn is_row_of<T: Lane>(value: T, values: &[T], first: usize) -> bool
     requires within { first + 4 ≤ length values.now }
-    ensures { IsTrue result → map T.value (take 4 (drop first values.now)) ≡ replicate 4 (pos 0) }
+    ensures { IsTrue result
+        → map T.value (take 4 (drop first values.now)) ≡ replicate 4 (T.value value) }
 {
     let a = values[first];
     let b = values[first + 1];
     let c = values[first + 2];
     let d = values[first + 3];
-    a == T::zero() && b == T::zero() && c == T::zero() && d == T::zero()
+    a == value && b == value && c == value && d == value
 }
 
 /// Copies the four values from `first` on, which are a whole block of one dimension.

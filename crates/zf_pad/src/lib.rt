@@ -10,7 +10,7 @@ mod padding;
 mod raw;
 mod storing;
 
-pub use array_block::{gather_block, is_row_of_zeros};
+pub use array_block::{gather_block, is_row_of, is_row_of_zeros};
 pub use copies::{gather, scatter};
 pub use layout::Layout;
 pub use padding::pad;

@@ -1,10 +1,10 @@
 use Rattle.std.proofs.Common.{arith, rules}
-use Rattle.zf_spec.{proofs.Fields.{field-zero}, proofs.Bytes.{fill_whole, fill_short}}
+use Rattle.zf_spec.proofs.Bytes.{fill_whole, fill_short}
 use Rattle.zf_bits.proofs.Appending.{Appends-same, length-Appends}
 use Rattle.zf_bits.proofs.writer.BitWriter.pad_to_word.Goals as goal
 
 pub returns-clause-bits : goal.returns-clause-bits
-returns-clause-bits c = search (rules, field-zero, Appends-same)
+returns-clause-bits c = search (rules, Appends-same)
 
 pub returns-clause-whole : goal.returns-clause-whole
 returns-clause-whole c =
