@@ -1,4 +1,4 @@
-use Rattle.std.proofs.Common.{refl, sym, ℕ, pos, ◌^◌, replicate}
+use Rattle.std.proofs.Common.{refl, sym, pos, ◌^◌, replicate}
 use Rattle.zf_block.{proofs.Sizes.{block_sizes}, proofs.Decoded.{passes_zeros}}
 use Rattle.zf_block.proofs.codec.pass_zeros.Goals as goal
 

@@ -1,4 +1,3 @@
-use Rattle.std.proofs.Common.{sym}
 use Rattle.zf_block.proofs.ReadCodes.{ReadsPrec-planes}
 use Rattle.zf_block.proofs.precision.pass_prec_zeros.Goals as goal
 

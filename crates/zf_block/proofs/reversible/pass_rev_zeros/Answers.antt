@@ -1,4 +1,3 @@
-use Rattle.std.proofs.Common.{sym}
 use Rattle.zf_block.proofs.ReadCodes.{ReadsRev-planes}
 use Rattle.zf_block.proofs.reversible.pass_rev_zeros.Goals as goal
 
