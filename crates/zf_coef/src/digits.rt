@@ -100,8 +100,8 @@ fn take_16<P: Plane>(planes: &[P], number: usize, digits: &mut [u64])
 }
 
 /// Takes sixteen digits of 64 planes. Where 32 planes from a multiple of sixteen on have all the ones, as a
-/// budget mostly leaves it, no others are turned. Planes are asked by sixteens: as so few digits are turned
-/// soon, it costs as much as it saves to ask each one.
+/// budget mostly leaves it, no others are turned. Planes are asked by sixteens, since so few digits are turned
+/// in little time: to ask plane by plane would cost as much as it saves.
 #[inline(always)]
 fn take_16_of_64<P: Plane>(planes: &[P], number: usize, digits: &mut [u64])
     requires number { number < P.word_count }

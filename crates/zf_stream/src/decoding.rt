@@ -139,7 +139,7 @@ fn read_zeros<T: Lane>(
 }
 
 /// Reads the code of block `b`, whose values are so many, or answers `None` where the bits that are held end
-/// too early. Where a size of the array cuts blocks, it goes by way of `block`.
+/// too early.
 #[inline(always)]
 fn read_block<T: Lane>(
     part: &Header,
@@ -175,7 +175,7 @@ fn read_block<T: Lane>(
     Some(())
 }
 
-/// Reads that code from a reader.
+/// Reads that code from a reader: to where its values stay, or where a size cuts blocks by way of `block`.
 #[inline(always)]
 fn read_next<T: Lane>(
     part: &Header,

@@ -16,7 +16,8 @@ use zf_bits::BitReader;
 use zf_header::Header;
 use zf_parse::read_code;
 
-/// So many places are made ready at once: many beside a block, and few beside a slab.
+/// So many places are made ready at a time: many beside a block, so that it is seldom done, and few to be made
+/// for nothing where a stream ends early.
 const READY: usize = 4096;
 
 /// The values of the blocks of a slab that were read so far, one block behind the other.
