@@ -1,6 +1,6 @@
 //! Block b of an array, out of its raw values.
 
-ghost use Rattle.std.specs.Prelude.{◌≡◌, ◌<◌, ◌≤◌, ◌+◌, ◌-◌, ◌*◌, ◌^◌, ◌++◌, min, slice_index_or, length, map, take, drop};
+ghost use Rattle.std.specs.Prelude.{◌↔◌, ◌≡◌, ◌<◌, ◌≤◌, ◌+◌, ◌-◌, ◌*◌, ◌^◌, ◌++◌, min, slice_index_or, length, map, take, drop};
 ghost use Rattle.std.specs.Prelude.{IsTrue, pos, replicate};
 ghost use Rattle.zf_spec.specs.Grid.{product, grid, blocks, coordinates, extent_of, block_of, fours};
 ghost use Rattle.zf_spec.specs.Codes.{existing_values};
@@ -72,7 +72,7 @@ pub fn is_row_of_zeros<T: Lane>(shape: &Shape, b: u64, values: &[T]) -> bool
 pub fn is_row_of<T: Lane>(value: T, values: &[T], first: usize) -> bool
     requires within { first + 4 ≤ length values.now }
     ensures { IsTrue result
-        → map T.value (take 4 (drop first values.now)) ≡ replicate 4 (T.value value) }
+        ↔ map T.value (take 4 (drop first values.now)) ≡ replicate 4 (T.value value) }
 {
     let a = values[first];
     let b = values[first + 1];

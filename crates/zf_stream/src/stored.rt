@@ -22,9 +22,9 @@ const READY: usize = 4096;
 
 /// The values of the blocks of a slab that were read so far, one block behind the other.
 ///
-/// They take the place of those of the slab before. So most blocks are read to where they stay: no place is
-/// made ready twice, and no block is copied. No more places are made ready than blocks need, but for some: a
-/// stream that ends early needs no more than its values.
+/// They take the place of those of the slab before. So where no size cuts blocks, each is read to where it
+/// stays: no place is made ready twice, and no block is copied. No more places are made ready than blocks need,
+/// but for some: a stream that ends early needs no more than its values.
 #[derive(Drop)]
 pub(crate) struct Stored<T: Lane> {
     /// The places that were made ready; those behind the values have some of an earlier slab, or zeros.

@@ -10,4 +10,4 @@ loop-row-preserved g c =
     let more : 4 * (c.loop-row.row + 1) ≡ n + 4 = omega arith in
     let parts = map-append value (take n values) (take 4 (drop n values)) in
     let alike = replicate-append-replicate n 4 (value c.args.value) in
-    cc (parts, alike, take-add n 4 values, c.is_row_of.ensures c.if-not-is_row_of.false)
+    cc (parts, alike, take-add n 4 values, c.is_row_of.ensures.0 c.if-not-is_row_of.false)

@@ -11,4 +11,4 @@ returns-then-b-size-clause-zeros g c are =
     let one : length ns ≡ 1 = omega (arith, c.dims.ensures.value, c.if-dims-ne1.false) in
     let whole : 4 * b + 4 ≤ get_or ns 0 1 = omega (arith, c.if-b-size.true, c.size.ensures) in
     row_zeros ns b c.dims.ensures.shape one c.requires.in_array whole (map value c.args.values.now)
-    (ap (take 4) (drop-map value (4 * b) c.args.values.now) ∙ take-map value 4 (drop (4 * b) c.args.values.now) ∙ c.is_row_of.ensures are ∙ ap (replicate 4) c.zero.ensures.value)
+    (ap (take 4) (drop-map value (4 * b) c.args.values.now) ∙ take-map value 4 (drop (4 * b) c.args.values.now) ∙ c.is_row_of.ensures.0 are ∙ ap (replicate 4) c.zero.ensures.value)
