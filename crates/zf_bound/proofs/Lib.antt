@@ -25,3 +25,4 @@ pub mod Cuts
 pub mod Indexed
 pub mod LineLaws
 pub mod Certificates
+pub mod WrittenBack

@@ -1,11 +1,15 @@
 //! Laws of the bound. Each is a function with no parameters and an empty body, whose contract is the theorem.
 
-ghost use Rattle.std.specs.Prelude.{◌≡◌, ◌+◌, ◌-◌, ◌*◌, ◌≤◌, ◌<◌, ◌^◌, ◌↔◌, ℕ, ℤ, Bool, false, List, [], ◌∷◌, length, replicate, All, IsTrue, IfOk};
+ghost use Rattle.std.specs.Prelude.{◌≡◌, ◌+◌, ◌-◌, ◌*◌, ◌≤◌, ◌<◌, ◌^◌, ◌↔◌, ℕ, ℤ, Bool, true, false, List, [], ◌∷◌, length, replicate, All, IsTrue, IfOk};
 ghost use Rattle.std.specs.Int.{Width, w32};
 ghost use mir.Val.{bits};
 ghost use Rattle.zf_spec.specs.Lift.{lift_line, unlift_line};
 ghost use Rattle.zf_spec.specs.Codes.{rate, round, existing_values};
-ghost use Rattle.zf_spec.specs.Grid.{product};
+ghost use Rattle.zf_spec.specs.Grid.{product, IsShape, blocks};
+ghost use Rattle.zf_cached.specs.State.{State};
+ghost use Rattle.zf_cached.specs.Changes.{flush};
+ghost use Rattle.zf_cached.specs.Arrays.{rate_coding, array_format};
+ghost use Rattle.zf_cached.specs.Consistency.{IsConsistent};
 ghost use Rattle.zf_spec.specs.Stream as stream;
 ghost use Rattle.zf_base.specs.Widths.{width_of};
 ghost use Rattle.zf_header.specs.declared.header.Header.{Header};
@@ -17,6 +21,8 @@ ghost use Rattle.zf_block.specs.WholePlanes.{rate_whole_from};
 ghost use Rattle.zf_bound.specs.declared.certified.Certified.{Certified};
 ghost use Rattle.zf_bound.specs.Errors.{AreWithin, AreClose, IsSmallEnough};
 ghost use Rattle.zf_bound.specs.Bounds.{plane_of, error_of, certified_of};
+
+use zf_cached::placing::Placing;
 
 /// Of a line within `m` the coefficients are within `m + 4`. Numbers within an error `e` of them come back
 /// within `4e + 4` of the line.
@@ -37,6 +43,20 @@ pub fn a_block_comes_back_close()
         → let k = rate_whole_from w (length es) (rate w budget es block) in
         IsSmallEnough (bits w) m (error_of (length es) k)
         → AreClose (error_of (length es) k) (existing_values es block) (round w budget es block) }
+{}
+
+/// What a write-back loses: the values of a dirty block, of magnitudes up to `m`, are after a flush no further
+/// from those before it than the error of the plane from which on the block's new code has the planes whole.
+/// Whatever the placing, and whichever blocks are owned.
+pub fn a_flush_loses_little<P: Placing>()
+    ensures { (w : Width) (budget : ℕ) (ns : List ℕ) (owned : ℕ → Bool) (s : State (List Bool)) (b m : ℕ)
+        → IsShape ns → b < blocks ns
+        → let format = array_format (rate_coding w budget) ns in
+        let t = flush format s in
+        let k = rate_whole_from w (length ns) (t.codes b) in
+        IsConsistent P.line owned format s → s.dirty b ≡ true → AreWithin m (s.values b)
+        → IsSmallEnough (bits w) m (error_of (length ns) k)
+        → AreClose (error_of (length ns) k) (s.values b) (t.values b) }
 {}
 
 /// What is restored of the stream of an array's values is within the bound of that stream.

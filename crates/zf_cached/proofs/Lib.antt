@@ -12,6 +12,7 @@
 --     Passes       passes over all blocks
 --     Sessions     what the step of a command keeps
 --     Runs         what the lines of a script keep, and lines one after the other
+--     Uncached     a script over as many lines as blocks answers as over a plain array
 --     Computing    what a run of a script computes with
 pub mod States
 pub mod Caching
@@ -31,4 +32,5 @@ pub mod Joining
 pub mod Reading
 pub mod Passes
 pub mod Runs
+pub mod Uncached
 pub mod Computing

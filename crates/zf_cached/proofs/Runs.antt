@@ -64,7 +64,7 @@ line_step_by {Code} setting s (b ∷ bs) starving P before after = by (read_line
 module _ (at : Line) (may_hold : ℕ → ℕ → ℕ → Type 0) (placing : IsPlacing at may_hold) where
   -- ---- lines
 
-  line_step-sound : {Code : Type 0} (setting : Setting Code) (s : Session Code) (line : List ℕ) (starving : Bool) → IsCached at setting → IsSound at setting s → IsSound at setting (line_step setting s line starving).0
+  pub line_step-sound : {Code : Type 0} (setting : Setting Code) (s : Session Code) (line : List ℕ) (starving : Bool) → IsCached at setting → IsSound at setting s → IsSound at setting (line_step setting s line starving).0
   line_step-sound setting s line starving cached h = line_step_by setting s line starving (IsSound at setting) h
       (λ c read may. step-sound at may_hold placing setting s c starving (read_line-Some (length s.shape) line c read).0 cached h)
 

@@ -3,7 +3,7 @@ use Rattle.std.proofs.Common.{◌≡◌, ◌≢◌, refl, sym, ap, subst, ◌∙
 use Rattle.std.{specs.Int.{Width}, proofs.lemmas.Bool.{and_parts, not-false, false_from_ne_true, cases_eq, ltb-true}}
 use Rattle.std.{proofs.lemmas.List.{length-set, get_or-set_same, get_or-set_other}, specs.List.{list_all}}
 use Rattle.zf_spec.proofs.Counting.{length-map-upto, get_or-map-upto}
-use Rattle.zf_spec.specs.Grid.{IsShape, upto, blocks, is_inside}
+use Rattle.zf_spec.specs.Grid.{IsShape, upto, is_inside}
 use Rattle.zf_base.{specs.Places.{block_number, place_of}, specs.Shapes.{shape_fault}}
 use Rattle.zf_base.{specs.Formats.{Format, existing_of, meant}, proofs.Places.{IsAt-position}}
 use Rattle.zf_base.proofs.Formats.{with_at-same, existing_of-existing_of, existing_of-set}
@@ -26,10 +26,10 @@ alone : (t : Bool) → elim t as (λ x. Bool) [ true ↦ true | false ↦ false 
 alone true e = absurd (cc)
 alone false e = refl
 
-as_many : (d : ℕ) (ns : List ℕ) → has_axes d ns ≡ true → length ns ≡ d
+pub as_many : (d : ℕ) (ns : List ℕ) → has_axes d ns ≡ true → length ns ≡ d
 as_many d ns h = eqb-true (length ns) d (and_parts (eqb (length ns) d) (list_all is_number ns) h).0
 
-as_many_of : (d : ℕ) (ns : List ℕ) (v : ℤ) → (has_axes d ns && is_value v) ≡ true → length ns ≡ d
+pub as_many_of : (d : ℕ) (ns : List ℕ) (v : ℤ) → (has_axes d ns && is_value v) ≡ true → length ns ≡ d
 as_many_of d ns v h = as_many d ns (and_parts (has_axes d ns) (is_value v) h).0
 
 -- a command that is not refused: its numbers are as many as there are axes, and no test refuses it
@@ -39,7 +39,7 @@ pub record IsTaken {Code : Type 0} (setting : Setting Code) (s : Session Code) (
   pub size : (tests setting s c).size ≡ false
   pub range : (tests setting s c).range ≡ false
 
-refusal_none : (p a b v m : Bool) → first_refusal p a b v m ≡ None → (p ≡ false) × (a ≡ false) × (b ≡ false)
+pub refusal_none : (p a b v m : Bool) → first_refusal p a b v m ≡ None → (p ≡ false) × (a ≡ false) × (b ≡ false)
 refusal_none false false false v m e = (refl, refl, refl)
 refusal_none p a b v m e = absurd (cc)
 

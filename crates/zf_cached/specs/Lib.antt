@@ -20,6 +20,7 @@
 --     Passes       passes over all blocks
 --     Unwritten    how much a flush writes, and lines that write nothing
 --     Runs         the run of a script, and the look at an array that is only read
+--     Uncached     a script over a plain array of values, and when a cache has lines enough
 pub mod State
 pub mod Touch
 pub mod Placing
@@ -40,3 +41,4 @@ pub mod Fates
 pub mod Passes
 pub mod Runs
 pub mod Unwritten
+pub mod Uncached

@@ -1,18 +1,23 @@
 //! Laws of the steps of a script and of its run.
 
-ghost use Rattle.std.specs.Prelude.{◌≡◌, ℕ, ◌+◌, Bool, true, false, List, ◌++◌, length, Some, None};
+ghost use Rattle.std.specs.Prelude.{◌≡◌, ℕ, ◌+◌, ◌<◌, ◌≤◌, Bool, true, false, List, ◌++◌, map, length, Some, None};
+ghost use Rattle.zf_base.specs.Formats.{Format};
 ghost use Rattle.std.specs.Int.{Width};
-ghost use Rattle.zf_spec.specs.Grid.{IsShape};
+ghost use Rattle.zf_spec.specs.Grid.{IsShape, blocks};
 ghost use Rattle.zf_cached.specs.State.{State};
+ghost use Rattle.zf_cached.specs.Touch.{touch_at};
+ghost use Rattle.zf_cached.specs.Changes.{opened};
 ghost use Rattle.zf_cached.specs.Arrays.{array_format, saved_file};
 ghost use Rattle.zf_cached.specs.Commands.{Command};
 ghost use Rattle.zf_cached.specs.Replies.{Refusal, Reply};
 ghost use Rattle.zf_cached.specs.Grammar.{is_writable};
-ghost use Rattle.zf_cached.specs.Steps.{Setting, Session, tests, refusal, step};
+ghost use Rattle.zf_cached.specs.Steps.{Setting, Session, format_of, tests, refusal, step};
 ghost use Rattle.zf_cached.specs.Placing.{direct};
 ghost use Rattle.zf_cached.specs.Consistency.{every, IsConsistent, IsEmpty, IsCached, IsSound};
-ghost use Rattle.zf_cached.specs.Runs.{lines_of, only_reads, run_lines, run, look, array_setting};
+ghost use Rattle.zf_cached.specs.Runs.{lines_of, only_reads, run_lines, run_script, run, look, array_setting};
 ghost use Rattle.zf_cached.specs.Unwritten.{IsUnwritten, ReadAlone};
+ghost use Rattle.zf_cached.specs.Uncached.{uncached, but_counts, AreOnValues, HasOwnLines, HasEnoughLines, KeepsBlocks};
+ghost use Rattle.zf_cached.specs.Uncached.{ShowTheSame, opened_session};
 
 use crate::coded::Coded;
 use crate::placing::Placing;
@@ -81,6 +86,38 @@ pub fn lines_in_order<C: Coded>()
         → let first = run_lines setting starved k lines s in
         let rest = run_lines setting starved (k + length lines) more first.0 in
         run_lines setting starved k (lines ++ more) s ≡ (rest.0, first.1 ++ rest.1) }
+{}
+
+/// Where a cache has as many lines as there are blocks, or more, a script answers as over a plain array of
+/// values, with no cache and no rounding: each reply is the same but for the counts of `stats`, and so are the
+/// values afterwards. The lines of the script are on values: what is accepted is no flush, discard, new number
+/// of lines, resize or split. A touch then puts a block into an empty line, its own, and changes no value.
+pub fn enough_lines<C: Coded, P: Placing>()
+    ensures opened { (format : Format C.Code) (codes : ℕ → C.Code) (lines : ℕ) → format.blocks ≤ lines
+        → HasEnoughLines format (opened format codes lines) }
+    ensures touch { (format : Format C.Code) (s : State C.Code) (b : ℕ) → HasOwnLines P.line
+        → HasEnoughLines format s → b < format.blocks → KeepsBlocks format s (touch_at P.line format s b) }
+    ensures lines { (setting : Setting C.Code) (starved : List ℕ) (k : ℕ) (lines : List (List ℕ))
+        (s : Session C.Code)
+        → HasOwnLines P.line → IsCached P.line setting → IsSound P.line setting s
+        → HasEnoughLines (format_of setting s) s.state → AreOnValues setting starved k lines s
+        → let r = run_lines setting starved k lines s in
+        let plain = run_lines (uncached setting) starved k lines s in
+        (map but_counts r.1 ≡ map but_counts plain.1) × ShowTheSame r.0 plain.0 }
+    ensures script { (setting : Setting C.Code) (starved shape : List ℕ) (codes : ℕ → C.Code) (lines : ℕ)
+        (script : List ℕ)
+        → HasOwnLines P.line → IsCached P.line setting → IsShape shape → 1 ≤ lines → blocks shape ≤ lines
+        → let start = opened_session setting shape codes lines in
+        AreOnValues setting starved 0 (lines_of script) start
+        → let r = run_script setting starved shape start.state script in
+        let plain = run_script (uncached setting) starved shape start.state script in
+        (map but_counts r.1 ≡ map but_counts plain.1) × ShowTheSame r.0 plain.0 }
+{}
+
+/// Where each block has one line alone, a block whose number is below the number of lines has the line of that
+/// number.
+pub fn own_lines()
+    ensures { HasOwnLines direct }
 {}
 
 /// An array of a fixed rate has the touch of a cache with one line for a block, and a code of zeros.
