@@ -4,7 +4,7 @@ use Rattle.std.{proofs.lemmas.Bool.{ne_eqb}, specs.Borrow.{GName, MutBor}, specs
 use Rattle.zf_base.specs.Formats.{Format, existing_of, meant, with_at, encoded}
 use Rattle.zf_cached.{specs.State.{State}, proofs.States.{same_state}}
 use Rattle.zf_header.specs.declared.header.Header.{Header}
-use Rattle.zf_cache.{specs.Kept.{Kept, tag_at, block_in}, specs.Standing.{state_of, Fits, HasRoom, state_at}}
+use Rattle.zf_cache.{specs.Kept.{Kept, tag_at, block_in}, specs.Standing.{state_of, Fits, state_at}}
 use Rattle.zf_cache.proofs.Tags.{names-clean, names-dirty}
 use Rattle.zf_store.specs.Stored as store
 use Rattle.zf_store.specs.Stored.{Stored, code_at, format_of}
@@ -18,8 +18,8 @@ module _ {X Code : Type 0} (value : X → ℤ) (f : Format Code) (c : Kept X) (k
   no_block : (l b : ℕ) → block_in (tag_at c.tags l) ≡ Some b → ⊥
   no_block l b is = let both : None ≡ Some b = sym (none l) ∙ is in cc
 
-  pub none_fits : HasRoom c f.blocks → Fits value c f k
-  none_fits room = search (rules, no_block, names-clean)
+  pub none_fits : Fits value c f k
+  none_fits = search (rules, no_block, names-clean)
 
   pub none_coded : (s : State Code) → length c.tags ≡ s.lines → c.counts ≡ s.counts → state_of value c f k ≡ coded f s k
   unfolding state_at coded
@@ -76,7 +76,7 @@ module _ {X : Type 0} (value : X → ℤ) (w : Width) (d : ℕ) (s : Stored) (c 
   -- and so it does with other codes
   module _ (empty : HasEmptyLines now) (t : Stored) (frame : store.frame_of t ≡ store.frame_of s) (same : format_of t ≡ format_of s) where
     pub fits_stored : Fits value c (format_of t) (code_at t)
-    fits_stored = none_fits value (format_of t) c (code_at t) (none_held empty) (subst (λ (f : Format (List Bool)). HasRoom c f.blocks) (sym same) joined.fits.room)
+    fits_stored = none_fits value (format_of t) c (code_at t) (none_held empty)
 
     pub stored_coded : (b : ℕ) (values : List ℤ) → code_at t ≡ with_at (code_at s) b (encoded (format_of s) b values)
         → state (held_by value t c) ≡ coded (format now) (state now) (with_at (state now).codes b (encoded (format now) b values))

@@ -13,10 +13,10 @@ use Rattle.zf_cached.{specs.State.{no_counts}, specs.Changes.{opened, raised, re
 use Rattle.zf_cached.specs.Arrays.{rate_coding, array_format, zero_codes, open_array, new_array, codes_of, saved_file}
 use Rattle.zf_cached.proofs.States.{same_state}
 use Rattle.zf_cache.{specs.Kept.{Kept, IsEmpty}, proofs.Stands.{standing}}
-use Rattle.zf_cache.{specs.Standing.{state_of, Fits, HasRoom, state_at}, proofs.Steps.{empty_fits}}
+use Rattle.zf_cache.specs.Standing.{state_of, Fits, state_at}
 use Rattle.zf_cache.proofs.Touches.{state_is, no_tag, all_meant}
 use Rattle.zf_store.specs.Stored as store
-use Rattle.zf_store.{specs.Stored.{Stored, code_at, format_of, rate_of}, proofs.Kept.{blocks_is}}
+use Rattle.zf_store.{specs.Stored.{Stored, code_at, format_of, rate_of}}
 use Rattle.zf_array.specs.Standing.{Held, stored, format, state}
 use Rattle.zf_array.specs.Parts.{held_by}
 use Rattle.zf_array.proofs.Standing.{zero_meant, stored_held, state_held}
@@ -28,10 +28,6 @@ same_ty s t e = search rules
 -- ---- an array as it is made
 
 module _ {X : Type 0} (value : X → ℤ) where
-  -- an empty cache with room for the blocks of its sizes
-  pub fits_made : (s : Stored) (c : Kept X) (n blocks_n : ℕ) → IsEmpty c n → HasRoom c blocks_n → blocks_n ≡ blocks s.header.shape → Fits value c (format_of s) (code_at s)
-  fits_made s c n blocks_n empty room is = empty_fits value (format_of s) (code_at s) c n empty (subst (λ m. HasRoom c m) (is ∙ sym (blocks_is s)) room)
-
   -- an empty cache and a store stand for an array as it is opened
   pub opens : (s : Stored) (c : Kept X) (n : ℕ) → length s.codes ≡ blocks s.header.shape → IsEmpty c n → c.counts ≡ no_counts → Fits value c (format_of s) (code_at s)
       → state (held_by value s c) ≡ opened (format (held_by value s c)) (code_at (stored (held_by value s c))) n

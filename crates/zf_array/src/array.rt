@@ -89,8 +89,7 @@ impl<T: Lane, const D: usize> Array<T, D> {
         ensures stored { IfOk result (λ a. stored a ≡ zeros T.TY shape bits) }
         ensures state { IfOk result (λ a. state a ≡ new_array T.width bits shape lines) }
     {
-        let blocks = shape.blocks();
-        let cache = Cache::for_blocks(alloc, raised(lines), blocks)?;
+        let cache = Cache::new(alloc, raised(lines))?;
         let buffer = buffer_for::<T>(alloc, shape, bits)?;
         // The store comes last, so that no other way out has to give it back: each such way is proved.
         let store = Store::zeros(alloc, shape, bits)?;
@@ -128,8 +127,7 @@ impl<T: Lane, const D: usize> Array<T, D> {
         ensures fault { IfErr result (λ e. IsFault (parse file.items) (stream_fault e)) }
     {
         let store = Store::from_file(alloc, h, &file)?;
-        let blocks = h.shape.blocks();
-        let cache = Cache::for_blocks(alloc, raised(lines), blocks)?;
+        let cache = Cache::new(alloc, raised(lines))?;
         Ok(Array {
             alloc,
             store,
@@ -192,7 +190,7 @@ impl<T: Lane, const D: usize> Array<T, D> {
 
     /// Touches position `p`, which lies in the array, for writing; its value. What is written to it is the
     /// array's value there afterwards.
-    #[inline]
+    #[inline(always)]
     pub fn value_mut(&mut self, p: Pos) -> &mut T
         requires { IsPosition (shape self.old) p }
         ensures* writes_back { sem 𝓛 (EndsWithValue T.row D.row
@@ -321,13 +319,11 @@ impl<T: Lane, const D: usize> Array<T, D> {
         ensures err { OnErr result (self.new ≡ self.old) }
     {
         let bits = self.bits();
-        let blocks = shape.blocks();
-        let cache = self.cache.emptied_for(blocks)?;
         let buffer = buffer_for::<T>(self.alloc, shape, bits)?;
         let store = Store::zeros(self.alloc, shape, bits)?;
         // Known by this call: what holds of a store.
         let _header = store.header();
-        self.cache = cache;
+        self.cache.discard();
         self.store = store;
         self.buffer = buffer;
         Ok(())

@@ -200,11 +200,11 @@ fn a_cache_that_only_reads(rt: HostRuntime) -> Result<(), Fail> {
     Ok(())
 }
 
-// The second line has no values, as there is one block; it is a number alone.
+// The second line is never written to, as there is one block.
 #[test]
 fn a_cache_of_more_lines_than_blocks(rt: HostRuntime) -> Result<(), Fail> {
     let mut back = Counted::new(rt.alloc(), 1)?;
-    let mut cache = Cache::<i32, 1>::for_blocks(rt.alloc(), 2, 1)?;
+    let mut cache = Cache::<i32, 1>::new(rt.alloc(), 2)?;
     empty_caches_fit::<i32, Counted>();
     cache.set(&mut back, 0, 2, 7);
     let kept = cache.get(&mut back, 0, 2);

@@ -16,7 +16,7 @@ module _ (place : ℕ → List ℕ → ℕ → ℕ) (may_hold : ℕ → ℕ → 
   lt = (line_below place may_hold rule value t h j sound c b l to).0
 
   pub whole : length (line_at t.lines l) ≡ h.block_len
-  whole = sound.whole.size.1 l to.row
+  whole = sound.whole.size.1 l lt
 
   here : (state_at place value (kept_of t) h j).values b ≡ existing_of h b (map value (line_at t.lines l))
   here = values_there place value h (kept_of t) j b l (sound.fits.own l b (names (tag_at t.tags.items l) b to.here)).0 to.here

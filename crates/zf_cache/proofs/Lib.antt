@@ -2,7 +2,6 @@ pub mod Doubled
 pub mod Lent
 pub mod Placed
 pub mod Puts
-pub mod Rooms
 pub mod Sound
 pub mod Stands
 pub mod Steps

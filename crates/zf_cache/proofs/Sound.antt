@@ -1,65 +1,59 @@
 -- The fields of a cache are whole, and fit the backing.
-use Rattle.std.proofs.Common.{◌≡◌, ◌≢◌, refl, sym, ap, subst, ◌∙◌, ℕ, ◌+◌, ◌/◌, ◌%◌, ◌<◌, ◌≤◌, ℤ, Option, Some, List, map, length, set, replicate, arith, rules}
-use Rattle.std.proofs.lemmas.Bool.{cases_lt, cases_eq}
-use Rattle.std.proofs.lemmas.List.{length-set, length-replicate, set-set, set-get_or, get_or-set_same, get_or-set_other}
+use Rattle.std.proofs.Common.{◌≡◌, ◌≢◌, refl, sym, ap, subst, ◌∙◌, ℕ, ◌+◌, ◌/◌, ◌%◌, ◌<◌, ◌++◌, take, drop, length-append, length-take, length-drop, ℤ, Option, Some, List, map, length, set, arith, rules}
+use Rattle.std.proofs.lemmas.Bool.{cases_eq}
+use Rattle.std.proofs.lemmas.List.{length-set, set-set, set-get_or, get_or-set_same, get_or-set_other}
 use Rattle.zf_base.specs.Formats.{Format, existing_of, meant}
 use Rattle.zf_base.proofs.Formats.{length-existing_of, existing_of_same, get_or-existing_of_exists}
 use Rattle.zf_cached.{specs.State.{Counts, State, risen}, specs.Touch.{hit, soiled, with_values}}
-use Rattle.zf_lines.{specs.Rows.{line_at, HasSize}, proofs.Sizes.{HasSize-set}}
+use Rattle.zf_lines.{specs.Rows.{line_at, HasSize, over, part, over_part}, proofs.Sizes.{HasSize-set, length-over}}
 use Rattle.zf_cache.{specs.declared.body.Body.{Body}, specs.Rules.{IsRule, one_line}}
 use Rattle.zf_cache.specs.Kept.{line_by, Kept, IsAway, IsClean, OnlyLine, tag_at, clean_tag, dirty_tag, dirty_of}
 use Rattle.zf_cache.specs.Bodies.{IsWhole, IsSound, ComesTo, kept_of, counts_of}
 use Rattle.zf_cache.{specs.Standing.{state_at, state_of, evicted}, specs.Steps.{taken_in, touch_in}}
 use Rattle.zf_cache.proofs.Tags.{names, named, tag-set_same, tag-set_other}
 use Rattle.zf_cache.proofs.Stands.{standing_at, Fit, codes_after, counts_after, empties, fits_after, dirty_below, takes_in, fits_taken, writes, fits_written, soils, fits_soiled, vals-in}
-use Rattle.zf_cache.proofs.Touches.{no_tag, fits_of, fit_of, state_stands, touches_here, touches_away}
-
--- no line without a row holds a block
-abbrev pub IsBlank : ℕ → List ℕ → Type 0
-IsBlank rows tags = (l : ℕ) → rows ≤ l → tag_at tags l ≡ 0
-
--- where the tag of a line with a row changes, or a line is emptied, those without one stay empty
-pub still_blank : (rows : ℕ) (tags : List ℕ) (l x : ℕ) → l < length tags → (rows ≤ l → x ≡ 0) → IsBlank rows tags → IsBlank rows (set tags l x)
-still_blank rows tags l x lt zero blank m past = search (rules, cases_eq, tag-set_same, tag-set_other)
+use Rattle.zf_cache.proofs.Touches.{fits_of, fit_of, state_stands, touches_here, touches_away}
 
 module _ {X : Type 0} where
   -- fields with as many tags, and rows of the same size
-  pub whole_as : (c d : Body X) (len : ℕ) → IsWhole c len → length d.tags.items ≡ length c.tags.items → HasSize d.lines (length c.lines) len
-      → IsBlank (length c.lines) d.tags.items → IsWhole d len
-  whole_as c d len w e size blank = search rules
-
-  -- the lines and the tags of another
-  pub whole_of : (c d : Body X) (len : ℕ) → IsWhole c len → d.lines ≡ c.lines → d.tags.items ≡ c.tags.items → IsWhole d len
-  whole_of c d len w lines tags = search rules
-
-  -- lines that were emptied
-  pub whole_emptied : (c d : Body X) (len : ℕ) → IsWhole c len → d.lines ≡ c.lines → d.tags.items ≡ replicate (length c.tags.items) 0 → IsWhole d len
-  whole_emptied c d len w lines tags = search (rules, whole_as, length-replicate, no_tag)
+  pub whole_as : (c d : Body X) (len : ℕ) → IsWhole c len → length d.tags.items ≡ length c.tags.items → HasSize d.lines (length c.tags.items) len
+      → IsWhole d len
+  whole_as c d len w e size = search rules
 
   -- a row that was written, as long as it was
-  pub whole_written : (c d : Body X) (len l : ℕ) (row : List X) → IsWhole c len → l < length c.lines → length row ≡ len → d.lines ≡ set c.lines l row → d.tags.items ≡ c.tags.items
+  pub whole_written : (c d : Body X) (len l : ℕ) (row : List X) → IsWhole c len → l < length c.tags.items → length row ≡ len → d.lines ≡ set c.lines l row → d.tags.items ≡ c.tags.items
       → IsWhole d len
   whole_written c d len l row w lt long lines tags = search (rules, whole_as)
 
-  -- a line that holds a block has a row
-  pub row_there : (c : Body X) (len : ℕ) → IsWhole c len → (l : ℕ) → 0 < tag_at c.tags.items l → l < length c.lines
-  row_there c len w l some = search (rules, cases_lt)
+  -- each line has a row
+  pub row_there : (c : Body X) (len : ℕ) → IsWhole c len → (l : ℕ) → l < length c.tags.items → l < length c.lines
+  row_there c len w l lt = omega (arith, w.size.0)
 
 module _ (place : ℕ → List ℕ → ℕ → ℕ) {X : Type 0} where
   pub sound_as : {Code : Type 0} (value : X → ℤ) (c d : Body X) (f g : Format Code) (k : ℕ → Code) → g ≡ f → IsWhole c f.block_len
-      → length d.tags.items ≡ length c.tags.items → HasSize d.lines (length c.lines) f.block_len → IsBlank (length c.lines) d.tags.items
+      → length d.tags.items ≡ length c.tags.items → HasSize d.lines (length c.tags.items) f.block_len
       → Fit place value f (length c.tags.items) d.lines d.tags.items k → IsSound place value d g k
-  sound_as value c d f g k same w e size blank fit = subst (λ h. IsSound place value d h k) (sym same) (
+  sound_as value c d f g k same w e size fit = subst (λ h. IsSound place value d h k) (sym same) (
       search (rules, whole_as, fits_of))
+
+pub length-over_part : {X : Type 0} (xs : List X) (a n : ℕ) (ws : List X) → length (over_part xs a n ws) ≡ length xs
+length-over_part xs a n ws =
+    omega (
+      arith,
+      length-append (take a xs) (over (part xs a n) ws ++ drop n (drop a xs)),
+      length-append (over (part xs a n) ws) (drop n (drop a xs)),
+      length-over (part xs a n) ws,
+      length-take a xs,
+      length-take n (drop a xs),
+      length-drop a xs,
+      length-drop n (drop a xs),
+    )
 
 -- the fields c become d, and the backing's format and codes f and k become g and k'
 module _ (place : ℕ → List ℕ → ℕ → ℕ) (may_hold : ℕ → ℕ → ℕ → Type 0) (rule : IsRule place may_hold) {X Code : Type 0} (value : X → ℤ)
     (c d : Body X) (f g : Format Code) (k k' : ℕ → Code) (same : g ≡ f) (s : IsSound place value c f k) where
   abbrev n : ℕ
   n = length c.tags.items
-
-  abbrev rows : ℕ
-  rows = length c.lines
 
   abbrev pub fit : Fit place value f n c.lines c.tags.items k
   fit = fit_of place value f (kept_of c) k n refl s.fits
@@ -72,11 +66,11 @@ module _ (place : ℕ → List ℕ → ℕ → ℕ) (may_hold : ℕ → ℕ → 
 
   -- what the new fields and codes are gives that they are sound, and which state they stand for
   became : {lines : List (List X)} {tags : List ℕ} {counts : Counts} {codes : ℕ → Code} {t : State Code} → d.lines ≡ lines → d.tags.items ≡ tags → counts_of d.counts ≡ counts → k' ≡ codes
-      → length tags ≡ n → HasSize lines rows f.block_len → IsBlank rows tags → Fit place value f n lines tags codes → standing_at place value f n lines tags counts codes ≡ t
+      → length tags ≡ n → HasSize lines n f.block_len → Fit place value f n lines tags codes → standing_at place value f n lines tags counts codes ≡ t
       → IsSound place value d g k' × (state_at place value (kept_of d) g k' ≡ t)
-  became {lines} {tags} {codes = codes} el et ec ek long size blank fits is =
+  became {lines} {tags} {codes = codes} el et ec ek long size fits is =
       let tags_are : length d.tags.items ≡ n = ap length et ∙ long in (
-        sound_as place value c d f g k' same s.whole tags_are (subst (λ ls. HasSize ls rows f.block_len) (sym el) size) (subst (IsBlank rows) (sym et) blank)
+        sound_as place value c d f g k' same s.whole tags_are (subst (λ ls. HasSize ls n f.block_len) (sym el) size)
             (subst (λ ls. Fit place value f n ls d.tags.items k') (sym el) (subst (λ ts. Fit place value f n lines ts k') (sym et) (subst (Fit place value f n lines tags) (sym ek) fits))),
         ap (λ h. state_at place value (kept_of d) h k') same ∙ state_stands place value f (kept_of d) k' n tags_are ∙ (λ i. standing_at place value f n (el i) (et i) (ec i) (ek i)) ∙ is,
       )
@@ -91,7 +85,7 @@ module _ (place : ℕ → List ℕ → ℕ → ℕ) (may_hold : ℕ → ℕ → 
         → k' ≡ codes_after place value f n may_hold rule c.lines c.tags.items (counts_of c.counts) k fit l lt o
         → IsSound place value d g k' × (state_at place value (kept_of d) g k' ≡ evicted f (state_at place value (kept_of c) f k) l)
     evicts o dirty el et ec ek =
-        became el et ec ek (length-set c.tags.items l 0) s.whole.size (still_blank rows c.tags.items l 0 lt (λ past. refl) s.whole.blank)
+        became el et ec ek (length-set c.tags.items l 0) s.whole.size
         (fits_after place value f n may_hold rule c.lines c.tags.items (counts_of c.counts) k fit l lt o dirty)
         (empties place value f n may_hold rule c.lines c.tags.items (counts_of c.counts) k fit l lt o dirty ∙ ap (λ t. evicted f t l) (sym before_is))
 
@@ -99,31 +93,27 @@ module _ (place : ℕ → List ℕ → ℕ → ℕ) (may_hold : ℕ → ℕ → 
     evicts_below = dirty_below place value f n may_hold rule c.lines c.tags.items (counts_of c.counts) k fit l lt
 
     module _ (b : ℕ) (row : List X) (long : length row ≡ f.block_len) where
-      pub takes : l < length c.lines → may_hold n b l → tag_at c.tags.items l ≡ 0 → IsAway c.tags.items b → existing_of f b (map value row) ≡ meant f b (k b) → b < f.blocks
+      pub takes : may_hold n b l → tag_at c.tags.items l ≡ 0 → IsAway c.tags.items b → existing_of f b (map value row) ≡ meant f b (k b) → b < f.blocks
           → d.lines ≡ set c.lines l row → d.tags.items ≡ set c.tags.items l (clean_tag b)
           → counts_of d.counts ≡ record (counts_of c.counts) { misses = risen c.counts.misses } → k' ≡ k
           → IsSound place value d g k' × (state_at place value (kept_of d) g k' ≡ taken_in (state_at place value (kept_of c) f k) l b)
-      takes here may none away loaded below el et ec ek =
-          became el et ec ek (length-set c.tags.items l (clean_tag b)) (HasSize-set c.lines rows f.block_len l row s.whole.size here long)
-          (still_blank rows c.tags.items l (clean_tag b) lt (λ past. absurd (omega (arith, past, here))) s.whole.blank)
-          (fits_taken place value f n may_hold rule c.lines c.tags.items (counts_of c.counts) k fit l lt b here row may none away loaded below)
-          (takes_in place value f n may_hold rule c.lines c.tags.items (counts_of c.counts) k fit l lt b here row may none away loaded ∙ ap (λ t. taken_in t l b) (sym before_is))
+      takes may none away loaded below el et ec ek =
+          became el et ec ek (length-set c.tags.items l (clean_tag b)) (HasSize-set c.lines n f.block_len l row s.whole.size lt long)
+          (fits_taken place value f n may_hold rule c.lines c.tags.items (counts_of c.counts) k fit l lt b (row_there c f.block_len s.whole l lt) row may none away loaded below)
+          (takes_in place value f n may_hold rule c.lines c.tags.items (counts_of c.counts) k fit l lt b (row_there c f.block_len s.whole l lt) row may none away loaded ∙ ap (λ t. taken_in t l b) (sym before_is))
 
       pub writes_row : tag_at c.tags.items l ≡ dirty_tag b → d.lines ≡ set c.lines l row → d.tags.items ≡ c.tags.items → counts_of d.counts ≡ counts_of c.counts → k' ≡ k
           → IsSound place value d g k' × (state_at place value (kept_of d) g k' ≡ with_values (state_at place value (kept_of c) f k) b (existing_of f b (map value row)))
       writes_row is el et ec ek =
-          let here : l < length c.lines = row_there c f.block_len s.whole l (omega (arith, is)) in
-          became el et ec ek refl (HasSize-set c.lines rows f.block_len l row s.whole.size here long) s.whole.blank
-          (fits_written place value f n may_hold rule c.lines c.tags.items (counts_of c.counts) k fit l lt b here row is)
-          (writes place value f n may_hold rule c.lines c.tags.items (counts_of c.counts) k fit l lt b here row is ∙ ap (λ t. with_values t b (existing_of f b (map value row))) (sym before_is))
+          became el et ec ek refl (HasSize-set c.lines n f.block_len l row s.whole.size lt long)
+          (fits_written place value f n may_hold rule c.lines c.tags.items (counts_of c.counts) k fit l lt b (row_there c f.block_len s.whole l lt) row is)
+          (writes place value f n may_hold rule c.lines c.tags.items (counts_of c.counts) k fit l lt b (row_there c f.block_len s.whole l lt) row is ∙ ap (λ t. with_values t b (existing_of f b (map value row))) (sym before_is))
 
     pub soils_line : (b : ℕ) → tag_at c.tags.items l / 2 ≡ b + 1 → d.lines ≡ c.lines → d.tags.items ≡ set c.tags.items l (dirty_tag b)
         → counts_of d.counts ≡ counts_of c.counts → k' ≡ k
         → IsSound place value d g k' × (state_at place value (kept_of d) g k' ≡ soiled (state_at place value (kept_of c) f k) b)
     soils_line b half el et ec ek =
-        let here : l < length c.lines = row_there c f.block_len s.whole l (omega (arith, half)) in
         became el et ec ek (length-set c.tags.items l (dirty_tag b)) s.whole.size
-        (still_blank rows c.tags.items l (dirty_tag b) lt (λ past. absurd (omega (arith, past, here))) s.whole.blank)
         (fits_soiled place value f n may_hold rule c.lines c.tags.items (counts_of c.counts) k fit l lt b half)
         (soils place value f n may_hold rule c.lines c.tags.items (counts_of c.counts) k fit l lt b half ∙ ap (λ t. soiled t b) (sym before_is))
 
@@ -132,7 +122,7 @@ module _ (place : ℕ → List ℕ → ℕ → ℕ) (may_hold : ℕ → ℕ → 
       → IsSound place value d g k' × (state_at place value (kept_of d) g k' ≡ touch_in f (state_at place value (kept_of c) f k) l b)
   unfolding hit
   hits_block b l half el et ec ek =
-      became el et ec ek refl s.whole.size s.whole.blank fit
+      became el et ec ek refl s.whole.size fit
       (touches_here f before b l (names (tag_at c.tags.items l) b half) ∙ ap (λ t. touch_in f t l b) (sym before_is))
 
 -- a line emptied, and the block taken in, is a touch of a block that was not there

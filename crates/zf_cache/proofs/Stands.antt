@@ -2,7 +2,7 @@
 -- block b is `place n tags b`.
 use Rattle.std.proofs.Common.{◌≡◌, ◌≢◌, ◌⊎◌, inl, inr, refl, sym, ap, subst, ◌∙◌, ℕ, ◌+◌, ◌/◌, ◌<◌, ◌==◌, ℤ, Bool, true, false, Option, Some, None, List, [], map, length, set, eq-eqb, rules}
 use Rattle.std.proofs.lemmas.Bool.{ne_eqb, cases_eq}
-use Rattle.std.proofs.lemmas.List.{get_or-set_same, get_or-set_other, length-set}
+use Rattle.std.proofs.lemmas.List.{get_or-set_same, get_or-set_other}
 use Rattle.zf_base.specs.Formats.{Format, existing_of, meant, encoded, with_at}
 use Rattle.zf_base.proofs.Formats.{with_at-same, with_at-other, encoded-existing_of}
 use Rattle.zf_cached.{specs.State.{Counts, State, is_block, risen}, proofs.States.{same_state}}
@@ -61,7 +61,6 @@ module _ (place : ℕ → List ℕ → ℕ → ℕ) {X Code : Type 0} (value : X
   pub record Fit (lines : List (List X)) (tags : List ℕ) (k : ℕ → Code) : Type 0 where
     pub own : (l b : ℕ) → IsIn tags l b → (place n tags b ≡ l) × (b < f.blocks)
     pub clean : (l b : ℕ) → tag_at tags l ≡ clean_tag b → in_line lines l b ≡ meant f b (k b)
-    pub room : (ts : List ℕ) (b : ℕ) → b < f.blocks → place n ts b < length lines
 
   -- a block that is in line l: its values, and whether it is dirty
   pub vals-in : (lines : List (List X)) (tags : List ℕ) (k : ℕ → Code) (b l : ℕ) → place n tags b ≡ l → IsIn tags l b → vals lines tags k b ≡ in_line lines l b
@@ -200,7 +199,6 @@ module _ (place : ℕ → List ℕ → ℕ → ℕ) {X Code : Type 0} (value : X
             let is = ap block_in e ∙ names-clean b in
             let ne = gone m b is in
             fit.clean m b (sym (tag-set_other tags l 0 m ne) ∙ e) ∙ ap (meant f b) (sym (same b (λ at. out-emptied b at m is)));
-        room = fit.room;
       }
 
       -- a line is emptied whose block was written back
@@ -284,9 +282,6 @@ module _ (place : ℕ → List ℕ → ℕ → ℕ) {X Code : Type 0} (value : X
         row-other : (m : ℕ) → m ≢ l → line_at rows m ≡ line_at lines m
         row-other m ne = get_or-set_other lines l m row [] ne
 
-        room-rows : (ts : List ℕ) (a : ℕ) → a < f.blocks → place n ts a < length rows
-        room-rows ts a below = subst (λ m. place n ts a < m) (sym (length-set lines l row)) (fit.room ts a below)
-
         -- ---- block b, which is in no line, goes into line l, which is empty
 
         module _ (may : may_hold n b l) (zero_there : tag_at tags l ≡ 0) (none : IsAway tags b) (loaded : existing_of f b (map value row) ≡ meant f b (k b)) where
@@ -352,7 +347,6 @@ module _ (place : ℕ → List ℕ → ℕ → ℕ) {X Code : Type 0} (value : X
               ],
             );
             clean = λ m a e. search (rules, cases_eq, tag-same, in-after, row-other, tag-other);
-            room = room-rows;
           }
 
         -- ---- what is written through a loan of the dirty block b
@@ -366,7 +360,7 @@ module _ (place : ℕ → List ℕ → ℕ → ℕ) {X Code : Type 0} (value : X
           writes = search (rules, same_state, cases_eq, vals-in, in-it, row-same, with_at-same, whereabouts, vals-stay, row-other, vals-away, with_at-other)
 
           pub fits_written : Fit rows tags k
-          fits_written = search (rules, own, cases_eq, row-other, room-rows)
+          fits_written = search (rules, own, cases_eq, row-other)
 
       -- ---- block b, which is in line l, becomes dirty
 
@@ -406,7 +400,6 @@ module _ (place : ℕ → List ℕ → ℕ → ℕ) {X Code : Type 0} (value : X
         fits_soiled = record {
           own = λ m a e. (placed-marked m a e, (fit.own m a (sym (same-block m) ∙ e)).1);
           clean = λ m a e. search (rules, cases_eq, mark-same, mark-other);
-          room = fit.room;
         }
 
 -- where each block has one line

@@ -8,24 +8,18 @@ use Rattle.zf_cached.{proofs.States.{same_state}, proofs.Caching.{write_back_lin
 use Rattle.zf_lines.specs.Rows.{line_at, over_part, with_part}
 use Rattle.zf_cache.specs.Kept.{Kept, IsClean, IsDirty, IsEmpty, line_of, tag_at, block_in, dirty_tag}
 use Rattle.zf_cache.{specs.Rules.{one_line, one_line_rule}, specs.Loans.{StandsFor}}
-use Rattle.zf_cache.specs.Standing.{state_at, state_of, FitsAt, Fits, HasRoomAt, HasRoom}
+use Rattle.zf_cache.specs.Standing.{state_at, state_of, FitsAt, Fits}
 use Rattle.zf_cache.proofs.Stands.{standing_at, standing, Fit, undirty_values, writes, fits_written}
-use Rattle.zf_cache.proofs.Rooms.{room_stays}
 use Rattle.zf_cache.proofs.Touches.{no_tag, state_stands, state_is, fit_of, fits_of, fits_empty, all_meant, discards, relines}
 
 module _ (place : ℕ → List ℕ → ℕ → ℕ) {X Code : Type 0} (value : X → ℤ) (f : Format Code) (k : ℕ → Code) where
   empty_count : (c : Kept X) (n : ℕ) → IsEmpty c n → length c.tags ≡ n
   empty_count c n e = let none : ℕ = 0 in ap length e ∙ length-replicate n none
 
-  -- an empty cache fits every backing that it has room for
-  pub empty_fits_at : (c : Kept X) (n : ℕ) → IsEmpty c n → HasRoomAt place c f.blocks → FitsAt place value c f k
-  empty_fits_at c n e room =
-      let there : (ts : List ℕ) (b : ℕ) → b < f.blocks → place n ts b < length c.lines = λ ts b below. subst (λ m. place m ts b < length c.lines) (empty_count c n e) (room ts b below) in
-      fits_of place value f c k n (empty_count c n e) (subst (λ ts. Fit place value f n c.lines ts k) (sym e) (fits_empty place value f n c.lines c.counts k there))
-
-  -- a cache that was emptied, with the rows that it had
-  pub emptied_fits_at : (c d : Kept X) → FitsAt place value c f k → IsEmpty d (length c.tags) → length d.lines ≡ length c.lines → FitsAt place value d f k
-  emptied_fits_at c d fits e rows = empty_fits_at d (length c.tags) e (room_stays place c d f.blocks (empty_count d (length c.tags) e) rows fits.room)
+  -- an empty cache fits every backing
+  pub empty_fits_at : (c : Kept X) (n : ℕ) → IsEmpty c n → FitsAt place value c f k
+  empty_fits_at c n e =
+      fits_of place value f c k n (empty_count c n e) (subst (λ ts. Fit place value f n c.lines ts k) (sym e) (fits_empty place value f n c.lines c.counts k))
 
   pub discarded_at : (c d : Kept X) → FitsAt place value c f k → IsEmpty d (length c.tags) → d.counts ≡ c.counts → state_at place value d f k ≡ discard f (state_at place value c f k)
   discarded_at c d fits e counts =
@@ -39,11 +33,8 @@ module _ (place : ℕ → List ℕ → ℕ → ℕ) {X Code : Type 0} (value : X
 -- ---- where each block has one line
 
 module _ {X Code : Type 0} (value : X → ℤ) (f : Format Code) (k : ℕ → Code) where
-  pub empty_fits : (c : Kept X) (n : ℕ) → IsEmpty c n → HasRoom c f.blocks → Fits value c f k
-  empty_fits c n e room = empty_fits_at one_line value f k c n e room
-
-  pub emptied_fits : (c d : Kept X) → Fits value c f k → IsEmpty d (length c.tags) → length d.lines ≡ length c.lines → Fits value d f k
-  emptied_fits c d fits e rows = emptied_fits_at one_line value f k c d fits e rows
+  pub empty_fits : (c : Kept X) (n : ℕ) → IsEmpty c n → Fits value c f k
+  empty_fits c n e = empty_fits_at one_line value f k c n e
 
   pub discarded : (c d : Kept X) → Fits value c f k → IsEmpty d (length c.tags) → d.counts ≡ c.counts → state_of value d f k ≡ discard f (state_of value c f k)
   discarded c d fits e counts = discarded_at one_line value f k c d fits e counts

@@ -1,5 +1,5 @@
 -- Touches, flush and discard, from the changes of single lines.
-use Rattle.std.proofs.Common.{◌≡◌, ◌≢◌, inl, inr, refl, sym, ap, subst, ◌∙◌, ℕ, suc, ◌<◌, ◌≤◌, ℤ, Bool, true, false, cond, nat_lt, Option, Some, None, List, length, replicate, eq-eqb, arith, rules}
+use Rattle.std.proofs.Common.{◌≡◌, ◌≢◌, inl, inr, refl, sym, ap, subst, ◌∙◌, ℕ, suc, ◌≤◌, ℤ, Bool, true, false, cond, nat_lt, Option, Some, None, List, length, replicate, eq-eqb, arith, rules}
 use Rattle.std.proofs.lemmas.Bool.{cases_lt, lt-ltb, le-ltb, cases_eq}
 use Rattle.std.proofs.lemmas.List.{length-replicate, get_or-replicate, get_or_past}
 use Rattle.zf_base.{specs.Formats.{Format, meant}, proofs.Formats.{with_at-same, with_at-other}}
@@ -78,9 +78,9 @@ module _ (place : ℕ → List ℕ → ℕ → ℕ) {X Code : Type 0} (value : X
   pub all_meant_at : (b : ℕ) → (standing_at place value f n lines (replicate n 0) counts k).values b ≡ meant f b (k b)
   all_meant_at b = vals-out place value f n lines (replicate n 0) k b (none_in n b (place n (replicate n 0) b))
 
-  -- an empty cache fits every backing that it has room for
-  pub fits_empty : ((ts : List ℕ) (b : ℕ) → b < f.blocks → place n ts b < length lines) → Fit place value f n lines (replicate n 0) k
-  fits_empty room = search (rules, none_in, no_tag)
+  -- an empty cache fits every backing
+  pub fits_empty : Fit place value f n lines (replicate n 0) k
+  fits_empty = search (rules, none_in, no_tag)
 
   -- empty lines of another number
   pub relines : (n' : ℕ) (lines' : List (List X)) → standing_at place value f n' lines' (replicate n' 0) counts k ≡ record (standing_at place value f n lines (replicate n 0) counts k) { lines = n' }
@@ -99,10 +99,10 @@ module _ (place : ℕ → List ℕ → ℕ → ℕ) {X Code : Type 0} (value : X
   state_stands n e = ap (λ m. standing_at place value f m c.lines c.tags c.counts k) e
 
   pub fit_of : (n : ℕ) → length c.tags ≡ n → FitsAt place value c f k → Fit place value f n c.lines c.tags k
-  fit_of n e fits = subst (λ m. Fit place value f m c.lines c.tags k) e (record { own = fits.own; clean = fits.clean; room = fits.room })
+  fit_of n e fits = subst (λ m. Fit place value f m c.lines c.tags k) e (record { own = fits.own; clean = fits.clean })
 
   pub fits_of : (n : ℕ) → length c.tags ≡ n → Fit place value f n c.lines c.tags k → FitsAt place value c f k
-  fits_of n e fit = let there = subst (λ m. Fit place value f m c.lines c.tags k) (sym e) fit in record { own = there.own; clean = there.clean; room = there.room }
+  fits_of n e fit = let there = subst (λ m. Fit place value f m c.lines c.tags k) (sym e) fit in record { own = there.own; clean = there.clean }
 
   -- nothing is in a line past the last
   pub past_lines : (l : ℕ) → (state_at place value c f k).lines ≤ l → (state_at place value c f k).held l ≡ None

@@ -25,17 +25,15 @@ module _ {X : Type 0} where
   abbrev pub kept_of : Body X → Kept X
   kept_of c = record { lines = c.lines; tags = c.tags.items; counts = counts_of c.counts }
 
-  -- a tag for each line, and rows of so many values for the first lines; a line without a row is empty
+  -- a tag and a row of so many values for each line
   pub record IsWhole (c : Body X) (len : ℕ) : Type 0 where
-    pub size : HasSize c.lines (length c.lines) len
+    pub size : HasSize c.lines (length c.tags.items) len
     pub lines : AreLines (length c.tags.items)
-    pub blank : (l : ℕ) → length c.lines ≤ l → tag_at c.tags.items l ≡ 0
 
-  -- empty lines, the first of them with room for so many values each, and counts of 0
-  pub record IsNewBody (c : Body X) (lines rows len : ℕ) : Type 0 where
+  -- empty lines of so many values each, and counts of 0
+  pub record IsNewBody (c : Body X) (lines len : ℕ) : Type 0 where
     pub whole : IsWhole c len
     pub empty : c.tags.items ≡ replicate lines 0
-    pub rows_are : length c.lines ≡ rows
     pub counts : counts_of c.counts ≡ no_counts
 
   module _ (place : ℕ → List ℕ → ℕ → ℕ) where

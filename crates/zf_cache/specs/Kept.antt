@@ -7,7 +7,7 @@ use Rattle.zf_cached.specs.State.{Counts}
 use Rattle.zf_lines.specs.Rows.{line_at, HasSize}
 
 pub record Kept (X : Type 0) : Type 0 where
-  -- a row of values for each of the first lines
+  -- a row of values for each line
   pub lines : List (List X)
   pub tags : List ℕ
   pub counts : Counts

@@ -1,20 +1,17 @@
 -- In which line a block is, or goes, as the tags tell it: what caches over the same parts differ in.
 --     `place n tags b` is the line of block b in a cache of n lines with these tags.
 use Rattle.std.specs.Prelude.{◌≡◌, ◌==◌, ℕ, ◌%◌, ◌<◌, List, refl}
-use Rattle.std.proofs.Math.Nat.{mod-eq_of_lt}
 use Rattle.std.proofs.lemmas.Nat.{mod_below}
 use Rattle.zf_cached.specs.Placing.{Line, direct, IsDirect}
 use Rattle.zf_cache.specs.Kept.{IsIn, tag_at, block_in, dirty_tag}
 
--- the line of a block is one that may hold it; where one that may does, and no other line does, it is that
--- line; and a block whose number is below the number of lines has the line of its number, so that n blocks
--- need no line beyond the n first ones
+-- the line of a block is one that may hold it; and where one that may does, and no other line does, it is that
+-- line
 pub record IsRule (place : ℕ → List ℕ → ℕ → ℕ) (may_hold : ℕ → ℕ → ℕ → Type 0) : Type 0 where
   pub inside : (n : ℕ) (tags : List ℕ) (b : ℕ) → 0 < n → place n tags b < n
   pub allowed : (n : ℕ) (tags : List ℕ) (b : ℕ) → may_hold n b (place n tags b)
   pub found : (n : ℕ) (tags : List ℕ) (b l : ℕ) → may_hold n b l → IsIn tags l b
       → ((m : ℕ) → IsIn tags m b → m ≡ l) → place n tags b ≡ l
-  pub low : (n : ℕ) (tags : List ℕ) (b : ℕ) → b < n → place n tags b ≡ b
 
 -- where each block in a line is where it is looked for, the tags tell the line that a state of what they name
 -- tells
@@ -33,7 +30,6 @@ one_line_rule = record {
   inside = λ n tags b some. mod_below b n some;
   allowed = λ n tags b. refl;
   found = λ n tags b l own is only. own;
-  low = λ n tags b lt. mod-eq_of_lt lt;
 }
 
 pub one_line_told : IsTold one_line direct

@@ -14,11 +14,6 @@ module _ {X Code : Type 0} (value : X → ℤ) where
   abbrev pub line_values : Kept X → Format Code → ℕ → ℕ → List ℤ
   line_values c format l b = existing_of format b (map value (line_at c.lines l))
 
--- whatever the lines hold, the line of each of so many blocks has a row of values
-abbrev pub HasRoomAt : (ℕ → List ℕ → ℕ → ℕ) → {X : Type 0} → Kept X → ℕ → Type 0
-HasRoomAt place c blocks = (tags : List ℕ) (b : ℕ) → b < blocks
-    → place (length c.tags) tags b < length c.lines
-
 module _ (place : ℕ → List ℕ → ℕ → ℕ) {X Code : Type 0} where
   -- the values of block b: those in its line where it is there, else those that its code means
   abbrev pub values_by : (X → ℤ) → Kept X → Format Code → (ℕ → Code) → ℕ → List ℤ
@@ -41,18 +36,13 @@ module _ (place : ℕ → List ℕ → ℕ → ℕ) {X Code : Type 0} where
   }
 
   -- a line holds a block whose line it is and that the backing has, and a clean line has the values that the
-  -- block's code means; and each block of the backing has a row of values to come to
+  -- block's code means
   pub record FitsAt (value : X → ℤ) (c : Kept X) (format : Format Code) (codes : ℕ → Code) : Type 0 where
     pub own : (l b : ℕ) → block_in (tag_at c.tags l) ≡ Some b → (line_by place c b ≡ l) × (b < format.blocks)
     pub clean : (l b : ℕ) → tag_at c.tags l ≡ clean_tag b
         → line_values value c format l b ≡ meant format b (codes b)
-    pub room : HasRoomAt place c format.blocks
 
 -- ---- where each block has one line
-
--- the line of each of so many blocks has a row of values
-abbrev pub HasRoom : {X : Type 0} → Kept X → ℕ → Type 0
-HasRoom c blocks = HasRoomAt one_line c blocks
 
 module _ {X Code : Type 0} (value : X → ℤ) where
   abbrev pub values_of : Kept X → Format Code → (ℕ → Code) → ℕ → List ℤ

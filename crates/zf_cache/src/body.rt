@@ -2,6 +2,7 @@
 ghost use Rattle.std.specs.Prelude.{◌≡◌, ◌+◌, ◌*◌, ◌-◌, ◌/◌, ◌%◌, ◌^◌, ◌<◌, ◌≤◌, ◌==◌, ℕ, Some, None, length};
 ghost use Rattle.std.specs.Prelude.{slice_set, slice_index_or, replicate, IfOk};
 ghost use Rattle.zf_base.specs.Formats.{with_at};
+ghost use Rattle.zf_cached.specs.State.{risen as risen_count};
 ghost use Rattle.zf_cached.specs.Touch.{soiled};
 ghost use Rattle.zf_cached.specs.Changes.{flush};
 ghost use Rattle.zf_cache.specs.Kept.{line_by, tag_at, clean_tag, dirty_tag, dirty_of, IsClean, IsLineCount};
@@ -15,11 +16,10 @@ use std::alloc::{AllocError, Global};
 use zf_base::{Backing, Lane, Reading, Stats};
 use zf_lines::Lines;
 
-/// A tag for each line, a row of values for each of the first lines, and the counts.
+/// A row of values and a tag for each line, and the counts.
 ///
 /// A tag is 0 for an empty line, `2 * b + 2` for the clean block `b`, and `2 * b + 3` for the dirty block
-/// `b`. In which line a block is, or goes, is told by a `Rule`. A line without a row is empty: where there
-/// are fewer blocks than lines, no rule puts one into the lines beyond.
+/// `b`. In which line a block is, or goes, is told by a `Rule`.
 #[derive(Drop)]
 pub struct Body<T> {
     pub lines: Lines<T>,
@@ -38,30 +38,27 @@ fn dirty_block(tag: u64) -> Option<u64>
     }
 }
 
+/// A count that rises by one; at its most it stays. By a sum, which takes less time here than a saturating sum.
+#[inline]
+fn risen(count: u64) -> u64
+    ensures { result ≡ risen_count count }
+{
+    count + u64::from(count < u64::MAX)
+}
+
 impl<T: Lane> Body<T> {
     ghost use Rattle.zf_cache.specs.Bodies.{AreLines, IsWhole, IsNewBody, IsSound, IsSoundAt, ComesTo};
     ghost use Rattle.zf_cache.specs.Bodies.{kept_of, state_in};
     ghost use Rattle.zf_cache.specs.Steps.{taken_in, touch_in, with_value};
 
-    /// Empty lines, of which the first `rows` have room for `len` values each, and counts of 0.
-    pub fn new(alloc: Global, lines: u32, rows: u32, len: usize) -> Result<Body<T>, AllocError>
+    /// Empty lines of `len` values each, and counts of 0.
+    pub fn new(alloc: Global, lines: u32, len: usize) -> Result<Body<T>, AllocError>
         requires count { IsLineCount lines }
-        requires few { rows ≤ lines }
         requires size { len ≤ 2 ^ 8 }
-        ensures { IfOk result (λ c. IsNewBody c lines rows len) }
-    {
-        Body::empty(alloc, lines, rows, len)
-    }
-
-    /// The same, of a number of lines to which masks cut.
-    pub fn empty(alloc: Global, lines: u32, rows: u32, len: usize) -> Result<Body<T>, AllocError>
-        requires lines { AreLines lines }
-        requires few { rows ≤ lines }
-        requires size { len ≤ 2 ^ 8 }
-        ensures { IfOk result (λ c. IsNewBody c lines rows len) }
+        ensures { IfOk result (λ c. IsNewBody c lines len) }
     {
         let tags = Vec::from_elem(alloc, 0u64, lines as usize)?;
-        let lines = Lines::new(alloc, rows, len, T::zero())?;
+        let lines = Lines::new(alloc, lines, len, T::zero())?;
         let counts = Stats {
             hits: 0,
             misses: 0,
@@ -119,18 +116,6 @@ impl<T: Lane> Body<T> {
         R::line_for(&self.tags, b)
     }
 
-    /// The line of block `b`, which is there: so the line has a row.
-    #[inline]
-    pub fn line_holding<R: Rule>(&self, b: u64) -> u32
-        requires lines { AreLines (length self.now.tags.items) }
-        requires blank { (l : ℕ) → length self.now.lines ≤ l → tag_at self.now.tags.items l ≡ 0 }
-        requires here { tag_at self.now.tags.items (line_by R.place (kept_of self.now) b) / 2 ≡ b + 1 }
-        ensures place { result ≡ line_by R.place (kept_of self.now) b }
-        ensures row { result < length self.now.lines }
-    {
-        self.line_of::<R>(b)
-    }
-
     /// Writes the block of line `l` back where it is dirty, and empties the line.
     #[cold]
     #[inline(never)]
@@ -144,7 +129,7 @@ impl<T: Lane> Body<T> {
     {
         if let Some(b) = dirty_block(self.tags[l as usize]) {
             back.store(b, self.lines.line(l));
-            self.counts.writes = self.counts.writes.saturating_add(1);
+            self.counts.writes = risen(self.counts.writes);
         }
         self.tags[l as usize] = 0;
     }
@@ -155,7 +140,6 @@ impl<T: Lane> Body<T> {
     pub fn take_in<R: Rule, B: Reading<T>>(&mut self, back: &mut B, l: u32, b: u64)
         requires sound { IsSound R.place T.value self.old (B.format back.old) (B.codes back.old) }
         requires line { (l < length self.old.tags.items) × R.may_hold (length self.old.tags.items) b l }
-        requires row { l < length self.old.lines }
         requires empty { tag_at self.old.tags.items l ≡ 0 }
         requires away { IsAway self.old.tags.items b }
         requires block { (b < (B.format back.old).blocks) × ((B.format back.old).blocks ≤ 2 ^ 32) }
@@ -166,7 +150,7 @@ impl<T: Lane> Body<T> {
     {
         back.load(b, self.lines.line_mut(l));
         self.tags[l as usize] = 2 * b + 2;
-        self.counts.misses = self.counts.misses.saturating_add(1);
+        self.counts.misses = risen(self.counts.misses);
     }
 
     /// Touches block `b`, and gives its line.
@@ -179,7 +163,7 @@ impl<T: Lane> Body<T> {
     {
         let l = self.line_of::<R>(b);
         if self.tags[l as usize] / 2 == b + 1 {
-            self.counts.hits = self.counts.hits.saturating_add(1);
+            self.counts.hits = risen(self.counts.hits);
             return l;
         }
         self.evict::<R, B>(back, l);
@@ -213,7 +197,7 @@ impl<T: Lane> Body<T> {
     {
         let l = self.line_of::<R>(b);
         if self.tags[l as usize] / 2 == b + 1 {
-            self.counts.hits = self.counts.hits.saturating_add(1);
+            self.counts.hits = risen(self.counts.hits);
             return l;
         }
         self.tags[l as usize] = 0;

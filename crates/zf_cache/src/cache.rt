@@ -1,5 +1,5 @@
 //! The cache.
-ghost use Rattle.std.specs.Prelude.{◌≡◌, ℕ, ◌+◌, ◌*◌, ◌^◌, ◌<◌, ◌≤◌, ◌↔◌, min, pos, length, true};
+ghost use Rattle.std.specs.Prelude.{◌≡◌, ℕ, ◌+◌, ◌*◌, ◌^◌, ◌<◌, ◌≤◌, ◌↔◌, pos, length, true};
 ghost use Rattle.std.specs.Prelude.{slice_index_or};
 ghost use Rattle.std.specs.Prelude.{IsTrue, IfOk, OnOk, OnErr};
 ghost use Rattle.std.specs.Bool.{OnTrue};
@@ -10,12 +10,11 @@ ghost use Rattle.zf_cached.specs.Changes.{flush, relined};
 ghost use Rattle.zf_lines.specs.Rows.{line_at, part};
 ghost use Rattle.zf_cache.specs.Kept.{IsLineCount, IsClean, IsDirty, IsEmpty, HasRow, Holds, line_of};
 ghost use Rattle.zf_cache.specs.Kept.{is_dirty};
-ghost use Rattle.zf_cache.specs.Standing.{state_of, values_of, Fits, HasRoom};
+ghost use Rattle.zf_cache.specs.Standing.{state_of, values_of, Fits};
 ghost use Rattle.zf_cache.specs.Steps.{put};
 ghost use Rattle.zf_cache.specs.Backed.{Backed, BackedAt, StepsTo, Shows, KeepsFormat};
 
 use crate::body::Body;
-use crate::counts::rows_for;
 use std::alloc::{AllocError, Global};
 use std::marker::Model;
 use zf_base::{Backing, Lane, Reading, Stats, block_len};
@@ -26,12 +25,8 @@ use zf_lines::Lines;
 ///
 /// Block `b` has one line, `b` modulo the number of lines. It is seen as the values in its lines, a tag for
 /// each of them and three counts. A cache and the backing that it is used with fit: each line that is not
-/// empty holds a block of its own, a clean one has the values that the block's code means, and the line of
-/// each block has room for values. An empty cache fits every backing that it has room for, and each call
-/// leaves the two fitting. Values are stated at the places that exist.
-///
-/// Over fewer blocks than lines no block comes into the lines beyond, so `for_blocks` takes no memory for
-/// their values.
+/// empty holds a block of its own, and a clean one has the values that the block's code means. An empty cache
+/// fits every backing, and each call leaves the two fitting. Values are stated at the places that exist.
 #[derive(Drop)]
 pub struct Cache<T, const D: usize> {
     alloc: Global,
@@ -58,30 +53,14 @@ impl<T: Lane, const D: usize> Cache<T, D> {
     ghost use Rattle.zf_cache.specs.Loans.{LendsBlock};
     ghost use Rattle.zf_cache.specs.Bodies.{counts_of};
 
-    /// An empty cache of so many lines, all with room for values. `AllocError`: there was no memory for them.
+    /// An empty cache of so many lines. `AllocError`: there was no memory for them.
     pub fn new(alloc: Global, lines: u32) -> Result<Cache<T, D>, AllocError>
         requires dims { D ≤ 4 }
         requires count { IsLineCount lines }
         ensures empty { IfOk result (λ c. IsEmpty c lines) }
         ensures counts { IfOk result (λ c. c.counts ≡ no_counts) }
-        ensures rows { IfOk result (λ c. length c.lines ≡ lines) }
-        ensures room { IfOk result (λ c. (blocks : ℕ) → HasRoom c blocks) }
     {
-        let body = Body::new(alloc, lines, lines, block_len(D as u8))?;
-        Ok(Cache { alloc, body })
-    }
-
-    /// An empty cache of so many lines over a backing of so many blocks: it takes no memory for the values of
-    /// lines beyond the number of blocks. `AllocError`: there was no memory for the others.
-    pub fn for_blocks(alloc: Global, lines: u32, blocks: u64) -> Result<Cache<T, D>, AllocError>
-        requires dims { D ≤ 4 }
-        requires count { IsLineCount lines }
-        ensures empty { IfOk result (λ c. IsEmpty c lines) }
-        ensures counts { IfOk result (λ c. c.counts ≡ no_counts) }
-        ensures rows { IfOk result (λ c. length c.lines ≡ min lines blocks) }
-        ensures room { IfOk result (λ c. HasRoom c blocks) }
-    {
-        let body = Body::new(alloc, lines, rows_for(lines, blocks), block_len(D as u8))?;
+        let body = Body::new(alloc, lines, block_len(D as u8))?;
         Ok(Cache { alloc, body })
     }
 
@@ -132,7 +111,7 @@ impl<T: Lane, const D: usize> Cache<T, D> {
         ensures value { result.now ≡ part (line_at self.old.lines (line_of self.old b)) a n }
         ensures size { HasRow self.old b (4 ^ D) }
     {
-        let l = self.body.line_holding::<Direct>(b);
+        let l = self.body.line_of::<Direct>(b);
         self.body.lines.part_mut(l, a, n)
     }
 
@@ -146,7 +125,7 @@ impl<T: Lane, const D: usize> Cache<T, D> {
             ≡ result.now }
         ensures size { HasRow self.old b (4 ^ D) }
     {
-        let l = self.body.line_holding::<Direct>(b);
+        let l = self.body.line_of::<Direct>(b);
         self.body.lines.value_mut(l, p)
     }
 
@@ -168,7 +147,7 @@ impl<T: Lane, const D: usize> Cache<T, D> {
         ensures value { result.now ≡ line_at self.now.lines (line_of self.now b) }
         ensures size { length result.now ≡ 4 ^ D }
     {
-        let l = self.body.line_holding::<Direct>(b);
+        let l = self.body.line_of::<Direct>(b);
         self.body.lines.line(l)
     }
 
@@ -215,14 +194,13 @@ impl<T: Lane, const D: usize> Cache<T, D> {
     /// Empties the cache; nothing is written.
     pub fn discard(&mut self)
         ensures empty { IsEmpty self.new (length self.old.tags) }
-        ensures rows { length self.new.lines ≡ length self.old.lines }
         ensures counts { self.new.counts ≡ self.old.counts }
     {
         self.body.discard();
     }
 
-    /// A flush, and then this number of lines, those beyond the number of blocks with no room for values. The
-    /// memory is taken first: after `AllocError` nothing has changed.
+    /// A flush, and then this number of lines. The memory is taken first: after `AllocError` nothing has
+    /// changed.
     pub fn relined<B: Backing<T>>(&mut self, back: &mut B, lines: u32) -> Result<(), AllocError>
         requires backed { Backed B.Reading (Fits T.value) D self.old back.old }
         requires count { IsLineCount lines }
@@ -231,13 +209,10 @@ impl<T: Lane, const D: usize> Cache<T, D> {
             ≡ relined (B.format back.old)
             (state_of T.value self.old (B.format back.old) (B.codes back.old)) lines) }
         ensures empty { OnOk result (IsEmpty self.new lines) }
-        ensures rows { OnOk result (length self.new.lines ≡ min lines (B.format back.old).blocks) }
         ensures err { OnErr result ((self.new ≡ self.old) × (B.codes back.new ≡ B.codes back.old)) }
         ensures keeps { KeepsFormat B.Reading back.old back.new }
     {
-        let blocks = back.blocks();
-        let rows = rows_for(lines, blocks);
-        let taken = Body::new(self.alloc, lines, rows, block_len(D as u8))?;
+        let taken = Body::new(self.alloc, lines, block_len(D as u8))?;
         self.body.flush::<Direct, B>(back);
         self.body.replace(taken);
         Ok(())
@@ -289,52 +264,16 @@ impl<T: Lane, const D: usize> Cache<T, D> {
         self.body.lines.line(l)
     }
 
-    /// As `relined`, where nothing is dirty: the cache is empty, and its counts go on. All lines have room
-    /// for values.
+    /// As `relined`, where nothing is dirty: the cache is empty, and its counts go on.
     pub fn relined_read(&mut self, lines: u32) -> Result<(), AllocError>
         requires clean { IsClean self.old }
         requires count { IsLineCount lines }
         ensures ok { OnOk result (IsEmpty self.new lines × (self.new.counts ≡ self.old.counts)) }
-        ensures room { OnOk result ((blocks : ℕ) → HasRoom self.new blocks) }
         ensures err { OnErr result (self.new ≡ self.old) }
     {
-        let body = Body::new(self.alloc, lines, lines, block_len(D as u8))?;
+        let body = Body::new(self.alloc, lines, block_len(D as u8))?;
         self.body.replace(body);
         Ok(())
-    }
-
-    /// As `relined_read`, over a backing of so many blocks: the lines beyond that number have no room for
-    /// values.
-    pub fn relined_read_for(&mut self, lines: u32, blocks: u64) -> Result<(), AllocError>
-        requires clean { IsClean self.old }
-        requires count { IsLineCount lines }
-        ensures ok { OnOk result (IsEmpty self.new lines × (self.new.counts ≡ self.old.counts)) }
-        ensures rows { OnOk result (length self.new.lines ≡ min lines blocks) }
-        ensures room { OnOk result (HasRoom self.new blocks) }
-        ensures err { OnErr result (self.new ≡ self.old) }
-    {
-        let rows = rows_for(lines, blocks);
-        let body = Body::new(self.alloc, lines, rows, block_len(D as u8))?;
-        self.body.replace(body);
-        Ok(())
-    }
-
-    /// An empty cache of as many lines and with the same counts, over a backing of so many blocks.
-    /// `AllocError`: there was no memory for it.
-    pub fn emptied_for(&self, blocks: u64) -> Result<Cache<T, D>, AllocError>
-        ensures empty { IfOk result (λ c. IsEmpty c (length self.now.tags)) }
-        ensures counts { IfOk result (λ c. c.counts ≡ self.now.counts) }
-        ensures rows { IfOk result (λ c. length c.lines ≡ min (length self.now.tags) blocks) }
-        ensures room { IfOk result (λ c. HasRoom c blocks) }
-    {
-        let lines = self.body.tags.len() as u32;
-        let rows = rows_for(lines, blocks);
-        let mut body = Body::empty(self.alloc, lines, rows, block_len(D as u8))?;
-        body.counts = self.body.counts;
-        Ok(Cache {
-            alloc: self.alloc,
-            body,
-        })
     }
 
     /// The number of lines.

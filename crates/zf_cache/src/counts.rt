@@ -1,5 +1,5 @@
 //! Numbers of lines.
-ghost use Rattle.std.specs.Prelude.{◌≡◌, ◌^◌, ◌≤◌, ◌<◌, min};
+ghost use Rattle.std.specs.Prelude.{◌≡◌, ◌^◌, ◌≤◌, ◌<◌};
 ghost use Rattle.zf_spec.specs.Grid.{blocks};
 ghost use Rattle.zf_cached.specs.Changes.{raised as raised_count, default_lines as default_count};
 ghost use Rattle.zf_cache.specs.Kept.{IsLineCount};
@@ -37,16 +37,4 @@ pub fn default_lines(shape: &Shape) -> u32
         count *= 2;
     }
     count
-}
-
-/// How many of so many lines have room for values over so many blocks. No rule puts one of these blocks into
-/// a line beyond: so a line beyond takes no memory for values.
-pub fn rows_for(lines: u32, blocks: u64) -> u32
-    ensures { result ≡ min lines blocks }
-{
-    if blocks < u64::from(lines) {
-        blocks as u32
-    } else {
-        lines
-    }
 }

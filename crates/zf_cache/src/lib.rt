@@ -10,5 +10,5 @@ mod rule;
 
 pub use body::Body;
 pub use cache::Cache;
-pub use counts::{default_lines, raised, rows_for};
+pub use counts::{default_lines, raised};
 pub use rule::Rule;

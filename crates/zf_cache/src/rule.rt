@@ -18,8 +18,8 @@ pub trait Rule: Placing {
         ensures place { result ≡ place (length tags.now) tags.now b }
         ensures inside { result < length tags.now };
 
-    // Laws. The line is one that may hold the block; a block that is in such a line, and in no other, is
-    // found there; and a block whose number is below the number of lines has the line of its number.
+    // Laws. The line is one that may hold the block, and a block that is in such a line, and in no other, is
+    // found there.
     ghost rule: { IsRule place Self.may_hold };
 
     // It is the line that the placing tells.

@@ -1,14 +1,14 @@
 -- An array stands for the state of its cache and its codes.
-use Rattle.std.proofs.Common.{◌≡◌, refl, sym, ap, subst, ◌∙◌, ℕ, ◌%◌, ◌^◌, ℤ, Bool, Option, List, map, length, arith, rules}
+use Rattle.std.proofs.Common.{◌≡◌, refl, sym, ap, ◌∙◌, ℕ, ◌%◌, ◌^◌, ℤ, Bool, Option, List, map, length, arith, rules}
 use Rattle.std.{specs.Int.{Width}, proofs.Math.ListN.{get_or-map}, proofs.lemmas.Simd.{map-map}}
 use Rattle.std.{proofs.lemmas.Bool.{cases_Bool, ne_eqb}, proofs.lemmas.List.{length-map, length-replicate}}
-use Rattle.zf_spec.{specs.Grid.{upto, blocks}, proofs.Counting.{map-get_or-upto}}
+use Rattle.zf_spec.{specs.Grid.{upto}, proofs.Counting.{map-get_or-upto}}
 use Rattle.zf_base.{specs.Formats.{Format, meant}, proofs.Sizes.{blocks_le}}
 use Rattle.zf_header.specs.declared.header.Header.{Header}
 use Rattle.zf_cached.{specs.State.{State, no_counts}, specs.Touch.{touch}, specs.Changes.{opened}}
 use Rattle.zf_cached.{specs.Arrays.{array_format}, proofs.States.{same_state}, proofs.Caching.{is_block-true}}
 use Rattle.zf_cache.specs.Kept.{Kept, HasBlocks, IsClean, IsEmpty, tag_at, block_in, line_of, dirty_tag}
-use Rattle.zf_cache.{specs.Standing.{state_of, values_of, Fits, HasRoom, state_at}, proofs.Tags.{named}}
+use Rattle.zf_cache.{specs.Standing.{state_of, values_of, Fits, state_at}, proofs.Tags.{named}}
 use Rattle.zf_cache.proofs.Touches.{no_tag}
 use Rattle.zf_const.specs.Standing.{Held, format, state, touched}
 use Rattle.zf_const.specs.Parts.{Coded, code_at, format_of, held_by, IsJoined}
@@ -36,11 +36,6 @@ module _ {X : Type 0} (value : X → ℤ) (s : Coded) (c : Kept X) (fits : Fits 
       values_meant
       (λ b. refl)
       refl
-
--- room for the blocks of its sizes
-pub room_of : {X : Type 0} (s : Coded) (c : Kept X) (n : ℕ) → HasRoom c n → n ≡ blocks s.header.shape → HasRoom c (format_of s).blocks
-unfolding array_format
-room_of s c n room is = subst (λ m. HasRoom c m) is room
 
 -- an array as it is made
 pub opens : {X : Type 0} (value : X → ℤ) (s : Coded) (c : Kept X) (n : ℕ) → IsEmpty c n → c.counts ≡ no_counts → state (held_by value s c) ≡ opened (format_of s) (code_at s) n

@@ -77,8 +77,7 @@ impl<T: Lane, const D: usize> ConstArray<T, D> {
     {
         let index = Index::build(alloc, h, &file)?;
         let codes = Codes::of_file(alloc, h, file, index)?;
-        let blocks = h.shape.blocks();
-        let cache = Cache::for_blocks(alloc, raised(lines), blocks)?;
+        let cache = Cache::new(alloc, raised(lines))?;
         Ok(ConstArray { codes, cache })
     }
 
@@ -132,8 +131,7 @@ impl<T: Lane, const D: usize> ConstArray<T, D> {
         ensures header { self.new.header ≡ self.old.header }
         ensures codes { self.new.codes ≡ self.old.codes }
     {
-        let blocks = self.codes.header().shape.blocks();
-        self.cache.relined_read_for(raised(lines), blocks)
+        self.cache.relined_read(raised(lines))
     }
 
     /// The sizes.

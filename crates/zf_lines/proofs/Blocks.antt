@@ -9,7 +9,7 @@ module _ {X : Type 0} where
   abbrev pub splice : ℕ → ℕ → List X → List X → List X
   splice k m ws xs = take k xs ++ (ws ++ drop (k + m) xs)
 
-  splice-prefix : (k m : ℕ) (ws row rest : List X) → k + m ≤ length row → splice k m ws (row ++ rest) ≡ splice k m ws row ++ rest
+  pub splice-prefix : (k m : ℕ) (ws row rest : List X) → k + m ≤ length row → splice k m ws (row ++ rest) ≡ splice k m ws row ++ rest
   splice-prefix k m ws row rest le =
       cc (take-append-le k row rest (omega arith), drop-append-le (k + m) row rest le, append_assoc ws (drop (k + m) row) rest, append_assoc (take k row) (ws ++ drop (k + m) row) rest)
 
@@ -65,3 +65,6 @@ pub line_within : (l n i : ℕ) → i < l → i * n + n ≤ l * n
 line_within zero n i lt = absurd (omega arith)
 line_within (suc l) n zero lt = omega (arith, suc-mul l n, zero-mul n)
 line_within (suc l) n (suc i) lt = omega (arith, suc-mul l n, suc-mul i n, line_within l n i (omega arith))
+
+pub rows_before : (w i n : ℕ) → w ≤ i → w * n ≤ i * n
+rows_before w i n le = omega (arith, suc-mul i n, line_within (suc i) n w (omega arith))

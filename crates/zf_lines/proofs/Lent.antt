@@ -1,12 +1,12 @@
 -- What `Lines` are once a run of their values was lent.
-use Rattle.std.proofs.Common.{◌≡◌, ℕ, ◌+◌, ◌-◌, ◌*◌, ◌<◌, ◌≤◌, List, [], ◌∷◌, map, length, take, drop, get_or, slice_set, Some, None, sym, ap, subst, ◌∙◌, arith, length-take, length-drop, drop-drop, append-nil, rules}
-use Rattle.std.proofs.lemmas.List.{length-map, drop_all, drop-take, take-take, get_or-take, get_or-drop}
-use Rattle.std.specs.List.{refill, length_refill}
-use Rattle.zf_lines.{specs.Places.{somes, IsHeld, IsRun}, specs.Lends.{with_slots, spliced}}
-use Rattle.zf_lines.{specs.Rows.{rows, line_at, part, with_line, with_part}, specs.Filled.{IsFilled}}
+use Rattle.std.proofs.Common.{◌≡◌, ℕ, ◌+◌, ◌-◌, ◌*◌, ◌^◌, ◌<◌, ◌≤◌, List, [], ◌∷◌, ◌++◌, map, length, take, drop, get_or, replicate, slice_set, Some, None, sym, ap, subst, ◌∙◌, arith, length-take, length-drop, drop-drop, append-nil, rules}
+use Rattle.std.proofs.lemmas.List.{drop_all, drop-take, take-take, get_or-take, get_or-drop, take-replicate, drop-replicate}
+use Rattle.std.{specs.List.{refill, length_refill}, proofs.Math.Seq.{drop-append-add}}
+use Rattle.zf_lines.{specs.Places.{somes, values, IsHeld, IsRun}, specs.Lends.{with_slots, spliced}}
+use Rattle.zf_lines.{specs.Rows.{rows, line_at, part, with_line, with_part}, specs.Filled.{IsFilled, IsReady}}
 use Rattle.zf_lines.{specs.declared.lines.Lines.TheInside.{Inside}, specs.declared.cells.Cells.{Cells}}
-use Rattle.zf_lines.proofs.Blocks.{splice, length-splice, length-rows, line_at-rows, rows-splice, line_within}
-use Rattle.zf_lines.proofs.Runs.{somes-map, run_of, same_values, spliced_map, held_at, held_value, set_spliced}
+use Rattle.zf_lines.proofs.Blocks.{splice, splice-prefix, length-splice, length-rows, line_at-rows, rows-splice, line_within, rows_before}
+use Rattle.zf_lines.proofs.Runs.{front, is_front, somes-map, values-front, length-values, run_of, same_values, spliced_front, held_at, held_value, set_spliced}
 
 -- a part of a block, read from the values that the block begins
 part_of_taken : {X : Type 0} (a m n : ℕ) (xs : List X) → a + m ≤ n → take m (drop a (take n xs)) ≡ take m (drop a xs)
@@ -14,30 +14,67 @@ part_of_taken a m n xs le =
     let on : n ≡ a + (n - a) = omega arith in
     ap (λ k. take m (drop a (take k xs))) on ∙ ap (take m) (drop-take a (n - a) xs) ∙ take-take m (n - a) (drop a xs) (omega arith)
 
-module _ {X : Type 0} (fields : Inside X) (h : IsFilled fields.base fields.lines fields.len fields.cells fields.deed fields.alloc) where
-  open fields use {base, lines, len, cells, deed, alloc}
+-- what holds of the fields
+abbrev pub Filled : {X : Type 0} → Inside X → Type 0
+Filled s = IsFilled s.base s.lines s.written s.len s.zero.value s.blank.items s.cells s.deed s.alloc
+
+-- block i of the lines that the fields stand for
+pub record IsBlock {X : Type 0} (s : Inside X) (self : List (List X)) (i : ℕ) : Type 0 where
+  pub filled : Filled s
+  pub same : rows s.lines s.len (values s.zero.value s.cells.slots) ≡ self
+  pub lt : i < length self
+
+pub block_of : {X : Type 0} (s : Inside X) {self : List (List X)} {i : ℕ} → Filled s → rows s.lines s.len (values s.zero.value s.cells.slots) ≡ self → i < length self → IsBlock s self i
+block_of s filled same lt = record { filled = filled; same = same; lt = lt }
+
+module _ {X : Type 0} {fields : Inside X} {self : List (List X)} {i : ℕ} (b : IsBlock fields self i) where
+  open fields use {base, lines, written, len, blank, cells, deed, alloc}
+
+  abbrev zero : X
+  zero = fields.zero.value
+
+  h : Filled fields
+  h = b.filled
 
   abbrev xs : List X
-  xs = somes cells.slots
+  xs = values zero cells.slots
+
+  abbrev ys : List X
+  ys = somes cells.slots
+
+  abbrev left : ℕ
+  left = length cells.slots - written * len
 
   long : length xs ≡ lines * len
-  long = sym (length-map xs Some) ∙ ap length (sym h.full) ∙ h.size
+  long = length-values zero cells.slots ∙ h.size
+
+  xs_are : xs ≡ ys ++ replicate left zero
+  xs_are = ap (values zero) h.front.front ∙ values-front zero ys left
 
   abbrev blocks : List (List X)
   blocks = rows lines len xs
 
-  module _ (from n : ℕ) (within : from + n ≤ lines * len) where
+  module _ (from n : ℕ) (within : from + n ≤ written * len) where
     abbrev pub old : List X
     old = take n (drop from xs)
 
-    pub run_held : IsRun cells.slots from n
-    run_held = (omega (arith, h.size), (old, run_of cells.slots from n h.full))
+    inside : from + n ≤ length ys
+    inside = omega (arith, h.front.held)
 
-    pub run_value : (ys : List X) → take n (drop from cells.slots) ≡ map Some ys → ys ≡ old
-    run_value ys e = same_values ys old (sym e ∙ run_of cells.slots from n h.full)
+    all : from + n ≤ length cells.slots
+    all = omega (arith, h.size, rows_before written lines len h.few)
+
+    run_is : take n (drop from cells.slots) ≡ map Some old
+    run_is = ap (λ l. take n (drop from l)) h.front.front ∙ run_of zero ys left from n inside ∙ ap (λ l. map Some (take n (drop from (values zero l)))) (sym h.front.front)
+
+    pub run_held : IsRun cells.slots from n
+    run_held = (all, (old, run_is))
+
+    pub run_value : (vs : List X) → take n (drop from cells.slots) ≡ map Some vs → vs ≡ old
+    run_value vs e = same_values vs old (sym e ∙ run_is)
 
     count : n ≡ length old
-    count = omega (arith, length-take n (drop from xs), length-drop from xs, long)
+    count = omega (arith, length-take n (drop from xs), length-drop from xs, length-values zero cells.slots, all)
 
     module _ (w : List X) where
       abbrev ws : List X
@@ -49,55 +86,86 @@ module _ {X : Type 0} (fields : Inside X) (h : IsFilled fields.base fields.lines
       abbrev pub now : Cells X
       now = with_slots cells (spliced cells.slots from n (refill n (somes (take n (drop from cells.slots))) w))
 
-      slots_are : now.slots ≡ map Some (splice from n ws xs)
-      slots_are = (λ i. spliced (h.full i) from n (refill n ((ap somes (run_of cells.slots from n h.full) ∙ somes-map old) i) w)) ∙ spliced_map xs ws from n
+      slots_are : now.slots ≡ front (splice from n ws ys) left
+      slots_are = (λ i. spliced (h.front.front i) from n (refill n ((ap somes run_is ∙ somes-map old) i) w)) ∙ spliced_front ys ws left from n inside
 
-      pub values_now : somes now.slots ≡ splice from n ws xs
-      values_now = ap somes slots_are ∙ somes-map (splice from n ws xs)
+      pub values_now : values zero now.slots ≡ splice from n ws xs
+      values_now =
+          ap (values zero) slots_are ∙ values-front zero (splice from n ws ys) left
+          ∙ sym (ap (splice from n ws) xs_are ∙ splice-prefix from n ws ys (replicate left zero) inside)
 
-      -- the lines are whole again, whatever was written
-      pub stays_filled : IsFilled base lines len now deed alloc
-      stays_filled = search (rules, slots_are, values_now, length-map, splice, length-splice, long, as_long)
+      same_size : length now.slots ≡ length cells.slots
+      same_size = sym (length-values zero now.slots) ∙ ap length values_now ∙ length-splice from n ws xs (omega (arith, all, length-values zero cells.slots)) as_long ∙ length-values zero cells.slots
+
+      -- as many lines are written, whatever was written to them
+      pub stays_filled : IsFilled base lines written len zero blank.items now deed alloc
+      stays_filled = record {
+        own = h.own;
+        front = is_front now.slots (splice from n ws ys) left (written * len) slots_are (length-splice from n ws ys inside as_long ∙ h.front.held);
+        few = h.few;
+        zeros = h.zeros;
+        size = same_size ∙ h.size;
+        small = h.small;
+      }
 
   -- one place is a run of one
-  pub place_held : (at : ℕ) → at + 1 ≤ lines * len → IsHeld cells.slots at
-  place_held at within = subst (λ cs. IsHeld cs at) (sym h.full) (held_at xs at (omega (arith, long)))
+  pub place_held : (at : ℕ) → at + 1 ≤ written * len → IsHeld cells.slots at
+  place_held at within = subst (λ cs. IsHeld cs at) (sym h.front.front) (held_at ys left at (omega (arith, h.front.held)))
 
-  pub place_now : (at : ℕ) (within : at + 1 ≤ lines * len) (v : X) → with_slots cells (slice_set cells.slots at (Some v)) ≡ now at 1 within (v ∷ [])
-  place_now at within v = ap (with_slots cells) (set_spliced cells.slots at v (omega (arith, h.size)))
+  pub place_now : (at : ℕ) (within : at + 1 ≤ written * len) (v : X) → with_slots cells (slice_set cells.slots at (Some v)) ≡ now at 1 within (v ∷ [])
+  place_now at within v = ap (with_slots cells) (set_spliced cells.slots at v (omega (arith, all at 1 within)))
 
-  module _ (self : List (List X)) (is : blocks ≡ self) (i : ℕ) (lt : i < length self) where
-    pub line_there : i < lines
-    line_there = omega (arith, ap length is, length-rows lines len xs)
+  pub line_there : i < lines
+  line_there = omega (arith, ap length b.same, length-rows lines len xs)
 
-    pub line_ends : i * len + len ≤ lines * len
-    line_ends = line_within lines len i line_there
+  pub in_lines : i * len + len ≤ lines * len
+  in_lines = line_within lines len i line_there
 
-    line_is : line_at blocks i ≡ take len (drop (i * len) xs)
-    line_is = line_at-rows lines len xs i line_there
+  line_is : line_at blocks i ≡ take len (drop (i * len) xs)
+  line_is = line_at-rows lines len xs i line_there
 
-    whole : length (line_at blocks i) ≡ len
-    whole = omega (arith, ap length line_is, length-take len (drop (i * len) xs), length-drop (i * len) xs, long, line_ends)
+  whole : length (line_at blocks i) ≡ len
+  whole = omega (arith, ap length line_is, length-take len (drop (i * len) xs), length-drop (i * len) xs, long, in_lines)
 
-    pub length-line : length (line_at self i) ≡ len
-    length-line = ap (λ ls. length (line_at ls i)) (sym is) ∙ whole
+  pub length-line : length (line_at self i) ≡ len
+  length-line = ap (λ ls. length (line_at ls i)) (sym b.same) ∙ whole
 
-    -- the values that stand for block i
-    pub line_value : take len (drop (i * len) xs) ≡ line_at self i
-    line_value = sym line_is ∙ ap (λ ls. line_at ls i) is
+  -- the values that stand for block i
+  pub line_value : take len (drop (i * len) xs) ≡ line_at self i
+  line_value = sym line_is ∙ ap (λ ls. line_at ls i) b.same
+
+  -- a block that is not written is blank
+  pub line_blank : written ≤ i → blank.items ≡ line_at self i
+  line_blank le =
+      let before = rows_before written i len le in
+      let on : i * len ≡ length ys + (i * len - written * len) = omega (arith, h.front.held) in
+      h.zeros ∙ sym (ap (λ l. take len (drop (i * len) l)) xs_are ∙ ap (λ k. take len (drop k (ys ++ replicate left zero))) on
+      ∙ ap (take len) (drop-append-add ys (replicate left zero) (i * len - written * len) ∙ drop-replicate (i * len - written * len) left zero)
+      ∙ take-replicate len (left - (i * len - written * len)) zero (omega (arith, in_lines, h.size))) ∙ line_value
+
+  -- the value at a place of block i
+  pub value_at : (a : ℕ) (x : X) → a < length (line_at self i) → get_or cells.slots (i * len + a) None ≡ Some x → get_or (line_at self i) a x ≡ x
+  value_at a x lt e = search (rules, line_value, get_or-take, length-line, get_or-drop, held_value zero)
+
+  module _ (there : i < written) where
+    pub line_ends : i * len + len ≤ written * len
+    line_ends = line_within written len i there
 
     -- block i written over
-    pub line_now : (w : List X) → rows lines len (somes (now (i * len) len line_ends w).slots) ≡ with_line self i w
+    pub line_now : (w : List X) → rows lines len (values zero (now (i * len) len line_ends w).slots) ≡ with_line self i w
     line_now w =
         let ws = refill len (take len (drop (i * len) xs)) w in
         let from : i * len ≡ i * len + 0 = omega arith in
         let none : drop (0 + len) (line_at blocks i) ≡ [] = drop_all (0 + len) (line_at blocks i) (omega (arith, whole)) in
         let set = rows-splice lines len xs i 0 len ws long line_there (omega arith) (as_long (i * len) len line_ends w) in
-        cc (values_now (i * len) len line_ends w, append-nil ws, line_is, whole, is)
+        cc (values_now (i * len) len line_ends w, append-nil ws, line_is, whole, b.same)
 
     module _ (a m : ℕ) (inside : a + m ≤ length (line_at self i)) where
-      pub part_ends : i * len + a + m ≤ lines * len
+      pub part_ends : i * len + a + m ≤ written * len
       part_ends = omega (arith, line_ends, length-line)
+
+      pub part_fits : i * len + a < 2 ^ 64
+      part_fits = omega (arith, part_ends, h.small, rows_before written lines len h.few)
 
       abbrev run : List X
       run = take m (drop (i * len + a) xs)
@@ -106,17 +174,36 @@ module _ {X : Type 0} (fields : Inside X) (h : IsFilled fields.base fields.lines
       part_is = search (rules, line_is, part_of_taken, length-line, drop-drop)
 
       pub part_value : run ≡ part (line_at self i) a m
-      part_value = sym part_is ∙ ap (λ ls. part (line_at ls i) a m) is
+      part_value = sym part_is ∙ ap (λ ls. part (line_at ls i) a m) b.same
 
       -- a part of block i written over
-      pub part_now : (w : List X) → rows lines len (somes (now (i * len + a) m part_ends w).slots) ≡ with_part self i a m w
+      pub part_now : (w : List X) → rows lines len (values zero (now (i * len + a) m part_ends w).slots) ≡ with_part self i a m w
       part_now w =
           let ws = refill m run w in
           let row = line_at blocks i in
           let size : length (part row a m) ≡ m = omega (arith, length-take m (drop a row), length-drop a row, whole, length-line) in
           let set = rows-splice lines len xs i a m ws long line_there (omega (arith, length-line)) (as_long (i * len + a) m part_ends w) in
-          cc (values_now (i * len + a) m part_ends w, drop-drop m a row, part_is, is)
+          cc (values_now (i * len + a) m part_ends w, drop-drop m a row, part_is, b.same)
 
-    -- the value at a place of block i
-    pub value_at : (a : ℕ) (x : X) → a < length (line_at self i) → get_or cells.slots (i * len + a) None ≡ Some x → get_or (line_at self i) a x ≡ x
-    value_at a x lt e = search (rules, line_value, get_or-take, length-line, get_or-drop, held_value)
+-- block i once it was made ready: w blocks are written, and c holds them
+abbrev pub ready_as : {X : Type 0} → Inside X → Cells X → ℕ → Inside X
+ready_as s c w = record s { written = w; cells = c }
+
+pub readied : {X : Type 0} {s : Inside X} {self : List (List X)} {i : ℕ} {c : Cells X} {w : ℕ} {z : X} (b : IsBlock s self i) → z ≡ s.zero.value → IsReady z s.len s.written i s.cells c w → IsBlock (ready_as s c w) self i
+readied {s = s} {c = c} b is r =
+    let h = b.filled in record {
+      filled = record {
+        own = (r.at ∙ h.own.0, h.own.1, h.own.2, h.own.3);
+        front = r.filled.front;
+        few = r.few s.lines h.few (line_there b);
+        zeros = h.zeros;
+        size = r.filled.size ∙ h.size;
+        small = h.small;
+      };
+      same = ap (rows s.lines s.len) (ap (λ y. values y c.slots) (sym is) ∙ r.filled.same ∙ ap (λ y. values y s.cells.slots) is) ∙ b.same;
+      lt = b.lt;
+    }
+
+-- what `ready` takes
+pub ready_takes : {X : Type 0} {s : Inside X} {self : List (List X)} {i : ℕ} (b : IsBlock s self i) → (i * s.len + s.len ≤ length s.cells.slots) × ((length s.cells.slots < 2 ^ 63) × (i < 2 ^ 16))
+ready_takes {s = s} {i = i} b = let h = b.filled in (omega (arith, h.size, in_lines b), (omega (arith, h.size, h.small), omega (arith, line_there b, h.small)))

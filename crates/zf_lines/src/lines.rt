@@ -1,7 +1,10 @@
 //! Blocks of one length in one allocation.
-ghost use Rattle.std.specs.Prelude.{◌≡◌, ◌+◌, ◌*◌, ◌-◌, ◌^◌, ◌<◌, ◌≤◌, ◌++◌, length, replicate, slice_index_or, Some, None, IfOk};
+ghost use Rattle.std.specs.Prelude.{◌≡◌, ◌+◌, ◌*◌, ◌-◌, ◌^◌, ◌<◌, ◌≤◌, ◌++◌, ℕ, length, replicate};
+ghost use Rattle.std.specs.Prelude.{slice_index_or, Some, None, IfOk};
 ghost use Rattle.std.specs.Borrow.{sem};
 ghost use Rattle.zf_lines.specs.Rows.{line_at, part};
+ghost use Rattle.zf_lines.specs.Places.{IsFront, IsFilledTo};
+ghost use Rattle.zf_lines.specs.Filled.{IsReady};
 
 use crate::cells::{Base, Cells, Deed, allocate, deallocate};
 use std::alloc::{AllocError, Global};
@@ -10,12 +13,17 @@ use std_alloc::room::may_hold;
 
 /// `lines` blocks of `len` values each, seen as the list of the blocks.
 ///
-/// Block `i` lies from the value `i * len` of the allocation on. The allocation is given back when the lines
-/// are dropped.
+/// Block `i` lies from the value `i * len` of the allocation on. The first `written` blocks hold values; one
+/// behind them is written when it is first lent for writing, and is shown as `blank` until then. `zero` is in
+/// a box, so that how large the lines are by themselves does not depend on `T`. The allocation is given back
+/// when the lines are dropped.
 pub struct Lines<T> {
     base: Base<T>,
     lines: u32,
+    written: u32,
     len: usize,
+    zero: Box<T>,
+    blank: Vec<T>,
     cells: Cells<T>,
     deed: Deed<T, Global>,
     alloc: Global,
@@ -30,22 +38,86 @@ impl<T> Model for Lines<T> {
     ghost coded = { coded_list (coded_list T.code) };
 
     ghost use Rattle.zf_lines.specs.Filled.{IsFilled};
-    ghost use Rattle.zf_lines.specs.Places.{somes};
+    ghost use Rattle.zf_lines.specs.Places.{values};
     ghost use Rattle.zf_lines.specs.Rows.{rows};
 
-    ghost view = { λ s. rows s.lines s.len (somes s.cells.slots) };
+    ghost view = { λ s. rows s.lines s.len (values s.zero.value s.cells.slots) };
 
-    ghost invariant = { λ s. IsFilled s.base s.lines s.len s.cells s.deed s.alloc };
+    ghost invariant = { λ s. IsFilled s.base s.lines s.written s.len s.zero.value s.blank.items s.cells s.deed
+        s.alloc };
 }
 
-/// Writes `zero` into each of the `count` empty places.
-fn fill<T: Copy>(cells: &mut Cells<T>, base: Base<T>, count: usize, zero: T)
-    requires { (base.ptr ≡ cells.old.at) × (cells.old.slots ≡ replicate count None) }
-    ensures { (cells.new.at ≡ cells.old.at) × (cells.new.slots ≡ replicate count (Some zero)) }
+/// So many values that are `zero`.
+fn zeros<T: Copy>(alloc: Global, len: usize, zero: T) -> Result<Vec<T>, AllocError>
+    ensures { IfOk result (λ v. v.items ≡ replicate len zero) }
 {
-    for i in 0..count {
+    let mut values = Vec::new(alloc);
+    match values.resize(len, zero) {
+        Ok(()) => Ok(values),
+        Err(error) => Err(error),
+    }
+}
+
+/// Writes `zero` into the places from `from` on, up to `to`; those before it hold values, and no other does.
+fn fill<T: Copy>(cells: &mut Cells<T>, base: Base<T>, from: usize, to: usize, zero: T)
+    requires at { base.ptr ≡ cells.old.at }
+    requires front { IsFront cells.old.slots from }
+    requires within { (from ≤ to) × (to ≤ length cells.old.slots) }
+    ensures at { cells.new.at ≡ cells.old.at }
+    ensures filled { IsFilledTo zero cells.old.slots cells.new.slots to }
+{
+    for i in from..to {
         cells.write(base, i, zero);
     }
+}
+
+/// Writes zeros into the blocks from number `written` on, up to block `i`; gives how many are written then.
+#[cold]
+#[inline(never)]
+fn write_up_to<T: Copy>(
+    cells: &mut Cells<T>,
+    base: Base<T>,
+    written: u32,
+    i: u32,
+    len: usize,
+    zero: &T,
+) -> u32
+    requires at { base.ptr ≡ cells.old.at }
+    requires front { IsFront cells.old.slots (written * len) }
+    requires within { (written ≤ i) × (i * len + len ≤ length cells.old.slots) }
+    requires small { (length cells.old.slots < 2 ^ 63) × (i < 2 ^ 16) }
+    ensures { IsReady zero.now len written i cells.old cells.new result }
+{
+    fill(
+        cells,
+        base,
+        written as usize * len,
+        i as usize * len + len,
+        *zero,
+    );
+    i + 1
+}
+
+/// Makes block `i` one of the `written`, which hold values.
+#[inline]
+fn ready<T: Copy>(
+    cells: &mut Cells<T>,
+    base: Base<T>,
+    written: &mut u32,
+    i: u32,
+    len: usize,
+    zero: &T,
+)
+    requires at { base.ptr ≡ cells.old.at }
+    requires front { IsFront cells.old.slots (written.old * len) }
+    requires within { i * len + len ≤ length cells.old.slots }
+    requires small { (length cells.old.slots < 2 ^ 63) × (i < 2 ^ 16) }
+    ensures { IsReady zero.now len written.old i cells.old cells.new written.new }
+{
+    if i < *written {
+        return;
+    }
+    *written = write_up_to(cells, base, *written, i, len, zero);
 }
 
 impl<T: Copy> Lines<T> {
@@ -61,12 +133,16 @@ impl<T: Copy> Lines<T> {
         if !may_hold::<T>(count) {
             return Err(AllocError);
         }
-        let (base, mut cells, deed) = allocate(&alloc, count)?;
-        fill(&mut cells, base, count, zero);
+        let blank = zeros(alloc, len, zero)?;
+        let zero = Box::new(alloc, zero)?;
+        let (base, cells, deed) = allocate(&alloc, count)?;
         Ok(Lines {
             base,
             lines,
+            written: 0,
             len,
+            zero,
+            blank,
             cells,
             deed,
             alloc,
@@ -79,7 +155,11 @@ impl<T: Copy> Lines<T> {
         requires { i < length self.now }
         ensures { result.now ≡ line_at self.now i }
     {
-        self.cells.slice(self.base, i as usize * self.len, self.len)
+        if i < self.written {
+            self.cells.slice(self.base, i as usize * self.len, self.len)
+        } else {
+            &self.blank
+        }
     }
 
     /// Block `i` for writing; all others stay.
@@ -90,6 +170,7 @@ impl<T: Copy> Lines<T> {
         ensures value { result.now ≡ line_at self.old i }
     {
         let (base, len) = (self.base, self.len);
+        ready(&mut self.cells, base, &mut self.written, i, len, &self.zero);
         self.cells.slice_mut(base, i as usize * len, len)
     }
 
@@ -102,6 +183,7 @@ impl<T: Copy> Lines<T> {
         ensures value { result.now ≡ part (line_at self.old i) a n }
     {
         let (base, len) = (self.base, self.len);
+        ready(&mut self.cells, base, &mut self.written, i, len, &self.zero);
         self.cells.slice_mut(base, i as usize * len + a, n)
     }
 
@@ -114,6 +196,7 @@ impl<T: Copy> Lines<T> {
         ensures value { slice_index_or (line_at self.old i) a result.now ≡ result.now }
     {
         let (base, len) = (self.base, self.len);
+        ready(&mut self.cells, base, &mut self.written, i, len, &self.zero);
         self.cells.value_mut(base, i as usize * len + a)
     }
 }
@@ -124,7 +207,10 @@ impl<T: Drop> Drop for Lines<T> {
         let Lines {
             base,
             lines,
+            written: _,
             len,
+            zero: _,
+            blank: _,
             cells,
             deed,
             alloc,

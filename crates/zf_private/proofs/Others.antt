@@ -20,7 +20,6 @@ module _ {X Code : Type 0} (value : X → ℤ) (d : ℕ) (v : Held X) (f g : For
   other_codes_fit fits = subst (λ h. Fits value v.cache h j) (sym same) (record {
     own = fits.own;
     clean = λ l b tag. fits.clean l b tag ∙ ap (meant f b) (sym (codes b (whole.own l b (ap block_in tag ∙ names-clean b))));
-    room = fits.room;
   })
 
   pub other_codes_alike : AreAlike (Own v) (state value v f k) (state value v g j)

@@ -6,7 +6,7 @@ ghost use Rattle.std.specs.Int.{Width};
 ghost use Rattle.zf_base.specs.Formats.{Format};
 ghost use Rattle.zf_cached.specs.State.{State};
 ghost use Rattle.zf_cache.specs.Kept.{IsEmpty};
-ghost use Rattle.zf_cache.specs.Standing.{Fits, HasRoom};
+ghost use Rattle.zf_cache.specs.Standing.{Fits};
 ghost use Rattle.zf_cached.specs.Acts.{Act};
 ghost use Rattle.zf_cached.specs.Views.{Step, Views, acted, answered, state_of_view, stepped, ran, answers};
 ghost use Rattle.zf_cached.specs.Views.{steps_of, NoneShared, IsUnowned, IsWithin, AreWithin, HasOwn};
@@ -95,14 +95,13 @@ pub fn calls_are_steps<T: Lane, const D: usize, B: Reading<T>>()
         ≡ answered (state_of_view t i) a) }
 {}
 
-/// An empty view fits every backing that it has room for. What `discard` does is the discard of the state
+/// An empty view fits every backing. What `discard` does is the discard of the state
 /// that it stands for, and it fits afterwards.
 pub fn empty_views<T: Lane, B: Reading<T>>()
     ensures fits { (v : Held T) (n : ℕ) (back : B) → IsEmpty v.cache n
-        → HasRoom v.cache (B.format back).blocks
         → Fits T.value v.cache (B.format back) (B.codes back) }
     ensures emptied { (v new : Held T) (back : B) → Fits T.value v.cache (B.format back) (B.codes back)
-        → IsEmpty new.cache (length v.cache.tags) → length new.cache.lines ≡ length v.cache.lines
+        → IsEmpty new.cache (length v.cache.tags)
         → Fits T.value new.cache (B.format back) (B.codes back) }
     ensures discards { (v new : Held T) (back : B) → Fits T.value v.cache (B.format back) (B.codes back)
         → IsEmpty new.cache (length v.cache.tags) → new.cache.counts ≡ v.cache.counts

@@ -1,9 +1,8 @@
 //! A private view.
-ghost use Rattle.std.specs.Prelude.{◌≡◌, ℕ, ◌+◌, ◌^◌, ◌<◌, ◌≤◌, ◌↔◌, min, length, Some, IsTrue, IfOk};
+ghost use Rattle.std.specs.Prelude.{◌≡◌, ℕ, ◌+◌, ◌^◌, ◌<◌, ◌≤◌, ◌↔◌, length, Some, IsTrue, IfOk};
 ghost use Rattle.zf_spec.specs.Grid.{IsShape, blocks};
 ghost use Rattle.zf_cached.specs.State.{no_counts};
 ghost use Rattle.zf_cache.specs.Kept.{IsLineCount, IsEmpty};
-ghost use Rattle.zf_cache.specs.Standing.{HasRoom};
 ghost use Rattle.zf_cached.specs.Acts.{Act};
 ghost use Rattle.zf_cached.specs.Views.{answered};
 ghost use Rattle.zf_private.specs.Standing.{Own, block_at, place_at, state, IsSameView, IsWhole};
@@ -44,9 +43,8 @@ impl<T, const D: usize> Model for Private<T, D> {
 impl<T: Lane, const D: usize> Private<T, D> {
     ghost use Rattle.zf_cache.specs.Bodies.{counts_of};
 
-    /// An empty view of so many lines, of the `count` blocks from `first` on. It takes no memory for the
-    /// values of lines beyond the number of the array's blocks. `AllocError`: there was no memory for the
-    /// lines.
+    /// An empty view of so many lines, of the `count` blocks from `first` on. `AllocError`: there was no memory
+    /// for the lines.
     pub fn new(
         alloc: Global,
         shape: Shape,
@@ -60,13 +58,10 @@ impl<T: Lane, const D: usize> Private<T, D> {
         requires lines { IsLineCount lines }
         ensures empty { IfOk result (λ v. IsEmpty v.cache lines) }
         ensures counts { IfOk result (λ v. v.cache.counts ≡ no_counts) }
-        ensures rows { IfOk result (λ v. length v.cache.lines ≡ min lines (blocks shape)) }
-        ensures room { IfOk result (λ v. HasRoom v.cache (blocks shape)) }
         ensures blocks { IfOk result (λ v. (v.shape ≡ shape) × (v.first ≡ first) × (v.count ≡ count)) }
         ensures whole { IfOk result (IsWhole D) }
     {
-        let blocks = shape.blocks();
-        let cache = Cache::for_blocks(alloc, lines, blocks)?;
+        let cache = Cache::new(alloc, lines)?;
         Ok(Private {
             cache,
             shape,
@@ -138,7 +133,6 @@ impl<T: Lane, const D: usize> Private<T, D> {
     /// Empties the lines; nothing is written.
     pub fn discard(&mut self)
         ensures empty { IsEmpty self.new.cache (length self.old.cache.tags) }
-        ensures rows { length self.new.cache.lines ≡ length self.old.cache.lines }
         ensures counts { self.new.cache.counts ≡ self.old.cache.counts }
         ensures same { IsSameView self.old self.new }
         ensures whole { IsWhole D self.new }

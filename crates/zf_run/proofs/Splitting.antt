@@ -14,7 +14,7 @@ use Rattle.zf_cached.{specs.Commands.{Command}}
 use Rattle.zf_cached.specs.Splits.{is_view_count, is_owner, opened_view, opened_views, no_view}
 use Rattle.zf_cached.specs.Steps.{Setting, Session, format_of, by_view, split_into, flushed_views, joined, is_line_count, done}
 use Rattle.zf_cached.{specs.Runs.{array_setting, ended}, proofs.States.{same_state}}
-use Rattle.zf_cache.{specs.Kept.{Kept, IsEmpty}, specs.Standing.{state_of, HasRoom}, proofs.Stands.{standing}}
+use Rattle.zf_cache.{specs.Kept.{Kept, IsEmpty}, specs.Standing.{state_of}, proofs.Stands.{standing}}
 use Rattle.zf_cache.{proofs.Steps.{empty_fits}, proofs.Touches.{state_is, no_tag, all_meant}}
 use Rattle.zf_private.specs.Standing as private
 use Rattle.zf_array.{specs.Standing.{Held, shape, state, format}, specs.Coded.{IsCoded}}
@@ -104,7 +104,7 @@ module _ {X : Type 0} (value : X → ℤ) where
         part : (i : ℕ) (v : private.Held X) → IsNewPart d (shape a) n lines i v → IsPart value d b n i v
         part i v is =
             let shapes : v.shape ≡ shape b = is.shape ∙ sym same_shape in
-            let fits = empty_fits value (format b) (state b).codes v.cache lines is.empty (subst (λ (ns : List ℕ). HasRoom v.cache (blocks ns)) (sym same_shape) is.room) in search rules
+            let fits = empty_fits value (format b) (state b).codes v.cache lines is.empty in search rules
 
   -- ---- the end of a split
 

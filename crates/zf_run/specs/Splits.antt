@@ -12,7 +12,6 @@ use Rattle.zf_cached.specs.Commands.{Command}
 use Rattle.zf_cached.specs.Replies.{Reply}
 use Rattle.zf_cached.specs.Steps.{Setting, Session}
 use Rattle.zf_cache.specs.Kept.{IsEmpty}
-use Rattle.zf_cache.specs.Standing.{HasRoom}
 use Rattle.zf_private.specs.Standing as private
 use Rattle.zf_private.specs.Several.{IsReady}
 use Rattle.zf_array.specs.Standing.{Held, shape, state, format}
@@ -100,11 +99,9 @@ module _ {X : Type 0} (value : X → ℤ) where
     pub parts : AreParts d b now
     pub kept : kind b ≡ kind a
 
--- a view as it is made: nothing is in its lines, which have room for the blocks of the array, and nothing is
--- counted
+-- a view as it is made: nothing is in its lines, and nothing is counted
 pub record IsNewPart {X : Type 0} (d : ℕ) (ns : List ℕ) (n lines i : ℕ) (v : private.Held X) : Type 0 where
   pub empty : IsEmpty v.cache lines
-  pub room : HasRoom v.cache (blocks ns)
   pub counts : v.cache.counts ≡ no_counts
   pub shape : v.shape ≡ ns
   pub first : v.first ≡ first_of (blocks ns) n i

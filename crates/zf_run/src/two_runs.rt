@@ -1,10 +1,8 @@
 //! The run of a script over a store and a two-way cache.
 
 ghost use Rattle.std.specs.Prelude.{◌≡◌, ◌≢◌, length};
-ghost use Rattle.zf_spec.specs.Grid.{blocks};
 ghost use Rattle.zf_dev.specs.Faults.{HasCause};
 ghost use Rattle.zf_cache.specs.Kept.{IsEmpty};
-ghost use Rattle.zf_twoway.specs.Standing.{HasRoom};
 ghost use Rattle.zf_run.specs.Ends.{RunsTwo};
 
 use crate::end::{RunEnd, end_of};
@@ -16,8 +14,8 @@ use zf_store::Store;
 use zf_twoway::TwoWay;
 use zf_view::Window;
 
-/// Runs the lines of a script over a store and a two-way cache, which is empty and has room for its blocks,
-/// and writes the reply of each as it comes; at the end it flushes the cache.
+/// Runs the lines of a script over a store and a two-way cache, which is empty, and writes the reply of each as
+/// it comes; at the end it flushes the cache.
 ///
 /// Lines on windows and sizes are refused as no lines of the language. A line that is refused changes
 /// nothing, and the script goes on.
@@ -31,8 +29,7 @@ pub fn run_two<T: Lane, const D: usize, O: Sink>(
     script: &[u8],
     out: &mut O,
 ) -> RunEnd
-    requires empty { IsEmpty cache.old (length cache.old.tags) }
-    requires room { HasRoom cache.old (blocks store.old.header.shape) }
+    requires { IsEmpty cache.old (length cache.old.tags) }
     ensures runs { RunsTwo T.value T.width store.old store.new cache.old cache.new script.now
         (O.contents out.old) (O.contents out.new) result }
     ensures unchanged { result ≢ RunEnd.Write → O.faults out.new ≡ O.faults out.old }

@@ -26,7 +26,6 @@ module _ {X Code : Type 0} (value : X → ℤ) (c : Kept X) (f : Format Code) (k
         let own = fits.own l b is in
         (skewed_rule.found (length c.tags) c.tags b l own.0 is (λ m there. fits.once m l b there is), own.1);
     clean = fits.clean;
-    room = fits.room;
   }
 
   pub fits_of : FitsAt skewed value c f k → Fits value c f k
@@ -36,7 +35,6 @@ module _ {X Code : Type 0} (value : X → ℤ) (c : Kept X) (f : Format Code) (k
         (subst (IsOneOfTwo (length c.tags) b) own.0 (skewed_rule.allowed (length c.tags) c.tags b), own.1);
     once = λ l m b is there. sym (fits.own l b is).0 ∙ (fits.own m b there).0;
     clean = fits.clean;
-    room = fits.room;
   }
 
   pub values_stand : (b : ℕ) → (state_of value c f k).values b ≡ values_of value c f k b

@@ -9,6 +9,7 @@ use Rattle.std.proofs.Math.Nat.{mod-eq_of_lt, div-eq_of_lt}
 use Rattle.std.proofs.lemmas.Nat.{mod_below}
 use Rattle.zf_cached.specs.State.{is_block}
 use Rattle.zf_cached.specs.Placing.{Line, IsPlacing}
+use Rattle.zf_cached.specs.Uncached.{HasOwnLines}
 use Rattle.zf_cache.specs.Kept.{IsIn, tag_at, block_in, dirty_tag, dirty_of}
 use Rattle.zf_cache.specs.Rules.{IsRule, IsTold}
 use Rattle.zf_cached.proofs.Caching.{is_block-some}
@@ -126,7 +127,6 @@ skewed_rule = record {
       | inr out ↦ skewed-second n tags b out (ap (λ j. block_in (tag_at tags j)) at ∙ is) ∙ at
     ]
   ];
-  low = λ n tags b lt. either (λ l. l ≡ b) n tags b (mod-eq_of_lt lt) (second-low n b lt);
 }
 
 -- ---- the line that the tags tell is the one that the state tells
@@ -219,3 +219,7 @@ two_placing = record {
     ]
   ];
 }
+
+pub two_lines-own : HasOwnLines two_lines
+two_lines-own n held dirty b lt =
+    either_line n held dirty b (λ l. l ≡ b) (mod-eq_of_lt lt) (second-low n b lt)

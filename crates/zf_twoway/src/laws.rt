@@ -8,13 +8,13 @@ ghost use Rattle.zf_cached.specs.Changes.{discard, opened};
 ghost use Rattle.zf_cache.specs.Kept.{Kept, IsEmpty, IsIn, IsAway, tag_at, dirty_tag};
 ghost use Rattle.zf_cache.specs.Standing.{line_values};
 ghost use Rattle.zf_twoway.specs.Placing.{first_line, second_line};
-ghost use Rattle.zf_twoway.specs.Standing.{is_dirty, state_of, Fits, HasRoom};
+ghost use Rattle.zf_twoway.specs.Standing.{is_dirty, state_of, Fits};
 
 use zf_base::{Lane, Reading};
 
-/// An empty cache fits every backing that it has room for.
+/// An empty cache fits every backing.
 pub fn empty_caches_fit<T: Lane, B: Reading<T>>()
-    ensures { (c : Kept T) (n : ℕ) (back : B) → IsEmpty c n → HasRoom c (B.format back).blocks
+    ensures { (c : Kept T) (n : ℕ) (back : B) → IsEmpty c n
         → Fits T.value c (B.format back) (B.codes back) }
 {}
 
@@ -32,7 +32,7 @@ pub fn discards<T: Lane, B: Reading<T>>()
         → state_of T.value d (B.format back) (B.codes back)
         ≡ discard (B.format back) (state_of T.value c (B.format back) (B.codes back)) }
     ensures fits { (c d : Kept T) (back : B) → Fits T.value c (B.format back) (B.codes back)
-        → IsEmpty d (length c.tags) → length d.lines ≡ length c.lines
+        → IsEmpty d (length c.tags)
         → Fits T.value d (B.format back) (B.codes back) }
 {}
 

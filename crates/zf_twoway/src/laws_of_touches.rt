@@ -8,6 +8,7 @@ ghost use Rattle.zf_cached.specs.State.{State};
 ghost use Rattle.zf_cached.specs.Touch.{hit, miss};
 ghost use Rattle.zf_cached.specs.Fates.{IsLeft, IsRounded};
 ghost use Rattle.zf_cached.specs.Consistency.{IsCached};
+ghost use Rattle.zf_cached.specs.Uncached.{HasOwnLines};
 ghost use Rattle.zf_twoway.specs.Placing.{first_line, second_line, two_lines};
 ghost use Rattle.zf_twoway.specs.Touch.{is_clean_line, is_here, goes_to, touch};
 ghost use Rattle.zf_twoway.specs.Runs.{twoway_setting};
@@ -20,6 +21,12 @@ pub fn touches_are_placed<C: Coded>()
     ensures touch { (format : Format C.Code) (s : State C.Code) (b : ℕ) → touch format s b
         ≡ (if is_here s b then hit s else miss format s (goes_to s b) b) }
     ensures setting { (w : Width) (budget : ℕ) → IsCached two_lines (twoway_setting w budget) }
+{}
+
+/// A block whose number is below the number of lines has the line of that number, as both of its lines are it. So
+/// what `zf_cached` says of scripts over enough lines holds of a two-way cache.
+pub fn own_lines()
+    ensures { HasOwnLines two_lines }
 {}
 
 /// A touched block is here: where it was, only the hits rise, and touching it again is a hit.

@@ -1,5 +1,5 @@
 //! The two-way cache.
-ghost use Rattle.std.specs.Prelude.{◌≡◌, ℕ, ◌*◌, ◌^◌, ◌<◌, ◌≤◌, min, pos, length, true, slice_index_or, IfOk};
+ghost use Rattle.std.specs.Prelude.{◌≡◌, ℕ, ◌*◌, ◌^◌, ◌<◌, ◌≤◌, pos, length, true, slice_index_or, IfOk};
 ghost use Rattle.std.specs.Prelude.{OnOk, OnErr};
 ghost use Rattle.std.specs.Bool.{OnTrue};
 ghost use Rattle.std.specs.Borrow.{sem};
@@ -8,13 +8,13 @@ ghost use Rattle.zf_cached.specs.Changes.{flush, relined};
 ghost use Rattle.zf_cache.specs.Kept.{IsLineCount, IsEmpty};
 ghost use Rattle.zf_cache.specs.Backed.{Backed, BackedAt, StepsTo, Shows, KeepsFormat};
 ghost use Rattle.zf_twoway.specs.Touch.{touch, put};
-ghost use Rattle.zf_twoway.specs.Standing.{is_dirty, state_of, values_of, Fits, HasRoom};
+ghost use Rattle.zf_twoway.specs.Standing.{is_dirty, state_of, values_of, Fits};
 
 use crate::skewed::Skewed;
 use std::alloc::{AllocError, Global};
 use std::marker::Model;
 use zf_base::{Backing, Lane, Stats, block_len};
-use zf_cache::{Body, rows_for};
+use zf_cache::Body;
 
 /// A cache of blocks of `4^D` values, which stands on a backing that is passed to each call.
 ///
@@ -23,12 +23,8 @@ use zf_cache::{Body, rows_for};
 /// cache together, and a dirty block makes room only where both lines hold one. The cache is seen as the
 /// values in its lines, a tag for each of them and three counts. A cache and the backing that it is used with
 /// fit: each line that is not empty holds a block that has it as its first or its second line, no block is in
-/// two lines, a clean line has the values that the block's code means, and the lines of each block have room
-/// for values. An empty cache fits every backing that it has room for, and each call leaves the two fitting.
-/// Values are stated at the places that exist.
-///
-/// Over fewer blocks than lines both lines of block `b` are line `b`, so `for_blocks` takes no memory for the
-/// values of those beyond.
+/// two lines, and a clean line has the values that the block's code means. An empty cache fits every backing,
+/// and each call leaves the two fitting. Values are stated at the places that exist.
 #[derive(Drop)]
 pub struct TwoWay<T, const D: usize> {
     alloc: Global,
@@ -54,30 +50,14 @@ impl<T: Lane, const D: usize> TwoWay<T, D> {
     ghost use Rattle.zf_twoway.specs.Loans.{EndsWithBlock, EndsTouched, LendsBlock};
     ghost use Rattle.zf_cache.specs.Bodies.{counts_of};
 
-    /// An empty cache of so many lines, all with room for values. `AllocError`: there was no memory for them.
+    /// An empty cache of so many lines. `AllocError`: there was no memory for them.
     pub fn new(alloc: Global, lines: u32) -> Result<TwoWay<T, D>, AllocError>
         requires dims { D ≤ 4 }
         requires count { IsLineCount lines }
         ensures empty { IfOk result (λ c. IsEmpty c lines) }
         ensures counts { IfOk result (λ c. c.counts ≡ no_counts) }
-        ensures rows { IfOk result (λ c. length c.lines ≡ lines) }
-        ensures room { IfOk result (λ c. (blocks : ℕ) → HasRoom c blocks) }
     {
-        let body = Body::new(alloc, lines, lines, block_len(D as u8))?;
-        Ok(TwoWay { alloc, body })
-    }
-
-    /// An empty cache of so many lines over a backing of so many blocks: it takes no memory for the values of
-    /// lines beyond the number of blocks. `AllocError`: there was no memory for the others.
-    pub fn for_blocks(alloc: Global, lines: u32, blocks: u64) -> Result<TwoWay<T, D>, AllocError>
-        requires dims { D ≤ 4 }
-        requires count { IsLineCount lines }
-        ensures empty { IfOk result (λ c. IsEmpty c lines) }
-        ensures counts { IfOk result (λ c. c.counts ≡ no_counts) }
-        ensures rows { IfOk result (λ c. length c.lines ≡ min lines blocks) }
-        ensures room { IfOk result (λ c. HasRoom c blocks) }
-    {
-        let body = Body::new(alloc, lines, rows_for(lines, blocks), block_len(D as u8))?;
+        let body = Body::new(alloc, lines, block_len(D as u8))?;
         Ok(TwoWay { alloc, body })
     }
 
@@ -151,14 +131,13 @@ impl<T: Lane, const D: usize> TwoWay<T, D> {
     /// Empties the cache; nothing is written.
     pub fn discard(&mut self)
         ensures empty { IsEmpty self.new (length self.old.tags) }
-        ensures rows { length self.new.lines ≡ length self.old.lines }
         ensures counts { self.new.counts ≡ self.old.counts }
     {
         self.body.discard();
     }
 
-    /// A flush, and then this number of lines, those beyond the number of blocks with no room for values. The
-    /// memory is taken first: after `AllocError` nothing has changed.
+    /// A flush, and then this number of lines. The memory is taken first: after `AllocError` nothing has
+    /// changed.
     pub fn relined<B: Backing<T>>(&mut self, back: &mut B, lines: u32) -> Result<(), AllocError>
         requires backed { Backed B.Reading (Fits T.value) D self.old back.old }
         requires count { IsLineCount lines }
@@ -167,13 +146,10 @@ impl<T: Lane, const D: usize> TwoWay<T, D> {
             ≡ relined (B.format back.old)
             (state_of T.value self.old (B.format back.old) (B.codes back.old)) lines) }
         ensures empty { OnOk result (IsEmpty self.new lines) }
-        ensures rows { OnOk result (length self.new.lines ≡ min lines (B.format back.old).blocks) }
         ensures err { OnErr result ((self.new ≡ self.old) × (B.codes back.new ≡ B.codes back.old)) }
         ensures keeps { KeepsFormat B.Reading back.old back.new }
     {
-        let blocks = back.blocks();
-        let rows = rows_for(lines, blocks);
-        let taken = Body::new(self.alloc, lines, rows, block_len(D as u8))?;
+        let taken = Body::new(self.alloc, lines, block_len(D as u8))?;
         self.body.flush::<Skewed, B>(back);
         self.body.replace(taken);
         Ok(())

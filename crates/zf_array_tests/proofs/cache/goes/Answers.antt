@@ -1,6 +1,7 @@
+use Rattle.std.proofs.Common.{length}
 use Rattle.zf_base.specs.contracts.lane.I32Lane.TheImpl.{ghosts as lane}
 use Rattle.zf_array_tests.specs.contracts.counted.CountedReadingI32.TheImpl.{ghosts as counted}
-use Rattle.zf_cache.proofs.Steps.{emptied_fits, part_written}
+use Rattle.zf_cache.proofs.Steps.{empty_fits, part_written}
 use Rattle.zf_array_tests.proofs.cache.goes.Goals as goal
 
 pub returns-after-b-lt8-3-clause-fits : goal.returns-after-b-lt8-3-clause-fits
@@ -12,4 +13,4 @@ returns-after-b-lt8-3-clause-fits g c =
 pub returns-in-Discard-clause-fits : goal.returns-in-Discard-clause-fits
 returns-in-Discard-clause-fits g c =
     let back = c.args.back.now in
-    emptied_fits lane.value (counted.format back) (counted.codes back) c.args.cache.now c.discard.new.self c.requires.fits c.discard.ensures.empty c.discard.ensures.rows
+    empty_fits lane.value (counted.format back) (counted.codes back) c.discard.new.self (length c.args.cache.now.tags) c.discard.ensures.empty

@@ -1,5 +1,5 @@
-use Rattle.std.proofs.Common.{refl}
-use Rattle.zf_cache.proofs.Steps.{emptied_fits}
+use Rattle.std.proofs.Common.{refl, length}
+use Rattle.zf_cache.proofs.Steps.{empty_fits}
 use Rattle.zf_private.proofs.Ready.{ready_after, ready_beside, own_before}
 use Rattle.zf_array_tests.proofs.private.goes.Goals as goal
 
@@ -29,7 +29,7 @@ returns-in-Flush-clause-apart g c = λ b mine own. c.requires.apart b (own_befor
 
 pub returns-in-Discard-clause-ready : goal.returns-in-Discard-clause-ready
 returns-in-Discard-clause-ready g c =
-    let fits = emptied_fits _ _ _ c.args.view.now.cache c.discard.new.self.cache c.requires.ready.fits c.discard.ensures.empty c.discard.ensures.rows in
+    let fits = empty_fits _ _ _ c.discard.new.self.cache (length c.args.view.now.cache.tags) c.discard.ensures.empty in
     ready_after _ 1 _ _ _ _ refl c.args.view.now c.discard.new.self c.requires.ready c.discard.ensures.same c.discard.ensures.whole fits
 
 pub returns-in-Discard-clause-apart : goal.returns-in-Discard-clause-apart

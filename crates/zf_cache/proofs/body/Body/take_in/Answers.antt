@@ -10,14 +10,14 @@ returns-clause-step g c =
     let d : Body g.row.T.Denot = record {
       lines = with_line a.lines l c.load.new.line;
       tags = with_item a.tags l (2 * b + 2);
-      counts = record { hits = a.counts.hits; misses = c.saturating_add-self.result; writes = a.counts.writes };
+      counts = record { hits = a.counts.hits; misses = c.risen-self.result; writes = a.counts.writes };
     } in
     let sound = c.requires.sound in
     let row = over (line_at a.lines l) c.load.new.line in
     let lt = c.requires.line.0 in
-    let long = length-over (line_at a.lines l) c.load.new.line ∙ sound.whole.size.1 l c.requires.row in
+    let long = length-over (line_at a.lines l) c.load.new.line ∙ sound.whole.size.1 l lt in
     let same = over_same (line_at a.lines l) c.load.new.line (c.load.auto.line ∙ ap length c.line_mut.ensures.value) in
     let loaded = ap (λ r. existing_of f b (map g.T.Lane.value r)) same ∙ c.load.ensures.value in
     let both = takes g.R.Rule.place g.R.Placing.may_hold g.met.R.Rule.rule g.T.Lane.value a d f (g.B.Reading.format c.load.new.self) k (g.B.Reading.codes c.load.new.self) c.load.ensures.format sound l lt b row long
-    c.requires.row c.requires.line.1 c.requires.empty c.requires.away loaded c.requires.block.0 refl refl (ap (λ n. record { hits = a.counts.hits; misses = n; writes = a.counts.writes }) c.saturating_add-self.ensures) c.load.ensures.codes in
+    c.requires.line.1 c.requires.empty c.requires.away loaded c.requires.block.0 refl refl (ap (λ n. record { hits = a.counts.hits; misses = n; writes = a.counts.writes }) c.risen-self.ensures) c.load.ensures.codes in
     record { state = both.1; fits = both.0; format = c.load.ensures.format; kept = c.load.ensures.kept }

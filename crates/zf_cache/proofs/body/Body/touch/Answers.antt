@@ -1,18 +1,18 @@
-use Rattle.std.proofs.Common.{rules, ◌<◌, refl, sym, ap, subst, ◌∙◌, ◌/◌, length}
+use Rattle.std.proofs.Common.{rules, refl, sym, ap, ◌∙◌, ◌/◌}
 use Rattle.std.proofs.lemmas.List.{get_or_default, length-set, set-set}
 use Rattle.zf_cache.specs.declared.body.Body.{Body}
-use Rattle.zf_cache.proofs.Sound.{none_in, hits_block, misses_block, comes_hitting, comes_missing}
+use Rattle.zf_cache.proofs.Sound.{row_there, none_in, hits_block, misses_block, comes_hitting, comes_missing}
 use Rattle.zf_cache.proofs.body.Body.touch.Goals as goal
 
 pub returns-then-index-b : goal.returns-then-index-b
 returns-then-index-b g c =
     let a = c.args.self.now in let f = g.B.Reading.format c.args.back.now in let k = g.B.Reading.codes c.args.back.now in let b = c.args.b in let l = c.line_of-l.result in
     let tag = get_or_default a.tags.items l 0 c.index.result.now c.line_of-l.ensures.inside ∙ sym c.index.ensures in
-    let d : Body g.row.T.Denot = record a { counts = record a.counts { hits = c.saturating_add-self.result } } in
+    let d : Body g.row.T.Denot = record a { counts = record a.counts { hits = c.risen-self.result } } in
     let half = ap (λ t. t / 2) tag ∙ c.if-index-b.true in
-    let row = subst (λ m. m < length a.lines) (sym c.line_of-l.ensures.place) (c.requires.ready.sound.fits.room a.tags.items b c.requires.ready.block.0) in
+    let row = row_there a f.block_len c.requires.ready.sound.whole l c.line_of-l.ensures.inside in
     let both = hits_block g.R.Rule.place g.R.Placing.may_hold g.met.R.Rule.rule g.T.Lane.value a d f f k k refl c.requires.ready.sound b l half refl refl
-    (ap (λ n. record { hits = n; misses = a.counts.misses; writes = a.counts.writes }) c.saturating_add-self.ensures) refl in search (rules, comes_hitting)
+    (ap (λ n. record { hits = n; misses = a.counts.misses; writes = a.counts.writes }) c.risen-self.ensures) refl in search (rules, comes_hitting)
 
 pub take_in-requires-clause-line : goal.take_in-requires-clause-line
 take_in-requires-clause-line g c = search (rules, length-set)

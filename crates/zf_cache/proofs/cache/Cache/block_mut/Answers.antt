@@ -1,9 +1,19 @@
+use Rattle.std.proofs.Common.{◌^◌, ◌<◌, arith}
+use Rattle.zf_lines.{specs.Rows.{line_at, over}, proofs.Sizes.{length-over}}
+use Rattle.zf_cache.{specs.Bodies.{IsWhole}, proofs.Sound.{whole_written}}
 use Rattle.std.proofs.Common.{refl, sym, ap, subst, ◌∙◌, length}
 use Rattle.zf_cached.specs.Placing.{direct, IsDirect}
 use Rattle.zf_cache.{specs.Bodies.{kept_of}, specs.Kept.{Kept}, specs.Loans.{LendsBlock, lent_block}}
 use Rattle.zf_cache.{specs.Rules.{one_line, one_line_rule, one_line_told}, specs.Standing.{Fits}}
 use Rattle.zf_cache.{proofs.Lent.{lends, whole}, proofs.Placed.{lent_is, loans}}
 use Rattle.zf_cache.proofs.cache.Cache.block_mut.Goals as goal
+
+pub invariant_of-self-lent : goal.invariant_of-self-lent
+invariant_of-self-lent g c =
+    let t = c.touch_for_writing-l.new.self in let l = c.touch_for_writing-l.result in let e = c.touch_for_writing-l.ensures in
+    let is : IsWhole t (4 ^ g.row.D) = subst (IsWhole t) (ap (λ q. q.block_len) e.step.format ∙ c.requires.backed.blocks.0) e.step.fits.whole in
+    let lt : l < length t.tags.items = omega (arith, e.line.row, is.size.0) in
+    λ w. (whole_written t _ (4 ^ g.row.D) l (over (line_at t.lines l) w) is lt (length-over (line_at t.lines l) w ∙ is.size.1 l lt) refl refl, c.self.invariant.1)
 
 pub returns : goal.returns
 returns g c =

@@ -1,9 +1,10 @@
-use Rattle.std.{proofs.Common.{ap, ◌∙◌, ℕ, length, min, sym}, proofs.lemmas.List.{length-replicate}}
-use Rattle.zf_base.specs.Formats.{Format}
-use Rattle.zf_cached.{specs.Changes.{relined}, specs.Placing.{IsDirect}}
+use Rattle.std.proofs.Common.{◌^◌, subst}
+use Rattle.zf_cache.specs.Bodies.{IsWhole}
+use Rattle.std.{proofs.Common.{ap, ◌∙◌, length}}
+use Rattle.zf_cached.{specs.Changes.{relined}}
 use Rattle.zf_cache.{specs.Kept.{Kept}, specs.Bodies.{kept_of, counts_of}, proofs.Lent.{reline}}
-use Rattle.zf_cache.{specs.Standing.{state_at, state_of}, specs.Rules.{one_line, one_line_rule}}
-use Rattle.zf_cache.{proofs.Rooms.{room_for_blocks}, proofs.Steps.{empty_fits}, proofs.Tags.{counts_lines}}
+use Rattle.zf_cache.{specs.Standing.{state_at, state_of}, specs.Rules.{one_line}}
+use Rattle.zf_cache.{proofs.Steps.{empty_fits}}
 use Rattle.zf_cache.proofs.cache.Cache.relined.Goals as goal
 
 pub returns-clause-keeps : goal.returns-clause-keeps
@@ -12,11 +13,9 @@ returns-clause-keeps g c = record { format = c.flush.ensures.step.format; kept =
 pub returns-clause-fits : goal.returns-clause-fits
 returns-clause-fits g c =
     let h = g.B.Reading.format c.flush.new.back in let j = g.B.Reading.codes c.flush.new.back in
-    let n = c.args.lines in let made = c.in_ok-taken.ensures in let put = c.replace.ensures in let none : ℕ = 0 in
+    let n = c.args.lines in let made = c.in_ok-taken.ensures in let put = c.replace.ensures in
     let new = kept_of c.replace.new.self in
     empty_fits g.T.Lane.value h j new n (put.tags ∙ made.empty)
-    (room_for_blocks one_line IsDirect one_line_rule new n (counts_lines n c.requires.count).0 (ap length (put.tags ∙ made.empty) ∙ length-replicate n none) h.blocks
-    (ap length put.lines ∙ made.rows_are ∙ c.rows_for-rows.ensures ∙ ap (min n) (c.blocks-blocks.ensures ∙ ap (λ (q : Format g.B.Reading.Code). q.blocks) (sym c.flush.ensures.step.format))))
 
 pub returns-clause-ok : goal.returns-clause-ok
 returns-clause-ok g c =
@@ -26,3 +25,6 @@ returns-clause-ok g c =
     reline one_line value f h j (kept_of c.flush.new.self) (kept_of c.replace.new.self)
     (length o.tags.items) c.args.lines (state_at one_line value (kept_of o) f k) e.empty (c.replace.ensures.tags ∙ c.in_ok-taken.ensures.empty) (ap counts_of c.replace.ensures.counts) e.step.state
     ∙ ap (λ (q : Kept g.row.T.Denot). relined f (state_of value q f k) c.args.lines) c.self.view_is
+
+pub invariant_of-self : goal.invariant_of-self
+invariant_of-self g c = (c.replace.ensures.whole (4 ^ g.row.D) (subst (IsWhole c.in_ok-taken.taken) c.block_len.ensures.value c.in_ok-taken.ensures.whole), c.self.invariant.1)

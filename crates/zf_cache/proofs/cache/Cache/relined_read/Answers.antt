@@ -1,11 +1,6 @@
-use Rattle.std.{proofs.Common.{ap, ◌∙◌, ℕ, length}, proofs.lemmas.List.{length-replicate}}
-use Rattle.zf_cached.specs.Placing.{IsDirect}
-use Rattle.zf_cache.{specs.Bodies.{kept_of}, specs.Rules.{one_line, one_line_rule}}
-use Rattle.zf_cache.{proofs.Rooms.{room_for_all}, proofs.Tags.{counts_lines}}
+use Rattle.std.proofs.Common.{◌^◌, subst}
+use Rattle.zf_cache.specs.Bodies.{IsWhole}
 use Rattle.zf_cache.proofs.cache.Cache.relined_read.Goals as goal
 
-pub returns-clause-room : goal.returns-clause-room
-returns-clause-room g c =
-    let n = c.args.lines in let made = c.in_ok-body.ensures in let put = c.replace.ensures in let none : ℕ = 0 in
-    room_for_all one_line IsDirect one_line_rule (kept_of c.replace.new.self) n (counts_lines n c.requires.count).0 (ap length (put.tags ∙ made.empty) ∙ length-replicate n none)
-    (ap length put.lines ∙ made.rows_are)
+pub invariant_of-self : goal.invariant_of-self
+invariant_of-self g c = (c.replace.ensures.whole (4 ^ g.row.D) (subst (IsWhole c.in_ok-body.body) c.block_len.ensures.value c.in_ok-body.ensures.whole), c.self.invariant.1)

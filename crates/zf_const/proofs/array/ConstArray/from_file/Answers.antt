@@ -10,7 +10,7 @@ use Rattle.zf_index.{specs.Spans.{Index, code_in, codes_in}, proofs.Read.{is_hea
 use Rattle.zf_index.specs.Files.{HasHeader, IsIndexOf, found, block_read, blocks_found}
 use Rattle.zf_const.{specs.Standing.{Held, values_at, open_stream}, specs.Files.{IsOpened}}
 use Rattle.zf_const.{specs.Parts.{Coded, seen, code_at, format_of, held_by}, proofs.Meaning.{found_meant}}
-use Rattle.zf_const.proofs.Standing.{clean_empty, opens, room_of}
+use Rattle.zf_const.proofs.Standing.{clean_empty, opens}
 use Rattle.zf_const.proofs.array.ConstArray.from_file.Goals as goal
 
 module _ (bytes : List ℕ) (h : Header) (i : Index) (has : HasHeader bytes h) (is : IsIndexOf bytes h i) where
@@ -55,8 +55,7 @@ invariant_of-result g c =
       dims = are.1;
       header = are.2;
       count = are.3;
-      fits = empty_fits g.T.Lane.value (format_of t) (code_at t) e n c.in_ok-cache.ensures.empty
-          (room_of t e c.blocks-blocks.result c.in_ok-cache.ensures.room (c.blocks-blocks.ensures.value ∙ ap (λ (u : Coded). blocks u.header.shape) (sym made)));
+      fits = empty_fits g.T.Lane.value (format_of t) (code_at t) e n c.in_ok-cache.ensures.empty;
       clean = clean_empty e n c.in_ok-cache.ensures.empty;
     }
 

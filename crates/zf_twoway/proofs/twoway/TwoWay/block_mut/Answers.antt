@@ -1,4 +1,4 @@
-use Rattle.std.proofs.Common.{◌^◌, refl, sym, ap, subst, ◌∙◌, length}
+use Rattle.std.proofs.Common.{◌^◌, ◌<◌, arith, refl, sym, ap, subst, ◌∙◌, length}
 use Rattle.zf_lines.{specs.Rows.{line_at, over}, proofs.Sizes.{length-over}}
 use Rattle.zf_cache.{specs.Kept.{Kept}, specs.Bodies.{IsWhole, kept_of}, proofs.Lent.{lends, whole}}
 use Rattle.zf_cache.proofs.Sound.{whole_written}
@@ -17,7 +17,8 @@ pub invariant_of-self-lent : goal.invariant_of-self-lent
 invariant_of-self-lent g c = λ w.
     let t = c.touch_for_writing-l.new.self in let e = c.touch_for_writing-l.ensures in let l = c.touch_for_writing-l.result in
     let is : IsWhole t (4 ^ g.row.D) = subst (IsWhole t) (ap (λ q. q.block_len) e.step.format ∙ c.requires.backed.blocks.0) e.step.fits.whole in
-    (whole_written t _ (4 ^ g.row.D) l (over (line_at t.lines l) w) is e.line.row (length-over (line_at t.lines l) w ∙ is.size.1 l e.line.row) refl refl, c.self.invariant.1)
+    let lt : l < length t.tags.items = omega (arith, e.line.row, is.size.0) in
+    (whole_written t _ (4 ^ g.row.D) l (over (line_at t.lines l) w) is lt (length-over (line_at t.lines l) w ∙ is.size.1 l lt) refl refl, c.self.invariant.1)
 
 pub returns : goal.returns
 returns g c =

@@ -1,3 +1,4 @@
+use Rattle.zf_cache.specs.Bodies.{IsWhole}
 use Rattle.std.proofs.Common.{◌<◌, sym, ap, subst, ◌∙◌}
 use Rattle.zf_cache.{specs.Bodies.{kept_of}, proofs.Lent.{gets}}
 use Rattle.zf_twoway.{specs.Placing.{skewed, IsOneOfTwo, skewed_rule}, proofs.Standing.{ready_of, touches}}
@@ -22,3 +23,8 @@ returns-clause-value g c =
     let h = g.B.Reading.format c.touch-l.new.back in let j = g.B.Reading.codes c.touch-l.new.back in
     let within = subst (λ n. c.args.p < n) (sym (ap (λ q. q.block_len) e.step.format ∙ c.requires.backed.blocks.0)) c.requires.place in
     gets skewed IsOneOfTwo skewed_rule value f h j (kept_of c.self.inside.body) t b c.touch-l.result e.step.format e.step.fits e.line c.args.p c.line.result.now c.index-line-p.result within c.line.ensures c.index-line-p.is
+
+pub invariant_of-self : goal.invariant_of-self
+invariant_of-self g c =
+    let t = c.touch-l.new.self in let e = c.touch-l.ensures in
+    (subst (IsWhole t) (ap (λ q. q.block_len) e.step.format ∙ c.requires.backed.blocks.0) e.step.fits.whole, c.self.invariant.1)

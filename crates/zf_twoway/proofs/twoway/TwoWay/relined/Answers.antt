@@ -1,9 +1,8 @@
-use Rattle.std.{proofs.Common.{sym, ap, ◌∙◌, ℕ, length, min}, proofs.lemmas.List.{length-replicate}}
-use Rattle.zf_base.specs.Formats.{Format}
-use Rattle.zf_cache.{specs.Kept.{Kept}, specs.Bodies.{kept_of, counts_of}, proofs.Lent.{reline}}
-use Rattle.zf_cache.{proofs.Rooms.{room_for_blocks}, proofs.Steps.{empty_fits_at}, proofs.Tags.{counts_lines}}
+use Rattle.std.{proofs.Common.{◌^◌, subst, ap, ◌∙◌, length}}
+use Rattle.zf_cache.{specs.Kept.{Kept}, specs.Bodies.{IsWhole, kept_of, counts_of}, proofs.Lent.{reline}}
+use Rattle.zf_cache.{proofs.Steps.{empty_fits_at}}
 use Rattle.zf_cached.specs.Changes.{relined}
-use Rattle.zf_twoway.{specs.Placing.{skewed, IsOneOfTwo, skewed_rule}, specs.Standing.{state_of}}
+use Rattle.zf_twoway.{specs.Placing.{skewed}, specs.Standing.{state_of}}
 use Rattle.zf_twoway.proofs.Standing.{sound_of, fits_of}
 use Rattle.zf_twoway.proofs.twoway.TwoWay.relined.Goals as goal
 
@@ -21,10 +20,11 @@ pub returns-clause-fits : goal.returns-clause-fits
 returns-clause-fits g c =
     let h = g.B.Reading.format c.flush.new.back in let j = g.B.Reading.codes c.flush.new.back in
     let new = kept_of c.replace.new.self in
-    let n = c.args.lines in let made = c.in_ok-taken.ensures in let put = c.replace.ensures in let none : ℕ = 0 in
-    fits_of g.T.Lane.value new h j (empty_fits_at skewed g.T.Lane.value h j new n (put.tags ∙ made.empty)
-    (room_for_blocks skewed IsOneOfTwo skewed_rule new n (counts_lines n c.requires.count).0 (ap length (put.tags ∙ made.empty) ∙ length-replicate n none) h.blocks
-    (ap length put.lines ∙ made.rows_are ∙ c.rows_for-rows.ensures ∙ ap (min n) (c.blocks-blocks.ensures ∙ ap (λ (q : Format g.B.Reading.Code). q.blocks) (sym c.flush.ensures.step.format)))))
+    let n = c.args.lines in let made = c.in_ok-taken.ensures in let put = c.replace.ensures in
+    fits_of g.T.Lane.value new h j (empty_fits_at skewed g.T.Lane.value h j new n (put.tags ∙ made.empty))
+
+pub invariant_of-self : goal.invariant_of-self
+invariant_of-self g c = (c.replace.ensures.whole (4 ^ g.row.D) (subst (IsWhole c.in_ok-taken.taken) c.block_len.ensures.value c.in_ok-taken.ensures.whole), c.self.invariant.1)
 
 pub returns-clause-ok : goal.returns-clause-ok
 returns-clause-ok g c =
