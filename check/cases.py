@@ -30,6 +30,8 @@ RAW = b"".join(value.to_bytes(4, "little") for value in SQUARES)
 GRAY = bytes(value % 256 for value in SQUARES)
 REVERSIBLE = made("compress int32 24x24 reversible", RAW)
 ARRAY = made("compress int32 24x24 rate 256", RAW)
+# What a killed save of the file `a` leaves.
+LEFT_OVER = ".a.zfpi-0123456789abcdef"
 # A power of two among zeros comes back exactly, so that the same script once more changes nothing.
 SCRIPT = b"set 0,0 1048576\nget 0,0\nget 5,5\nsum\n"
 REFUSED = b"get 24,24\nset 0,0 1048576\nget 9,9\nfrob\n"
@@ -46,7 +48,7 @@ COMMANDS = [
     Case("new over an old file", "new a int32 24x24 64".split(), files={"a": ARRAY, "b": b"other"}),
     Case("run", ["run", "a"], SCRIPT, {"a": ARRAY, "b": b"other"}),
     Case("run with refused lines", "run a lines 2".split(), REFUSED, {"a": ARRAY}, 1),
-    Case("run with a file left over", ["run", "a"], SCRIPT, {"a": ARRAY, ".a.new": b"left over"}),
+    Case("run with a file left over", ["run", "a"], SCRIPT, {"a": ARRAY, LEFT_OVER: ARRAY[:40]}),
     Case("run that changes nothing", "run a twoway 4".split(), b"get 3,3\nsum\n", {"a": ARRAY}),
     Case("look", ["look", "s"], b"get 0,0\nsum\nvsum\nset 0,0 1\n", {"s": REVERSIBLE}, 1),
     Case("bound", ["bound", "a", "1000"], files={"a": ARRAY}),

@@ -1,5 +1,5 @@
 #!/usr/bin/env python3
-"""Runs the program on streams that are closed, full or cut, and on files of all kinds.
+"""Runs the program on streams that are closed, full or cut, on files of all kinds, and within limits.
 
     python3 check/devices.py [PROGRAM] [--seed N] [--quick]
 
@@ -9,7 +9,6 @@ leaves out the saves of large files.
 """
 
 import contextlib
-import fcntl
 import os
 import pathlib
 import resource
@@ -19,6 +18,7 @@ import stat
 import subprocess
 import time
 
+from definition.commands import answer
 from shared import Check, error_line
 
 NOBODY = 65534
@@ -27,6 +27,12 @@ ARRAY = b"zfp\x05\x70\0\0\0\0\0\xf0\x03" + bytes(20)
 SCRIPT = b"set 0 7\nget 0\n"
 CHANGE = b"set 0 8192\n"
 LOOK = b"get 0\n"
+# What killed saves of the file `a` leave.
+LEFT_OVER = {
+    ".a.zfpi-0000000000000000": ARRAY,
+    ".a.zfpi-0123456789abcdef": ARRAY[:7],
+    ".a.zfpi-ffffffffffffffff": b"",
+}
 MOST_FILE_BYTES = 1_200_000_000
 SAVE_FAULT, LOAD_FAULT = (12, "save fault"), (12, "load fault")
 READ_FAULT, WRITE_FAULT = (10, "read fault"), (11, "write fault")
@@ -119,6 +125,16 @@ def inputs(devices):
     devices.ends("a stream ends early", "restore", (4, "header: short"), ZERO[:11], out=b"")
 
 
+def closed_where_nothing_is_read(devices):
+    """An input that is closed is no script, also in a folder that may not be read."""
+    devices.put("a", ARRAY)
+    devices.folder.chmod(0o311)
+    for words in ("run a", "look a"):
+        devices.ends("script closed", words, READ_FAULT, stdin=None, preexec_fn=closing(0), out=b"")
+    devices.folder.chmod(0o777)
+    devices.has("script closed", "a", ARRAY)
+
+
 def what_info_leaves(devices):
     """`info` reads 19 bytes and no more."""
     reader, writer = os.pipe()
@@ -193,8 +209,8 @@ def kinds_of_file(devices):
     """What else a file is, and what is left beside it."""
     for mode in (0o640, 0o600, 0o444):
         file = devices.put("a", ARRAY, mode)
-        for name in (".a.new", ".a.new00", ".a.new99"):
-            devices.put(name, b"left over", 0o600)
+        for name, data in LEFT_OVER.items():
+            devices.put(name, data, 0o600)
         devices.ends("what was left is no hindrance", "run a", GOOD, SCRIPT)
         devices.nothing_beside("what was left")
         is_kept = file.stat().st_mode & 0o7777 == mode and file.read_bytes() != ARRAY
@@ -226,24 +242,6 @@ def owners(devices):
     devices.check.expect(same and file.read_bytes() != ARRAY, "owner and group stay", ended, now)
 
 
-def locked_folder(devices):
-    """While another program has the folder locked, a save waits; after ten seconds it fails."""
-    devices.put("a", ARRAY)
-    folder = os.open(devices.folder, os.O_RDONLY)
-    fcntl.flock(folder, fcntl.LOCK_EX)
-    devices.ends("a locked folder", "run a", SAVE_FAULT, CHANGE)
-    devices.has("a locked folder", "a", ARRAY)
-    devices.nothing_beside("a locked folder")
-    run = devices.start("run a", stdin=subprocess.PIPE, stdout=subprocess.PIPE)
-    run.stdin.write(CHANGE)
-    run.stdin.close()
-    run.stdin = None
-    time.sleep(1)
-    os.close(folder)
-    _, told = finished(run, None)
-    devices.check.expect((run.returncode, told) == (0, b""), "a lock that is let go", run.returncode, told)
-
-
 def links(devices):
     """A link is followed; of two names of one file the new array has the name of the run alone."""
     below = devices.folder / "below"
@@ -266,16 +264,21 @@ def links(devices):
     devices.has("the other name", "other", ARRAY)
 
 
-def changed(devices, shows, data, ending, other):
-    """A run that has loaded `a`, and gets its script once another run has changed it."""
+def meanwhile(devices, shows, data, ending, change):
+    """A run that has loaded `a`, and gets its script once something else was done to that."""
     run = devices.start("run a", stdin=subprocess.PIPE, stdout=subprocess.PIPE)
     while run.poll() is None and not has_open(run.pid, devices.folder / "a"):
         time.sleep(0.001)
     time.sleep(0.1)
-    devices.ends("another run", "run a", GOOD, other)
+    change()
     _, told = finished(run, data)
     same = (run.returncode, told) == (ending[0], error_line(ending[1]))
     devices.check.expect(same, shows, run.returncode, told)
+
+
+def changed(devices, shows, data, ending, other):
+    """A run that has loaded `a`, and gets its script once another run has changed it."""
+    meanwhile(devices, shows, data, ending, lambda: devices.ends("another run", "run a", GOOD, other))
 
 
 def has_open(process, file):
@@ -295,20 +298,81 @@ def two_at_once(devices):
     devices.nothing_beside("two runs at once")
 
 
+def touched_in_place(devices):
+    """What was written into the file is found, also where its time was put back; another mode is no change."""
+    file = devices.put("a", ARRAY)
+    other, was = answer(["run", "a"], CHANGE, {"a": ARRAY}).files["a"], file.stat()
+
+    def write_in_place():
+        file.write_bytes(other)
+        os.utime(file, ns=(was.st_atime_ns, was.st_mtime_ns))
+
+    meanwhile(devices, "written in place", b"set 0 4096\n", SAVE_FAULT, write_in_place)
+    devices.has("written in place", "a", other)
+    meanwhile(devices, "another mode", b"set 0 4096\n", GOOD, lambda: file.chmod(0o640))
+    meanwhile(devices, "a second name", b"set 0 2048\n", GOOD, lambda: os.link(file, devices.folder / "second"))
+    devices.ends("a second name", "look a", GOOD, LOOK, out=b"2048\n")
+    devices.nothing_beside("touched in place")
+
+
 def limit_of_files(most):
-    """Lets no file grow beyond this, and has a write say so instead of ending the process."""
+    """Lets no file grow beyond this. A write that goes on there ends a process that does not look before."""
 
     def limit():
-        signal.signal(signal.SIGXFSZ, signal.SIG_IGN)
+        signal.signal(signal.SIGXFSZ, signal.SIG_DFL)
         resource.setrlimit(resource.RLIMIT_FSIZE, (most, most))
+        resource.setrlimit(resource.RLIMIT_CORE, (0, 0))
 
     return limit
+
+
+def outputs_within_limits(devices):
+    """An output beyond the limit of a file's length is a write fault, and one that is no file has none."""
+    raw = os.urandom(4 * 32768)
+    stream = devices.check.run("compress int32 32768 reversible".split(), raw).out
+    file = devices.put("o", b"")
+    for most in (0, 1, 5000, 65536, len(raw) - 1, len(raw)):
+        limited = {"preexec_fn": limit_of_files(most), "restore_signals": False}
+        shows, ending = f"files of {most} bytes", GOOD if most == len(raw) else WRITE_FAULT
+        with file.open("wb") as out:
+            devices.ends(shows, "restore", ending, stream, stdout=out, **limited)
+        devices.has(shows, "o", raw[:most])
+        devices.ends(f"{shows}, and a pipe", "restore", GOOD, stream, out=raw, **limited)
+        with open("/dev/null", "wb") as out:
+            devices.ends(f"{shows}, and a device", "restore", GOOD, stream, stdout=out, **limited)
+        file.write_bytes(bytes(most))
+        with file.open("ab") as out:
+            devices.ends(f"{shows}, and a full one", "restore", WRITE_FAULT, stream, stdout=out, **limited)
+        devices.has(shows, "o", bytes(most))
+
+
+def little_address_space(devices):
+    """Where the system gives no more memory, a run says so, or does all its work."""
+    large = "new a int32 1048576 64"
+    devices.ends("a large array", large, GOOD)
+    old = devices.folder / "a"
+    whole = old.read_bytes()
+    for most in range(3000, 12000, 500 if devices.check.quick else 50):
+
+        def limit(most=most):
+            resource.setrlimit(resource.RLIMIT_AS, (most * 1024, most * 1024))
+            resource.setrlimit(resource.RLIMIT_CORE, (0, 0))
+
+        run = devices.start("run a", stdin=subprocess.PIPE, stdout=subprocess.PIPE, preexec_fn=limit)
+        written, told = finished(run, SCRIPT)
+        # Below some size the system's loader does not come to the program, and ends with 127 or by a signal.
+        unstarted = written == b"" and not told.startswith(b"zfpi") and run.returncode != 0
+        good = (run.returncode, written) == (0, b"7\n") or run.returncode in (12, 20) and told.startswith(b"zfpi")
+        same = run.returncode == 0 or old.read_bytes() == whole
+        devices.check.expect((good or unstarted) and same, f"address space of {most} KiB", run.returncode, told)
+        if run.returncode == 0:
+            devices.put("a", whole)
 
 
 def full_places(devices):
     """Saves for which there is no room: the old file stands, and nothing is left beside it."""
     devices.put("a", ARRAY)
-    limited = {"preexec_fn": limit_of_files(10_000)}
+    limited = {"preexec_fn": limit_of_files(10_000), "restore_signals": False}
     devices.ends("no larger files", "new a int32 16384 64", SAVE_FAULT, **limited)
     devices.has("no larger files", "a", ARRAY)
     devices.nothing_beside("no larger files")
@@ -356,17 +420,25 @@ def long_files(devices):
         file.unlink()
 
 
+def lengths_beside(devices):
+    """How long the files are that saves of `a` have beside it."""
+    lengths = []
+    for entry in devices.folder.glob(".a.zfpi-*"):
+        with contextlib.suppress(OSError):
+            lengths.append(entry.stat().st_size)
+    return lengths
+
+
 def killed(devices, words, data, old):
     """Starts a command that saves a large file, and kills it while it writes. Says whether a save was cut."""
-    beside = devices.folder / ".a.new"
     run = devices.start(words, stdin=subprocess.PIPE, stdout=subprocess.PIPE)
     run.stdin.write(data)
     run.stdin.close()
-    while run.poll() is None and not (beside.exists() and beside.stat().st_size > 1 << 20):
+    while run.poll() is None and not any(length > 1 << 20 for length in lengths_beside(devices)):
         time.sleep(0.001)
     run.kill()
     run.wait()
-    cut = beside.exists()
+    cut = bool(lengths_beside(devices))
     if cut:
         devices.has("a save that is killed", "a", old)
     return cut
@@ -384,9 +456,10 @@ def large_saves(devices):
     devices.check.expect(cuts > 0, "some save was cut", cuts)
 
 
-LONG_PARTS = (locked_folder, large_saves)
+LONG_PARTS = (large_saves,)
 PARTS = (
     inputs,
+    closed_where_nothing_is_read,
     what_info_leaves,
     outputs,
     broken_pipe,
@@ -395,6 +468,9 @@ PARTS = (
     owners,
     links,
     two_at_once,
+    touched_in_place,
+    outputs_within_limits,
+    little_address_space,
     full_places,
     long_files,
 )

@@ -8,8 +8,7 @@ of the device; of reading, writing, bringing to the disk and renaming it does ma
 new file stands whole, the new one exactly where the code is 0 or 1, and nothing is left beside.
 There is one exception, which README names: the disk's error when the folder is brought to it, the
 last step of a save. A save that is killed leaves the old or the new file and at most a file beside
-it, which the next save takes away. Quick leaves out most of the calls that only look for files that
-were left over.
+it, which the next save takes away, and a claim, which hinders no save.
 """
 
 import re
@@ -29,6 +28,12 @@ ERRORS = {
     "fsync": ("EIO", "ENOSPC"),
     "fdatasync": ("EIO", "ENOSPC"),
     "rename": ("EIO", "ENOSPC"),
+    "link": ("EIO", "EPERM", "EEXIST"),
+    "symlink": ("EIO", "EPERM", "EEXIST"),
+    "getdents64": ("EIO",),
+    "getrandom": ("EIO",),
+    "prlimit64": ("EPERM",),
+    "fcntl": ("EBADF", "EMFILE"),
     "unlink": ("EACCES", "EBUSY"),
     "close": ("EIO",),
     "flock": ("ENOLCK", "EAGAIN"),
@@ -55,7 +60,9 @@ LINES = {
     12: ("load fault", "save fault"),
     20: ("out of memory",),
 }
-LEFT_OVER = re.compile(r"\.a\.new(\d\d)?")
+LEFT_OVER = re.compile(r"\.a\.zfpi(-[0-9a-f]{16}|@[0-9a-f]{32})")
+# The calls that look for what was left over and take it away, and that take away what a save made.
+TIDIES = ("openat", "statx", "flock", "unlink", "getdents64", "pread64")
 # The program's first own call: it has not looked at its words before.
 BEGINS = "rt_sigaction(SIGPIPE"
 
@@ -71,9 +78,6 @@ class Call(NamedTuple):
         """The number of the open file that it is on, if it is on one."""
         found = re.match(r"\w+\((\d+)", self.text)
         return int(found[1]) if found else None
-
-    def looks_for_left_over(self):
-        return re.search(r"\.new(0[1-9]|[1-8]\d|9[0-8])\"", self.text) is not None
 
 
 class Seen(NamedTuple):
@@ -115,8 +119,6 @@ class Faults:
         is_good = whole.ended.code == case.code and calls
         self.check.expect(is_good, f"{case.name}: ends with {case.code}", *whole)
         for call in calls:
-            if self.check.quick and call.looks_for_left_over():
-                continue
             for error in ERRORS.get(call.name, ()):
                 seen = self.run(case, f"{call.name}:error={error}:when={call.number}")
                 why = self.wrong(case, whole, call, error, seen)
@@ -137,7 +139,8 @@ class Faults:
             return None if is_same and whole.ended.out.startswith(out) else "another ending"
         if seen == whole:
             return "the error was ignored" if error in NEVER_IGNORED.get(call.name, ()) else None
-        if error == "EINTR" and call.name in AGAIN:
+        is_tidied_later = seen.ended == whole.ended and main_files(seen.files) == main_files(whole.files)
+        if error == "EINTR" and call.name in AGAIN and not is_tidied_later:
             return "it was not tried again"
         return self.wrong_fault(case, whole, call, seen)
 
@@ -146,8 +149,8 @@ class Faults:
         code, out, line = seen.ended
         if code == case.code and (out, line) == whole.ended[1:]:
             # Nothing but what is left beside may differ, where what was there could not be taken away.
-            taken = call.name in ("openat", "statx", "flock", "unlink") and ".new" in call.text
-            return None if taken and main_files(seen.files) == main_files(whole.files) else "other files"
+            is_same = call.name in TIDIES and main_files(seen.files) == main_files(whole.files)
+            return None if is_same else "other files"
         wanted = {0: 10, 1: 11}.get(call.file()) if call.name in ("read", "write") else None
         if code not in ((wanted,) if wanted else (12, 20)) or line not in map(error_line, LINES[code]):
             return "another code or line"
@@ -177,14 +180,14 @@ class Faults:
         self.check.expect(is_same and is_clean, f"{case.name}: again, after a kill at {call.text}", *again)
 
     def order(self, case):
-        """Whether a save writes, syncs, renames, and syncs the folder, in this order."""
+        """Whether a save writes, syncs, renames or links, and syncs the folder, in this order."""
         self.run(case)
-        names = ("openat", "write", "fsync", "rename")
+        names = ("openat", "write", "fsync", "rename", "link")
         texts = [call.text for call in self.calls() if call.name in names]
-        new = next((opened(text) for text in texts if "O_CREAT" in text and ".a.new" in text), None)
+        new = next((opened(text) for text in texts if "O_CREAT" in text and ".a.zfpi-" in text), None)
         folders = [opened(text) for text in texts if text.startswith('openat(AT_FDCWD, ".",')]
         folder = f"({'|'.join(folders)})"
-        sync, rename = r"fsync\({}\) += 0", r"rename\(.*\) += 0"
+        sync, rename = r"fsync\({}\) += 0", r"(rename|link)\(.*\) += 0"
         at = -1
         for step in (rf"write\({new}, ", sync.format(new), rename, sync.format(folder)):
             at = next((i for i in range(at + 1, len(texts)) if re.match(step, texts[i])), None)

@@ -5,12 +5,17 @@
  *   MOST=N           a read or a write moves at most N bytes
  *   INTERRUPTED=N    of every N reads and writes one is interrupted before it moves a byte
  *   ASKED=FILE       how often memory was asked for is written there at the end
+ *   NO_LOCKS=1       no file can be locked (ENOLCK)
+ *   STRICT_LOCKS=1   only a file that is open for writing can be locked alone (EBADF), as over NFS
+ *   NO_LINKS=1       there are no links, neither symbolic ones nor second names (EPERM)
  */
 #define _GNU_SOURCE
 #include <dlfcn.h>
 #include <errno.h>
 #include <fcntl.h>
 #include <stdlib.h>
+#include <sys/file.h>
+#include <sys/syscall.h>
 #include <unistd.h>
 
 static unsigned long number_in(const char *name, unsigned long otherwise) {
@@ -87,6 +92,30 @@ ssize_t pread64(int file, void *bytes, size_t count, off64_t at) {
 
 ssize_t pread(int file, void *bytes, size_t count, off_t at) {
     return pread64(file, bytes, count, at);
+}
+
+int flock(int file, int what) {
+    if (getenv("NO_LOCKS")) {
+        errno = ENOLCK;
+        return -1;
+    }
+    if (getenv("STRICT_LOCKS") && what & LOCK_EX && (fcntl(file, F_GETFL) & O_ACCMODE) == O_RDONLY) {
+        errno = EBADF;
+        return -1;
+    }
+    return (int)syscall(SYS_flock, file, what);
+}
+
+int symlink(const char *text, const char *name) {
+    if (!getenv("NO_LINKS")) return (int)syscall(SYS_symlinkat, text, AT_FDCWD, name);
+    errno = EPERM;
+    return -1;
+}
+
+int link(const char *old, const char *name) {
+    if (!getenv("NO_LINKS")) return (int)syscall(SYS_linkat, AT_FDCWD, old, AT_FDCWD, name, 0);
+    errno = EPERM;
+    return -1;
 }
 
 __attribute__((destructor)) static void told(void) {

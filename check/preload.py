@@ -21,10 +21,13 @@ class Preload:
         self.check.skip("all of it, since there is no C compiler (cc) that builds check/preload.c")
         return False
 
+    def settings(self, **settings):
+        """The words that are set for a program which is to run under these settings."""
+        settings = {name: str(number) for name, number in settings.items()}
+        return settings | {"LD_PRELOAD": str(self.library), "ASKED": str(self.asked)}
+
     def run(self, words, data=b"", folder=None, **settings):
         """How a run ends under these settings, and how often it asked for memory."""
-        settings = {name: str(number) for name, number in settings.items()}
-        settings |= {"LD_PRELOAD": str(self.library), "ASKED": str(self.asked)}
         self.asked.unlink(missing_ok=True)
-        ended = self.check.run(words, data, folder, env=settings)
+        ended = self.check.run(words, data, folder, env=self.settings(**settings))
         return ended, int(self.asked.read_text()) if self.asked.exists() else 0

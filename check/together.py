@@ -1,20 +1,29 @@
 #!/usr/bin/env python3
-"""Runs two and eight runs of one file at once: no change is lost, and no code lies.
+"""Runs two, four and eight runs of one file at once: no change is lost, and no code lies.
 
     python3 check/together.py [PROGRAM] [--seed N] [--quick]
 
-Some runs are killed. Each run that ends with 0 has its change in the file, each that ends with 12
-has none, and of one that is killed either may be. All add to one number, too, so that the sum tells
-whether a change was lost. Whoever only reads ends with 0.
+They are run in a folder for files of a while, in one that is kept in memory, and, where there is a C
+compiler, in one without locks, in one that locks as NFS does, and in one without links. In half of
+the rounds some runs are killed. Each run that ends with 0 has its change in the file, each that ends
+with 12 has none, and of one that is killed either may be. All add to one number, too, so that the sum
+tells whether a change was lost. Whoever only reads ends with 0.
 """
 
+import os
+import pathlib
+import re
 import subprocess
+import tempfile
 import time
 
 from definition.commands import answer
+from preload import Preload
 from shared import Check, error_line
 
-ROUNDS, QUICK_ROUNDS = 200, 25
+ROUNDS, QUICK_ROUNDS = 200, 3
+CLAIM = re.compile(r"\.a\.zfpi@[0-9a-f]{32}")
+IN_MEMORY = pathlib.Path("/dev/shm")
 # Values that come back exactly beside zeros.
 STEP = 1024
 BLOCKS = 12
@@ -24,9 +33,10 @@ NEW = f"new a int32 {4 * BLOCKS} 256"
 
 
 class Together:
-    def __init__(self, check):
+    def __init__(self, check, folder, settings):
         self.check, self.random = check, check.random
-        self.folder = check.folder()
+        self.folder, self.env = folder, {**os.environ, **settings}
+        self.number = 0
         self.zeros = answer(NEW.split(), b"", {}).files["a"]
         (self.folder / "a").write_bytes(self.zeros)
         self.held = [0] * BLOCKS
@@ -38,6 +48,7 @@ class Together:
             stdout=subprocess.PIPE,
             stderr=subprocess.PIPE,
             cwd=self.folder,
+            env=self.env,
         )
         return run, script
 
@@ -57,7 +68,7 @@ class Together:
         seen = self.check.run(["look", "a"], script, self.folder)
         return [int(text) for text in seen.out.split()] if seen.code == 0 else None
 
-    def round(self, number, runs, with_kill):
+    def round(self, what, number, runs, with_kill):
         """Some runs at once, each of which writes into a block of its own and adds to a common one."""
         value = number * STEP
         scripts = [f"set {4 * k} {value}\nadd {4 * COMMON} {STEP}\n".encode() for k in range(runs)]
@@ -69,9 +80,10 @@ class Together:
             run.stdin = None
         if with_kill:
             time.sleep(self.random.random() * 0.012)
-            started[self.random.randrange(runs)][0].kill()
+            for killed in self.random.sample(range(runs), self.random.randrange(1, runs // 2 + 1)):
+                started[killed][0].kill()
         endings = [self.ended(run, None) for run, _ in started]
-        self.judge(f"round {number} of {runs} runs", value, endings, with_kill)
+        self.judge(f"{what}: round of {runs} runs", value, endings, with_kill)
 
     def judge(self, what, value, endings, with_kill):
         values = self.values()
@@ -105,25 +117,45 @@ class Together:
         good = good and ((code, line) == (0, b"") or (code, line, file) == lost)
         self.check.expect(good, f"a run and a new file, round {number}", code, line, made)
 
-    def nothing_left(self):
-        """After one more save nothing is beside the file."""
-        self.check.run(["run", "a"], f"add {4 * COMMON} {STEP}\n".encode(), self.folder)
-        left = sorted(entry.name for entry in self.folder.iterdir())
-        self.check.expect(left == ["a"], "nothing is left beside", left)
+    def nothing_left(self, what):
+        """After one more save nothing is beside the file, but claims of runs that were killed at the end."""
+        script = f"add {4 * COMMON} {STEP}\n".encode()
+        self.check.run(["run", "a"], script, self.folder, env=self.env)
+        left = {entry.name for entry in self.folder.iterdir()}
+        claims = {name for name in left if CLAIM.fullmatch(name)}
+        spent = all(not (self.folder / name).exists() or "NO_LINKS" in self.env for name in claims)
+        self.check.expect(left - claims == {"a"} and spent, f"{what}: nothing is left beside", sorted(left))
+
+    def rounds(self, what, rounds):
+        """All rounds in this folder."""
+        for runs in (2, 4, 8):
+            for _ in range(rounds):
+                self.number += 1
+                self.round(f"{what}, {self.number}", self.number, runs, with_kill=self.number % 2 == 0)
+        if "NO_LOCKS" not in self.env:
+            self.nothing_left(what)
+        for number in range(1, rounds + 1):
+            self.with_new(number)
+
+
+def places(check):
+    """Folders of several kinds, and what is set for the program there."""
+    yield "files", check.folder(), {}
+    if IN_MEMORY.is_dir():
+        with tempfile.TemporaryDirectory(prefix="zfpi-check-", dir=IN_MEMORY) as folder:
+            yield "memory", pathlib.Path(folder), {}
+    else:
+        check.skip("a folder in memory, since there is no /dev/shm")
+    preload = Preload(check)
+    if preload.is_built():
+        for name in ("NO_LOCKS", "STRICT_LOCKS", "NO_LINKS"):
+            yield name, check.folder(), preload.settings(**{name: 1})
 
 
 def main():
     check = Check(__doc__)
-    together = Together(check)
-    rounds = QUICK_ROUNDS if check.quick else ROUNDS
-    number = 0
-    for runs in (2, 8):
-        for _ in range(rounds):
-            number += 1
-            together.round(number, runs, with_kill=number % 4 == 0)
-    together.nothing_left()
-    for number in range(1, rounds + 1):
-        together.with_new(number)
+    for what, folder, settings in places(check):
+        Together(check, folder, settings).rounds(what, QUICK_ROUNDS if check.quick else ROUNDS)
     check.end()
 
 

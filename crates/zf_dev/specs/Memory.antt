@@ -1,10 +1,11 @@
 -- Devices in memory. Their calls are numbered from 0; the number stands still at the last value of a `u64`,
 -- as counts do.
-use Rattle.std.specs.Prelude.{◌≡◌, ℕ, zero, suc, min, List, ◌++◌, length, drop}
+use Rattle.std.specs.Prelude.{◌≡◌, ℕ, zero, suc, min, Bool, List, ◌++◌, length, drop, Some, Result}
 use Rattle.std.specs.Option.{option_map}
 use Rattle.std.specs.BTreeMap.{get_by_text}
 use Rattle.zf_dev.specs.Faults.{next_count}
-use Rattle.zf_dev.specs.Shelf.{Files}
+use Rattle.zf_dev.specs.Shelf.{Files, KeepsFiles, AnswersFile, SavesWhole}
+use Rattle.zf_dev.specs.declared.faults.LoadError.{LoadError}
 use Rattle.zf_dev.specs.declared.mem_shelf.MemShelf.{MemShelf}
 
 -- a source in memory
@@ -119,3 +120,15 @@ CountsFault before now = Counts before now (next_count (shelf_faults before)) (s
 abbrev pub CountsStarved : MemShelf → MemShelf → Type 0
 CountsStarved before now = Counts before now (next_count (shelf_faults before))
     (next_count (shelf_starved before))
+
+-- a load of this name, which answered its file or an error: one more call is counted, and no file changes
+pub record Loads (before : MemShelf) (name : List ℕ) (answer : Result (List ℕ) LoadError) (now : MemShelf)
+    : Type 0 where
+  pub call : shelf_call now ≡ next_count (shelf_call before)
+  pub answered : AnswersFile (Some (shelf_files before)) name answer
+  pub files : KeepsFiles (Some (shelf_files before)) (Some (shelf_files now))
+
+-- a save of these bytes under this name: one more call is counted, and where it was not well, no file changes
+pub record Saves (before : MemShelf) (name bytes : List ℕ) (ok : Bool) (now : MemShelf) : Type 0 where
+  pub call : shelf_call now ≡ next_count (shelf_call before)
+  pub files : SavesWhole (Some (shelf_files before)) (Some (shelf_files now)) name bytes ok

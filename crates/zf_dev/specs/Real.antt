@@ -1,5 +1,8 @@
 -- What the devices over the real things hold.
-use Rattle.std.specs.Prelude.{ℕ, Bool, List, Option}
+use Rattle.std.specs.Prelude.{ℕ, Bool, true, false, List, Option, Result, Err}
+use Rattle.zf_dev.specs.Faults.{next_count}
+use Rattle.zf_dev.specs.declared.faults.LoadError.{LoadError}
+use Rattle.zf_dev.specs.declared.faults.LoadError.TheVariants.{Failed}
 use Rattle.std.specs.Io.KnownBytes.{prepend_known, append_known}
 use Rattle.zf_dev.specs.declared.real.RealSource.{RealSource}
 use Rattle.zf_dev.specs.declared.real.RealSink.{RealSink}
@@ -44,3 +47,12 @@ sink_contents contents sink = append_known (contents (sink_stream sink)) (sink_h
 -- how many loads and saves of a shelf failed
 abbrev pub shelf_faults : {R : Type 0} → RealShelf R → ℕ
 shelf_faults shelf = shelf.faults
+
+-- the count of faults after a load that answered so, and after a save
+abbrev pub count_of_load : Result (List ℕ) LoadError → ℕ → ℕ
+count_of_load (Err Failed) count = next_count count
+count_of_load answer count = count
+
+abbrev pub count_of_save : Bool → ℕ → ℕ
+count_of_save true count = count
+count_of_save false count = next_count count

@@ -1,5 +1,5 @@
 -- What a shelf holds: files by name, `Some` where the shelf exposes them, and it then goes on exposing them.
-use Rattle.std.specs.Prelude.{◌≡◌, ◌≢◌, ℕ, ◌<◌, List, length, Option, Some, None}
+use Rattle.std.specs.Prelude.{◌≡◌, ◌≢◌, ℕ, ◌<◌, List, length, Bool, true, false, Option, Some, None, Result, Ok, Err, Vec, vec_items}
 use Rattle.zf_dev.specs.declared.faults.LoadError.{LoadError}
 use Rattle.zf_dev.specs.declared.faults.LoadError.TheVariants.{Missing, Long, Failed, Memory}
 
@@ -45,3 +45,18 @@ KeepsOthers (Some before) (Some now) name = (other : List ℕ) → other ≢ nam
 pub record SavesFile (before now : Option Files) (name bytes : List ℕ) : Type 0 where
   pub saved : HasFile now name bytes
   pub others : KeepsOthers before now name
+
+-- the bytes that a load answered, or its error
+abbrev pub loaded : {Z : Type 0} → Result (Vec ℕ Z) LoadError → Result (List ℕ) LoadError
+loaded (Ok bytes) = Ok (vec_items bytes)
+loaded (Err e) = Err e
+
+-- what a load answered is the file of this name
+abbrev pub AnswersFile : Option Files → List ℕ → Result (List ℕ) LoadError → Type 0
+AnswersFile known name (Ok bytes) = HasFile known name bytes
+AnswersFile known name (Err e) = Unit {0}
+
+-- a save that was well made these bytes the file of this name, and one that was not changed no file
+abbrev pub SavesWhole : Option Files → Option Files → List ℕ → List ℕ → Bool → Type 0
+SavesWhole before now name bytes true = SavesFile before now name bytes
+SavesWhole before now name bytes false = KeepsFiles before now

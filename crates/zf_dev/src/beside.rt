@@ -1,96 +1,113 @@
-//! The files that saves write before these get their name. Each is locked while its save runs, so that one
-//! without a lock is what a killed save has left.
+//! The files that saves write before these get their name. Each has a name that is drawn, and that no command
+//! can name. It is locked while its save runs, so that one without a lock is what a killed save has left.
 
-ghost use Rattle.std.specs.Prelude.{◌≡◌, ◌≤◌, ◌<◌, length, IfOk, string_len};
+ghost use Rattle.std.specs.Prelude.{◌≡◌, ◌≤◌, ◌<◌, length};
 
+use crate::names::{number_behind, put_number};
 use std::alloc::Global;
 use std::fs::{File, Files, OpenOptions, TryLockError};
-use std::io::ErrorKind;
-use std::os::unix::fs::{MetadataExt, OpenOptionsExt};
+use std::io::{ErrorKind, Read};
+use std::os::unix::fs::{FileExt, MetadataExt, OpenOptionsExt};
+use std::random::RandomSource;
 use std::{fs, io};
 
-// How many files there may be beside one, each of another run: one without a number, and a hundred with one.
-const MOST: u8 = 101;
+// How often another name is drawn, where one is taken.
+const MOST_NAMES: u32 = 16;
+
+// How long a file whose writer is not known to be dead must lie, in seconds, until it is taken for left.
+const A_DAY: i64 = 86_400;
+
+// How much of a folder is read at once.
+const PIECE: usize = 4096;
+
+// How many pieces of a folder are read.
+const MOST_PIECES: u32 = 65_536;
 
 /// The names that a save may give to its new file, and the one that it has. With them all text is made that a
 /// save needs.
 #[derive(Drop)]
 pub(crate) struct Beside {
-    // The first name. Programs before this one used it, too, and what these left has no lock.
-    plain: String,
-    // The other names, by their last two digits.
-    numbered: String,
-    number: u8,
-    ghost digits: { 2 ≤ string_len numbered },
+    // What each of these names begins with, in its folder.
+    stem: String,
+    // The new file: its name in its folder, and its path.
+    base: String,
+    path: String,
+    // The path of what another save may have left.
+    other: String,
 }
 
 impl Beside {
-    /// The names beside the file `base` of this folder. A dot comes first, so that no command can name them.
-    pub(crate) fn new(alloc: Global, folder: &str, base: &str) -> io::Result<Beside> {
+    /// The names that begin so, in this folder.
+    pub(crate) fn new(alloc: Global, folder: &str, stem: &str) -> io::Result<Beside> {
         Ok(Beside {
-            plain: name_beside(alloc, folder, base, ".new")?,
-            numbered: name_beside(alloc, folder, base, ".new00")?,
-            number: 0,
+            stem: String::from_str(alloc, stem)?,
+            base: format!(in alloc; "{stem}0123456789abcdef")?,
+            path: format!(in alloc; "{folder}/{stem}0123456789abcdef")?,
+            other: format!(in alloc; "{folder}/{stem}0123456789abcdef")?,
         })
     }
 
-    /// The name that the new file has.
-    pub(crate) fn name(&self) -> &str {
-        if self.number == 0 {
-            self.plain.as_str()
-        } else {
-            self.numbered.as_str()
-        }
+    /// The name of the new file, in its folder.
+    pub(crate) fn base(&self) -> &str {
+        self.base.as_str()
     }
 
-    // Goes on to a name, to the first one at 0. A number is written over another, so no memory is asked for.
-    fn set(&mut self, number: u8)
-        ensures { string_len self.new.numbered ≤ string_len self.old.numbered }
-    {
-        self.number = number;
-        let digits = number.saturating_sub(1);
-        self.numbered.pop();
-        self.numbered.pop();
-        let _ = self.numbered.push(char::from(b'0' + digits / 10 % 10));
-        let _ = self.numbered.push(char::from(b'0' + digits % 10));
+    /// Its path.
+    pub(crate) fn path(&self) -> &str {
+        self.path.as_str()
     }
 
-    /// Makes a file that no other run has.
-    pub(crate) fn claim<R: Files<File = File>>(
+    /// Makes a file that is nobody else's, and locks it, where there are locks.
+    pub(crate) fn make<R: Files<File = File> + RandomSource>(
         &mut self,
         system: &R,
         mode: u32,
     ) -> io::Result<File> {
-        for number in 0..MOST {
-            self.set(number);
-            remove_left_over(system, self.name());
-            if let Some(file) = make(system, self.name(), mode)? {
+        for _ in 0..MOST_NAMES {
+            let mut drawn = [0; 8];
+            system.fill_bytes(&mut drawn)?;
+            let drawn = u64::from_le_bytes(drawn);
+            put_number(&mut self.base, drawn);
+            put_number(&mut self.path, drawn);
+            if let Some(file) = make(system, self.path.as_str(), mode)? {
                 return Ok(file);
             }
         }
         Err(io::Error::from(ErrorKind::AlreadyExists))
     }
 
-    /// Removes the new file of a save that failed.
+    /// Removes the new file of a save, where it still has its first name.
     pub(crate) fn remove<R: Files>(&self, system: &R, file: &File) {
-        remove_own(system, self.name(), file);
+        remove_own(system, self.path.as_str(), file);
     }
 
-    /// Removes what killed saves have left.
-    pub(crate) fn sweep<R: Files<File = File>>(&mut self, system: &R) {
-        for number in 0..MOST {
-            self.set(number);
-            remove_left_over(system, self.name());
+    /// Removes what killed saves of this name have left: files of the same owner with a name as it is drawn,
+    /// that begin as these bytes do, and whose lock nobody has.
+    pub(crate) fn sweep<R: Files<File = File>>(
+        &mut self,
+        system: &R,
+        folder: &str,
+        own: &File,
+        bytes: &[u8],
+    ) -> io::Result<()> {
+        let own = own.metadata()?;
+        let mut names = system.open_dir(folder)?;
+        let mut room = [0; PIECE];
+        for _ in 0..MOST_PIECES {
+            let n = names.read(&mut room)?;
+            if n == 0 {
+                break;
+            }
+            for name in room[..n.min(PIECE)].split(|byte| *byte == 0) {
+                if let Some(drawn) = number_behind(self.stem.as_str(), name) {
+                    put_number(&mut self.other, drawn);
+                    let other = self.other.as_str();
+                    let _ = remove_left_over(system, other, own.uid(), own.mtime(), bytes);
+                }
+            }
         }
+        Ok(())
     }
-}
-
-fn name_beside(alloc: Global, folder: &str, base: &str, end: &str) -> io::Result<String>
-    ensures { IfOk result (λ name. length end.now ≤ string_len name) }
-{
-    let mut name = format!(in alloc; "{folder}/.{base}")?;
-    name.push_str(end)?;
-    Ok(name)
 }
 
 // Makes a file of this name and locks it. `None` where there is one, or another save took this one for left.
@@ -117,7 +134,6 @@ fn make<R: Files<File = File>>(system: &R, name: &str, mode: u32) -> io::Result<
 }
 
 // Locks a new file. Before that it may have been taken for left: then it has lost its name, or is about to.
-// Where the system has no locks, nothing is ever taken for left.
 fn is_locked_under<R: Files>(system: &R, name: &str, file: &File) -> io::Result<bool> {
     match file.try_lock() {
         Ok(()) => has_name(system, name, file),
@@ -126,18 +142,42 @@ fn is_locked_under<R: Files>(system: &R, name: &str, file: &File) -> io::Result<
     }
 }
 
-// Removes what has this name, where it is a file and nobody has its lock. Only who has the lock of a file
-// gives its name to another one, so between the look and the removal the name stays what it was.
-fn remove_left_over<R: Files<File = File>>(system: &R, name: &str) {
-    match fs::symlink_metadata(system, name) {
-        Ok(found) if found.is_file() => {}
-        _ => return,
+/// Opens a file to be locked. Some systems over a network lock only what is open for writing.
+pub(crate) fn open_to_lock<R: Files<File = File>>(system: &R, name: &str) -> io::Result<File> {
+    OpenOptions::new().read(true).write(true).open(system, name)
+}
+
+// Removes what has this name, where it is surely what a dead save has left. Where the system has no locks, it
+// must have lain for a day.
+fn remove_left_over<R: Files<File = File>>(
+    system: &R,
+    name: &str,
+    owner: u32,
+    now: i64,
+    bytes: &[u8],
+) -> io::Result<()> {
+    let found = fs::symlink_metadata(system, name)?;
+    if !found.is_file() || found.uid() != owner {
+        return Ok(());
     }
-    if let Ok(file) = File::open(system, name)
-        && file.try_lock().is_ok()
-    {
+    let file = open_to_lock(system, name)?;
+    let is_dead = match file.try_lock() {
+        Ok(()) => true,
+        Err(TryLockError::WouldBlock) => false,
+        Err(TryLockError::Error(_)) => now.saturating_sub(found.mtime()) > A_DAY,
+    };
+    if is_dead && begins_as(&file, found.len(), bytes)? {
         remove_own(system, name, &file);
     }
+    Ok(())
+}
+
+// Whether a file of so many bytes begins as these do, as far as its first four go.
+fn begins_as(file: &File, len: u64, bytes: &[u8]) -> io::Result<bool> {
+    let mut first = [0; 4];
+    let part = &mut first[..len.min(4) as usize];
+    file.read_exact_at(part, 0)?;
+    Ok(bytes.starts_with(part))
 }
 
 // Removes this open file, where it still has this name.

@@ -1,10 +1,10 @@
 //! A shelf in memory: what a test puts in the place of the files of the current folder.
 
-ghost use Rattle.std.specs.Prelude.{◌≡◌, ◌≢◌, ℕ, ◌<◌, ◌≤◌, ◌↔◌, List, [], length, None, Some, Err, IsErr, IfOk, IfErr, IfSome, IfNone, OnOk, OnErr, Contains};
+ghost use Rattle.std.specs.Prelude.{◌≡◌, ◌≢◌, ℕ, ◌<◌, ◌≤◌, ◌↔◌, List, [], length, None, Some, Err, is_ok, IsErr, IfOk, IfErr, IfSome, IfNone, OnOk, OnErr, Contains};
 ghost use Rattle.zf_dev.specs.declared.faults.LoadError.TheVariants as loading;
 ghost use Rattle.zf_dev.specs.Faults.{HasCause, next_count};
-ghost use Rattle.zf_dev.specs.Memory.{shelf_files, shelf_fail, shelf_call, shelf_faults, shelf_starved, CountsCall, CountsFault, CountsStarved};
-ghost use Rattle.zf_dev.specs.Shelf.{HasFile, ExplainsLoad, KeepsFiles, KeepsOthers, SavesFile};
+ghost use Rattle.zf_dev.specs.Memory.{shelf_files, shelf_fail, shelf_call, shelf_faults, shelf_starved, CountsCall, CountsFault, CountsStarved, Loads, Saves};
+ghost use Rattle.zf_dev.specs.Shelf.{HasFile, ExplainsLoad, KeepsFiles, KeepsOthers, SavesFile, loaded};
 
 use crate::faults::raise;
 use crate::memory::is_failing;
@@ -92,14 +92,14 @@ impl Shelf for MemShelf {
 
     ghost faults = { λ s. shelf_faults s };
 
-    // One more call is counted, and no file changes.
-    ghost loads = { λ old new. KeepsFiles (Some (shelf_files old)) (Some (shelf_files new))
-        × (shelf_call new ≡ next_count (shelf_call old)) };
+    ghost loads = { λ old name answer new. Loads old name answer new };
 
-    // One more call is counted.
-    ghost saves = { λ old new. shelf_call new ≡ next_count (shelf_call old) };
+    ghost saves = { λ old name bytes ok new. Saves old name bytes ok new };
 
     ghost never_fails = { λ s. shelf_fail s ≡ [] };
+
+    // A save may be out of memory.
+    ghost always_saves = { λ _. ⊥ };
 
     fn load(&mut self, alloc: Global, name: &str, max: u64) -> Result<Vec<u8>, LoadError>
         ensures fails { (result ≡ Err loading.Failed) ↔ Contains (shelf_fail self.old) (shelf_call self.old) }
@@ -113,8 +113,7 @@ impl Shelf for MemShelf {
         ensures files_stay { KeepsFiles (Some (shelf_files self.old)) (Some (shelf_files self.new)) }
         ensures unchanged { result ≢ Err loading.Failed → shelf_faults self.new ≡ shelf_faults self.old }
         ensures cause { HasCause (result ≡ Err loading.Failed) (shelf_faults self.old) (shelf_faults self.new) }
-        ensures step { KeepsFiles (Some (shelf_files self.old)) (Some (shelf_files self.new))
-            × (shelf_call self.new ≡ next_count (shelf_call self.old)) }
+        ensures step { Loads self.old name.now (loaded result) self.new }
         ensures sure { shelf_fail self.old ≡ [] → (result ≢ Err loading.Failed) × (shelf_fail self.new ≡ []) }
     {
         if is_failing(&self.fail, &mut self.call, &mut self.faults) {
@@ -142,7 +141,7 @@ impl Shelf for MemShelf {
         ensures others { KeepsOthers (Some (shelf_files self.old)) (Some (shelf_files self.new)) name.now }
         ensures unchanged { OnOk result (shelf_faults self.new ≡ shelf_faults self.old) }
         ensures cause { HasCause (IsErr result) (shelf_faults self.old) (shelf_faults self.new) }
-        ensures step { shelf_call self.new ≡ next_count (shelf_call self.old) }
+        ensures step { Saves self.old name.now bytes.now (is_ok result) self.new }
         ensures sure { shelf_fail self.old ≡ [] → shelf_fail self.new ≡ [] }
     {
         if is_failing(&self.fail, &mut self.call, &mut self.faults) {

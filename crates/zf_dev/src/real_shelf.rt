@@ -5,15 +5,16 @@ ghost use Rattle.std.specs.Prelude.{◌≡◌, ◌≢◌, ◌≤◌, ◌⊎◌, 
 ghost use Rattle.std.specs.IoError.{error_kind};
 ghost use Rattle.zf_dev.specs.declared.faults.LoadError.TheVariants as loading;
 ghost use Rattle.zf_dev.specs.Faults.{next_count};
-ghost use Rattle.zf_dev.specs.Real.{shelf_faults};
+ghost use Rattle.zf_dev.specs.Real.{shelf_faults, count_of_load, count_of_save};
 
 use crate::faults::raise;
-use crate::place::{Place, Seen};
+use crate::place::Place;
 use crate::{Failed, LoadError, Shelf};
 use std::alloc::Global;
 use std::fs::{File, Files};
 use std::io;
 use std::io::{ErrorKind, Read};
+use std::random::RandomSource;
 use std::rt::{Clock, LibcRuntime};
 
 /// The files of the current folder as a shelf.
@@ -51,19 +52,19 @@ impl<R> RealShelf<R> {
     }
 }
 
-impl<R: Files<File = File> + Clock> Shelf for RealShelf<R> {
+impl<R: Files<File = File> + Clock + RandomSource> Shelf for RealShelf<R> {
     ghost files = { λ _. None };
 
     ghost faults = { λ s. shelf_faults s };
 
-    // A load or a save raises the count once at most.
-    ghost loads = { λ old new. (shelf_faults new ≡ shelf_faults old)
-        ⊎ (shelf_faults new ≡ next_count (shelf_faults old)) };
+    // A load or a save raises the count once where it fails, and else not.
+    ghost loads = { λ old name answer new. shelf_faults new ≡ count_of_load answer (shelf_faults old) };
 
-    ghost saves = { λ old new. (shelf_faults new ≡ shelf_faults old)
-        ⊎ (shelf_faults new ≡ next_count (shelf_faults old)) };
+    ghost saves = { λ old name bytes ok new. shelf_faults new ≡ count_of_save ok (shelf_faults old) };
 
     ghost never_fails = { λ _. ⊥ };
+
+    ghost always_saves = { λ _. ⊥ };
 
     fn load(&mut self, alloc: Global, name: &str, max: u64) -> Result<Vec<u8>, LoadError> {
         match read_file(alloc, &self.system, name, max, &mut self.place) {
@@ -99,7 +100,7 @@ fn counted(error: LoadError, faults: &mut u64) -> LoadError
 }
 
 // The bytes of a file, where there are at most `max`, and what lies there for the next save.
-fn read_file<R: Files<File = File>>(
+fn read_file<R: Files<File = File> + RandomSource>(
     alloc: Global,
     system: &R,
     name: &str,
@@ -138,13 +139,13 @@ fn read_at<R: Files<File = File>>(
     ensures bound { IfOk result (λ bytes. length bytes.items ≤ max) }
 {
     let Some(file) = place.open(system).map_err(load_error)? else {
-        place.see(Seen::Nothing, None);
+        place.see_nothing();
         return Err(LoadError::Missing);
     };
     // Before the first byte is read, so that a file which changes meanwhile is found changed.
     let found = file.metadata().map_err(load_error)?;
     let bytes = read_whole(alloc, &file, found.len(), max)?;
-    place.see(Seen::file(&found), Some(file));
+    place.see_file(&found, file, &bytes);
     Ok(bytes)
 }
 
@@ -185,7 +186,7 @@ fn load_error(error: io::Error) -> LoadError
 
 // Puts a new file in the place of the one of this name. A name that was not loaded needs memory for its text,
 // before anything is written; to be out of it is an error as each other one.
-fn replace_file<R: Files<File = File> + Clock>(
+fn replace_file<R: Files<File = File> + Clock + RandomSource>(
     alloc: Global,
     system: &R,
     name: &str,

@@ -1,9 +1,10 @@
 //! Files by name.
 
-ghost use Rattle.std.specs.Prelude.{◌≡◌, ◌≢◌, ℕ, ◌≤◌, List, Option, length, Err, IsOk, IsErr, IfOk, IfErr, OnOk, OnErr};
+ghost use Rattle.std.specs.Prelude.{◌≡◌, ◌≢◌, ℕ, ◌≤◌, List, Option, Result, Bool, length, is_ok, Err, IsOk, IsErr, IfOk, IfErr, OnOk, OnErr};
+ghost use Rattle.zf_dev.specs.declared.faults.LoadError.{LoadError};
 ghost use Rattle.zf_dev.specs.declared.faults.LoadError.TheVariants as loading;
 ghost use Rattle.zf_dev.specs.Faults.{HasCause};
-ghost use Rattle.zf_dev.specs.Shelf.{Files, HasFile, ExplainsLoad, KeepsFiles, KeepsOthers, SavesFile};
+ghost use Rattle.zf_dev.specs.Shelf.{Files, HasFile, ExplainsLoad, KeepsFiles, KeepsOthers, SavesFile, loaded};
 
 use crate::{Failed, LoadError};
 use std::alloc::Global;
@@ -16,14 +17,17 @@ pub trait Shelf {
     /// How many faults there were. It stands still at the last value of a `u64`.
     ghost faults: { Self → ℕ };
 
-    /// A load led from the one state to the other.
-    ghost loads: { Self → Self → Type 0 };
+    /// A load of this name led from the one state to the other, and answered these bytes, or this error.
+    ghost loads: { Self → List ℕ → Result (List ℕ) LoadError → Self → Type 0 };
 
-    /// A save led from the one state to the other.
-    ghost saves: { Self → Self → Type 0 };
+    /// A save under this name, of these bytes, led from the one state to the other, and was well or not.
+    ghost saves: { Self → List ℕ → List ℕ → Bool → Self → Type 0 };
 
     /// No load fails from here on.
     ghost never_fails: { Self → Type 0 };
+
+    /// No save fails from here on.
+    ghost always_saves: { Self → Type 0 };
 
     /// The bytes of the file of this name, where it has at most `max` bytes. No file changes.
     ///
@@ -36,8 +40,9 @@ pub trait Shelf {
         ensures files_stay { KeepsFiles (files self.old) (files self.new) }
         ensures unchanged { result ≢ Err loading.Failed → faults self.new ≡ faults self.old }
         ensures cause { HasCause (result ≡ Err loading.Failed) (faults self.old) (faults self.new) }
-        ensures step { loads self.old self.new }
-        ensures sure { never_fails self.old → (result ≢ Err loading.Failed) × never_fails self.new };
+        ensures step { loads self.old name.now (loaded result) self.new }
+        ensures sure { never_fails self.old → (result ≢ Err loading.Failed) × never_fails self.new }
+        ensures sure_saves { always_saves self.old → always_saves self.new };
 
     /// Makes `bytes` the file of this name, in place of what it held. `Failed`: the shelf failed and has
     /// counted it; nothing is known of that name then, and other files stay.
@@ -46,6 +51,7 @@ pub trait Shelf {
         ensures others { KeepsOthers (files self.old) (files self.new) name.now }
         ensures unchanged { OnOk result (faults self.new ≡ faults self.old) }
         ensures cause { HasCause (IsErr result) (faults self.old) (faults self.new) }
-        ensures step { saves self.old self.new }
-        ensures sure { never_fails self.old → never_fails self.new };
+        ensures step { saves self.old name.now bytes.now (is_ok result) self.new }
+        ensures sure { never_fails self.old → never_fails self.new }
+        ensures sure_saves { always_saves self.old → IsOk result × always_saves self.new };
 }

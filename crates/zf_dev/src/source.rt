@@ -1,6 +1,6 @@
 //! Where bytes come from.
 
-ghost use Rattle.std.specs.Prelude.{◌≡◌, ℕ, ◌<◌, ◌≤◌, List, [], Option, length, take, drop, IsOk, IsErr, IfOk, OnOk, OnErr};
+ghost use Rattle.std.specs.Prelude.{◌≡◌, ℕ, ◌<◌, ◌≤◌, Bool, true, List, [], Option, length, take, drop, IsOk, IsErr, IfOk, OnOk, OnErr};
 ghost use Rattle.zf_dev.specs.Faults.{HasCause};
 ghost use Rattle.zf_dev.specs.Source.{Takes, Gives, EndsAt, SeesEnd};
 
@@ -17,6 +17,10 @@ pub trait Source {
     /// These may be all the bytes that it gave so far. By default it says nothing: then `contents` alone
     /// tells.
     ghost gave: { Self → List ℕ → Type 0 } = { λ _ _. Unit {0} };
+
+    /// Whether a read gave no byte, and none gave one since, as far as that is told. By default it says
+    /// nothing.
+    ghost ended: { Self → Bool } = { λ _. true };
 
     /// How many faults there were. It stands still at the last value of a `u64`.
     ghost faults: { Self → ℕ };
@@ -38,6 +42,7 @@ pub trait Source {
         ensures taken { IfOk result (λ n. Takes (contents self.old) (contents self.new) (take n buf.new)) }
         ensures rest { IfOk result (λ n. drop n buf.new ≡ drop n buf.old) }
         ensures end { IfOk result (λ n. EndsAt (contents self.old) (contents self.new) n) }
+        ensures ended { IfOk result (λ n. n ≡ 0 → ended self.new ≡ true) }
         ensures untaken { OnErr result (Takes (contents self.old) (contents self.new) []) }
         ensures gave { IfOk result (λ n. Gives (gave self.old) (gave self.new) (take n buf.new)) }
         ensures ungiven { OnErr result (Gives (gave self.old) (gave self.new) []) }
@@ -53,6 +58,7 @@ pub trait Source {
     fn read_ahead(&mut self)
         ensures contents_stay { contents self.new ≡ contents self.old }
         ensures ungiven { Gives (gave self.old) (gave self.new) [] }
+        ensures still_ended { ended self.old ≡ true → ended self.new ≡ true }
         ensures unseen { ends_seen self.new ≤ ends_seen self.old }
         ensures faults_stay { faults self.new ≡ faults self.old }
         ensures kept { kept self.new ≡ kept self.old }

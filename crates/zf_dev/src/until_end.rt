@@ -1,8 +1,8 @@
 //! A source that is not read behind its end.
 
-ghost use Rattle.std.specs.Prelude.{◌≡◌, ℕ, ◌+◌, ◌<◌, ◌≤◌, [], length, take, drop, IsTrue, IsOk, IsErr, IfOk, OnOk, OnErr};
+ghost use Rattle.std.specs.Prelude.{◌≡◌, ℕ, ◌+◌, ◌<◌, ◌≤◌, true, [], length, take, drop, IsTrue, IsOk, IsErr, IfOk, OnOk, OnErr};
 ghost use Rattle.std.specs.Coded.{→_prop};
-ghost use Rattle.zf_dev.specs.Facts.{IsAtEnd-prop};
+ghost use Rattle.zf_dev.specs.Facts.{IsAtEnd-prop, is_true-prop};
 ghost use Rattle.zf_dev.specs.Faults.{HasCause};
 ghost use Rattle.zf_dev.specs.Source.{Takes, Gives, IsAtEnd, EndsAt, SeesEnd};
 
@@ -28,6 +28,7 @@ pub struct UntilEnd<'a, S: Source, K: Begun> {
     pub ended: bool,
     pub begun: PhantomData<K>,
     pub ghost at_end: { IsTrue ended → IsAtEnd (S.contents src.now) } by { →_prop (IsAtEnd-prop (S.contents src.now)) },
+    pub ghost known: { IsTrue ended → S.ended src.now ≡ true } by { →_prop (is_true-prop (S.ended src.now)) },
     pub ghost once: { S.ends_seen src.now ≤ K.ends_seen + 1 },
     pub ghost none: { ¬ IsTrue ended → S.ends_seen src.now ≤ K.ends_seen },
 }
@@ -40,6 +41,8 @@ impl<'a, S: Source, K: Begun> Source for UntilEnd<'a, S, K> {
     ghost contents = { λ u. S.contents u.src.now };
 
     ghost gave = { λ u. S.gave u.src.now };
+
+    ghost ended = { λ u. S.ended u.src.now };
 
     ghost faults = { λ u. S.faults u.src.now };
 
@@ -62,13 +65,16 @@ impl<'a, S: Source, K: Begun> Source for UntilEnd<'a, S, K> {
 fn read_on<S: Source>(src: &mut S, ended: &mut bool, buf: &mut [u8]) -> Result<usize, Failed>
     requires room { 0 < length buf.old }
     requires at_end { IsTrue ended.old → IsAtEnd (S.contents src.old) }
+    requires known { IsTrue ended.old → S.ended src.old ≡ true }
     ensures at_end { IsTrue ended.new → IsAtEnd (S.contents src.new) }
+    ensures known { IsTrue ended.new → S.ended src.new ≡ true }
     ensures once { (start : ℕ) → SeesEnd (IsTrue ended.old) start (S.ends_seen src.old)
         → SeesEnd (IsTrue ended.new) start (S.ends_seen src.new) }
     ensures bound { IfOk result (λ n. n ≤ length buf.old) }
     ensures taken { IfOk result (λ n. Takes (S.contents src.old) (S.contents src.new) (take n buf.new)) }
     ensures rest { IfOk result (λ n. drop n buf.new ≡ drop n buf.old) }
     ensures end { IfOk result (λ n. EndsAt (S.contents src.old) (S.contents src.new) n) }
+    ensures ended { IfOk result (λ n. n ≡ 0 → S.ended src.new ≡ true) }
     ensures untaken { OnErr result (Takes (S.contents src.old) (S.contents src.new) []) }
     ensures gave { IfOk result (λ n. Gives (S.gave src.old) (S.gave src.new) (take n buf.new)) }
     ensures ungiven { OnErr result (Gives (S.gave src.old) (S.gave src.new) []) }

@@ -1,6 +1,6 @@
 //! A source read until there is no more room, and one read to its end.
 
-ghost use Rattle.std.specs.Prelude.{◌≡◌, ◌≢◌, ◌≤◌, length, Err, IsOk, IfOk, OnOk, ◌<◌, take, drop, OnErr};
+ghost use Rattle.std.specs.Prelude.{◌≡◌, ◌≢◌, ◌≤◌, true, length, Err, IsOk, IfOk, OnOk, ◌<◌, take, drop, OnErr};
 ghost use Rattle.zf_dev.specs.declared.faults.TakeError.TheVariants as taking;
 ghost use Rattle.zf_dev.specs.Devices.{AsksSource, Reads};
 ghost use Rattle.zf_dev.specs.Source.{Takes, TakesSome, TakesMoreThan, IsAtEnd, SeesEnd, TakesAtMost, Gives, GivesSome, IsFill};
@@ -21,6 +21,7 @@ pub fn fill<S: Source>(src: &mut S, buf: &mut [u8]) -> Result<usize, Failed>
     ensures rest { IfOk result (λ n. drop n buf.new ≡ drop n buf.old) }
     ensures filled { IfOk result (λ n. IsFill (S.contents src.old) (length buf.old) n) }
     ensures end { IfOk result (λ n. n < length buf.old → IsAtEnd (S.contents src.new)) }
+    ensures ended { IfOk result (λ n. n < length buf.old → S.ended src.new ≡ true) }
     // After a fault, some of the next bytes are gone, at most as many as there was room for.
     ensures lost { OnErr result (TakesAtMost (S.contents src.old) (S.contents src.new) (length buf.old)) }
     ensures gave { IfOk result (λ n. Gives (S.gave src.old) (S.gave src.new) (take n buf.new)) }
@@ -47,7 +48,9 @@ pub fn fill<S: Source>(src: &mut S, buf: &mut [u8]) -> Result<usize, Failed>
 /// bytes, maybe none, are taken then.
 pub fn take_all<S: Source>(alloc: Global, src: &mut S, max: u64) -> Result<Vec<u8>, TakeError>
     ensures ok { IfOk result (λ bytes. Takes (S.contents src.old) (S.contents src.new) bytes.items) }
+    ensures gave { IfOk result (λ bytes. Gives (S.gave src.old) (S.gave src.new) bytes.items) }
     ensures end { OnOk result (IsAtEnd (S.contents src.new)) }
+    ensures ended { OnOk result (S.ended src.new ≡ true) }
     ensures bound { IfOk result (λ bytes. length bytes.items ≤ max) }
     ensures long { result ≡ Err taking.Long → TakesMoreThan (S.contents src.old) (S.contents src.new) max }
     // After an error too, what is gone was the next to come.
@@ -64,7 +67,9 @@ pub fn take_all<S: Source>(alloc: Global, src: &mut S, max: u64) -> Result<Vec<u
 // Takes all piece by piece.
 fn take_pieces<S: Source>(alloc: Global, src: &mut S, max: u64) -> Result<Vec<u8>, TakeError>
     ensures ok { IfOk result (λ bytes. Takes (S.contents src.old) (S.contents src.new) bytes.items) }
+    ensures gave { IfOk result (λ bytes. Gives (S.gave src.old) (S.gave src.new) bytes.items) }
     ensures end { OnOk result (IsAtEnd (S.contents src.new)) }
+    ensures ended { OnOk result (S.ended src.new ≡ true) }
     ensures bound { IfOk result (λ bytes. length bytes.items ≤ max) }
     ensures long { result ≡ Err taking.Long → TakesMoreThan (S.contents src.old) (S.contents src.new) max }
     ensures taken { TakesSome (S.contents src.old) (S.contents src.new) }

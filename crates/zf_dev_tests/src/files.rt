@@ -92,8 +92,7 @@ fn out_of_memory_is_told_apart(rt: HostRuntime) -> Result<(), Fail> {
     Ok(())
 }
 
-// In a folder of its own, since a save waits for the lock of the folder, and who runs the test may have that
-// of this one.
+// In a folder of its own, which can be removed where nothing is left in it.
 static SAVED: [Step; 7] = [
     Step::Load("shelf-a/a", 9, Err(LoadError::Missing)),
     Step::Save("shelf-a/a", b"first", Ok(())),
@@ -109,7 +108,7 @@ fn a_real_shelf_loads_and_saves_files(rt: HostRuntime) -> Result<(), Fail> {
     fs::create_dir(&rt, "shelf-a")?;
     let mut shelf = RealShelf::new(rt.alloc(), &rt);
     assert!(rt; are_answered(rt.alloc(), &mut shelf, &SAVED));
-    assert!(rt; shelf.faults() == 0 && !fs::exists(&rt, "shelf-a/.a.new")?);
+    assert!(rt; shelf.faults() == 0);
     fs::remove_file(&rt, "shelf-a/a")?;
     fs::remove_dir(&rt, "shelf-a")?;
     Ok(())

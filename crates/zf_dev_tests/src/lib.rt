@@ -8,4 +8,6 @@ mod files;
 #[cfg(test)]
 mod held;
 #[cfg(test)]
+mod logged;
+#[cfg(test)]
 mod shelf;

@@ -54,7 +54,7 @@ LengthSays wanted bytes (Err (faults.RawShort k)) = (length bytes ≡ k) × (len
 LengthSays wanted bytes (Err faults.RawLong) = wanted < length bytes
 LengthSays wanted bytes (Err e) = ⊥
 
-length_says : (wanted : ℕ) (bytes : List ℕ) (r : Result (Unit {0}) StreamFault) → length_answer wanted bytes ≡ r → LengthSays wanted bytes r
+pub length_says : (wanted : ℕ) (bytes : List ℕ) (r : Result (Unit {0}) StreamFault) → length_answer wanted bytes ≡ r → LengthSays wanted bytes r
 length_says wanted bytes r is = search (rules, cases_lt, short_answer, long_answer, good_answer)
 
 -- a refusal of int32 bytes as one of the narrow bytes
@@ -121,7 +121,7 @@ module _ (n : Narrow) (h : Header) (int32 : h.ty ≡ I32) (spent : Bool) (pendin
   WasGiven raw = IsGiven n h pending taken (zeros_given spent half) raw
 
   -- where as many int32 bytes were given as the array has, as many narrow ones were read
-  whole_read : (raw : List ℕ) → length half < size_of n → length taken % size_of n ≡ 0 → length pending ≤ 3 → (IsTrue spent → pending ≡ []) → WasGiven raw → length raw ≡ raw_len h → length taken ≡ narrow_len n h
+  pub whole_read : (raw : List ℕ) → length half < size_of n → length taken % size_of n ≡ 0 → length pending ≤ 3 → (IsTrue spent → pending ≡ []) → WasGiven raw → length raw ≡ raw_len h → length taken ≡ narrow_len n h
   whole_read raw less whole few all given long =
       let z = zeros_given spent half in
       let counts = simp (length-append, length-promoted_bytes, length-replicate) at (ap length given) in search (rules, count_given, raw_len-int32)
@@ -181,15 +181,15 @@ module _ (n : Narrow) {known now : Option (List ℕ)} (old new : Promotion) (r :
   exposed_new : exposed new now ≡ exposed_by n new.spent (drop new.at new.value) (listed new.half) now
   exposed_new = ap (λ m. exposed_by m new.spent (drop new.at new.value) (listed new.half) now) r.same
 
-  promotes : Promotes n known now new.spent (drop new.at new.value) (listed new.half) new.taken.bytes
+  pub promotes : Promotes n known now new.spent (drop new.at new.value) (listed new.half) new.taken.bytes
   promotes = search (rules, length-drop, drop_all)
 
   -- nothing was given before
-  none_given : HasGiven old []
+  pub none_given : HasGiven old []
   none_given = search (rules, drop_all, append-nil)
 
   -- what was given since then
-  given_by : (h : Header) (raw : List ℕ) → Gives (HasGiven old) (HasGiven new) raw → IsGiven n h (drop new.at new.value) new.taken.bytes (zeros_given new.spent (listed new.half)) raw
+  pub given_by : (h : Header) (raw : List ℕ) → Gives (HasGiven old) (HasGiven new) raw → IsGiven n h (drop new.at new.value) new.taken.bytes (zeros_given new.spent (listed new.half)) raw
   given_by h raw gives = rw (← r.same) (gives.goes_on [] none_given)
 
   run_compresses : (h : Header) (out0 out1 : Option (List ℕ)) → h.ty ≡ I32 → Finishes (compress_answer h) (stream_text h) (exposed old known) (exposed new now) out0 out1

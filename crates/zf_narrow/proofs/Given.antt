@@ -1,5 +1,5 @@
 -- One read of a promotion, as the log of what was given sees it.
-use Rattle.std.proofs.Common.{rules, ◌≡◌, refl, ℕ, ◌<◌, Bool, true, false, IsTrue, List, ◌++◌, length, drop, replicate, Option, append_assoc, append-nil, arith}
+use Rattle.std.proofs.Common.{rules, ◌≡◌, refl, ap, ◌∙◌, ℕ, ◌<◌, Bool, true, false, IsTrue, List, ◌++◌, length, drop, replicate, Option, append_assoc, append-nil, arith}
 use Rattle.std.{specs.Prelude.{◌↔◌}, proofs.lemmas.List.{drop_all, nil_from_length}, proofs.lemmas.Bool.{false_from_ne_true}}
 use Rattle.zf_dev.specs.Source.{Gives, IsAtEnd}
 use Rattle.zf_narrow.{specs.declared.promotion.Promotion.{Promotion}, specs.RawNarrow.{promoted_bytes}}
@@ -19,7 +19,7 @@ no_zeros p unspent = search (rules, false_from_ne_true, append-nil)
 none_pending : (p : Promotion) (s : List ℕ) → p.at ≡ 4 → length p.value ≡ 4 → s ++ drop p.at p.value ≡ s
 none_pending p s all four = search (rules, drop_all, append-nil)
 
-module _ (old mid : Promotion) (before now : Option (List ℕ)) (raw : List ℕ) (idle : IsIdle old) (four : length old.value ≡ 4) (takes : TakesRaw old mid before now raw) where
+module _ (old mid : Promotion) (before now : Option (List ℕ)) (told : List ℕ → Type 0) (raw : List ℕ) (idle : IsIdle old) (four : length old.value ≡ 4) (takes : TakesRaw old mid before now told raw) where
   whole_given : (s : List ℕ) → HasGiven old s → s ++ raw ≡ all_bytes mid
   unfolding all_bytes
   whole_given s has = search (rules, none_pending, no_zeros, promoted_bytes-append)
@@ -27,7 +27,10 @@ module _ (old mid : Promotion) (before now : Option (List ℕ)) (raw : List ℕ)
   -- all of them were given
   pub gives_all : GivesRaw old mid before now raw
   unfolding all_bytes
-  gives_all = search (rules, all_gone, none_pending, whole_given)
+  gives_all = record {
+    gone = all_gone old mid before now told raw idle four takes;
+    gave = record { goes_on = λ s has. none_pending mid (s ++ raw) takes.idle.all_given (ap length takes.kept ∙ four) ∙ whole_given s has };
+  }
 
   -- the first of them were given
   pub gives_first : (first value : List ℕ) (at : ℕ) → raw ≡ first ++ drop at value
@@ -42,7 +45,7 @@ module _ (old mid : Promotion) (before now : Option (List ℕ)) (raw : List ℕ)
       let zeros : bytes ≡ replicate (zeros_given new.spent (listed new.half)) 0 = cc (gives.given_are, by new.spent gives.spent, gives.half) in
       let p = promoted_bytes mid.narrow mid.taken.bytes in
       let all : p ≡ promoted_bytes new.narrow new.taken.bytes = cc (gives.same_type, gives.taken) in
-      let gone = half_gone old mid new before now raw bytes count idle four takes none end gives in
+      let gone = half_gone old mid new before now told raw bytes count idle four takes none end gives in
       search (rules, append-nil, nil_from_length, whole_given, no_zeros, none_pending)
     where
       by : (b : Bool) → IsTrue b ↔ (0 < count) → length (listed mid.half) ≡ zeros_given b (listed mid.half)

@@ -11,6 +11,8 @@
 --     Given      one read of a promotion, as the log of what was given sees it
 --     Giving     what a source that promotes has given, of what it has read
 --     Compressed how a compression of narrow values ends
+--     ZeroBytes  the first bytes of values that stand for narrow ones
+--     GivenNarrow  how it ends, told of what the source says that it gave
 --     Restored   how a restoration of narrow values ends
 --     StreamsBack  streams of narrow values, there and back
 pub mod OneMore
@@ -25,5 +27,7 @@ pub mod RoundTrip
 pub mod Given
 pub mod Giving
 pub mod Compressed
+pub mod ZeroBytes
+pub mod GivenNarrow
 pub mod Restored
 pub mod StreamsBack

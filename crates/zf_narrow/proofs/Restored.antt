@@ -12,13 +12,14 @@ use Rattle.zf_parse.specs.Parsing.{header_of, restore_answer, restored_text}
 use Rattle.zf_parse.proofs.Enough.{length-restored_text}
 use Rattle.zf_parse.specs.declared.fault.StreamFault.TheVariants as faults
 use Rattle.zf_stream.{specs.Outcomes.{Answers, LeavesPrefix}}
-use Rattle.zf_stream.specs.Typed.{answer_of_types, typed_answer, CanRefuseTyped, RestoresTyped, HasOtherType, RestoredWhere}
+use Rattle.zf_stream.specs.Typed.{answer_of_types, typed_answer, CanRefuseTyped, RestoresTyped, HasOtherType, RestoredWhere, RestoredWhereGiven}
 use Rattle.zf_stream.specs.Outcomes as outcomes
+use Rattle.zf_stream.proofs.GoodText.{good_text}
 use Rattle.zf_narrow.{specs.declared.narrow.Narrow.{Narrow}, specs.declared.fault.NarrowFault.{NarrowFault}}
 use Rattle.zf_narrow.specs.declared.fault.NarrowFault.TheVariants.{NotNarrow, Stream}
 use Rattle.zf_narrow.{specs.declared.demotion.Demotion.{Demotion}, specs.RawNarrow.{demoted_bytes}}
 use Rattle.zf_narrow.{specs.Promoting.{listed}, proofs.Whole.{demoted_bytes-append}}
-use Rattle.zf_narrow.specs.Texts.{answer_behind, restore_narrow_answer, IsFromOutside, AnswersNarrow, CanRefuseNarrow, RestoresNarrow, LeavesNarrowPrefix, RestoredNarrow}
+use Rattle.zf_narrow.specs.Texts.{answer_behind, restore_narrow_answer, IsFromOutside, AnswersNarrow, CanRefuseNarrow, RestoresNarrow, LeavesNarrowPrefix, RestoredNarrow, RestoredNarrowGiven}
 
 -- ---- answers
 
@@ -85,7 +86,20 @@ pub demotes : (n m : Narrow) (first start now : Option (List ℕ)) (d : Demotion
     → Demotes n start now d.given.bytes (listed d.owed) d.taken.bytes (take d.held d.value)
 demotes n m first start now d same narrow begins written = search (rules, length-take)
 
+-- a good stream of int32 is a good one
+good_of_typed : (bytes : List ℕ) → typed_answer I32 bytes ≡ Ok true → restore_answer bytes ≡ Ok tt
+good_of_typed bytes good = by (header_fault bytes) (header_of bytes).ty (restore_answer bytes) good
+  where
+    by : (fault : Option HeaderFault) (ty : Ty) (answer : Result (Unit {0}) StreamFault) → header_or fault (answer_of_types I32 ty answer) ≡ Ok true → answer ≡ Ok tt
+    by (Some f) ty answer is = absurd (cc)
+    by None I32 (Ok u) is = refl
+    by None I32 (Err e) is = absurd (cc)
+    by None I64 answer is = absurd (cc)
+
 -- the same restoration, told of the same result and bytes by other names
+pub given_as : (gives : List ℕ → Type 0) {r q : Result Bool StreamFault} {xs ys zs ws : List ℕ} → r ≡ q → xs ≡ ys → zs ≡ ws → RestoredWhereGiven I32 r gives (Some xs) (Some zs) → RestoredWhereGiven I32 q gives (Some ys) (Some ws)
+given_as gives e f g = subst (λ (t : Result Bool StreamFault × List ℕ × List ℕ). RestoredWhereGiven I32 t.0 gives (Some t.1) (Some t.2)) (λ i. (e i, f i, g i))
+
 pub restored_as : (src now : Option (List ℕ)) {r q : Result Bool StreamFault} {xs ys zs ws : List ℕ} → r ≡ q → xs ≡ ys → zs ≡ ws → RestoredWhere I32 r src now (Some xs) (Some zs) → RestoredWhere I32 q src now (Some ys) (Some ws)
 restored_as src now e f g = subst (λ (t : Result Bool StreamFault × List ℕ × List ℕ). RestoredWhere I32 t.0 src now (Some t.1) (Some t.2)) (λ i. (e i, f i, g i))
 
@@ -135,3 +149,49 @@ module _ (n : Narrow) {start now : Option (List ℕ)} {given owed taken part : L
     -- it was refused
     pub ends_refused : (e : StreamFault) → RestoredWhere I32 (Err e) src0 src1 (Some []) (Some (taken ++ part)) → RestoredNarrow n (Err (Stream e)) src0 src1 start now
     ends_refused e done = search (rules, narrow_answers, fault_possible, leaves, nothing_written)
+
+  -- ---- of what the source says that it gave
+
+  module _ {gives : List ℕ → Type 0} where
+    -- all of it was restored, and no byte is owed
+    pub given_good : owed ≡ [] → RestoredWhereGiven I32 (Ok true) gives (Some []) (Some (taken ++ part)) → RestoredNarrowGiven n (Ok tt) gives start now
+    given_good none done =
+        let w = done.ok in
+        record {
+          ok = record { bytes = w.bytes; given = w.given; good = sym (answer_is w.bytes) ∙ ap narrow_of w.good; written = all_written (restored_text w.bytes) none w.written (whole_text w.bytes) };
+          refused = tt;
+          err = tt;
+        }
+
+    -- the byte that is owed was not written
+    pub given_unsettled : RestoredWhereGiven I32 (Ok true) gives (Some []) (Some (taken ++ part)) → RestoredNarrowGiven n (Err (Stream faults.Write)) gives start now
+    given_unsettled done =
+        let w = done.ok in
+        let text = restored_text w.bytes in
+        let prefix = prefix_written text (AppendsPrefix-all (Some []) (Some (taken ++ part)) text w.written) in
+        record {
+          ok = tt;
+          refused = inr (inr (inl refl));
+          err = record { bytes = w.bytes; lost = []; given = rw (append-nil w.bytes) w.given; written = λ rest. rw (good_text w.bytes rest (good_of_typed w.bytes w.good)) prefix };
+        }
+
+    -- its values are of the other type
+    pub given_other : RestoredWhereGiven I32 (Ok false) gives (Some []) (Some (taken ++ part)) → RestoredNarrowGiven n (Err NotNarrow) gives start now
+    given_other done =
+        let w = done.ok in
+        let none = nothing_written (same_Some (taken ++ part) [] w.unwritten) in
+        record {
+          ok = tt;
+          refused = inl (w.bytes, (w.given, sym (answer_is w.bytes) ∙ ap narrow_of w.other));
+          err = record { bytes = []; lost = w.bytes; given = w.given; written = λ rest. (0, omega arith, none) };
+        }
+
+    -- it was refused
+    pub given_refused : (e : StreamFault) → RestoredWhereGiven I32 (Err e) gives (Some []) (Some (taken ++ part)) → RestoredNarrowGiven n (Err (Stream e)) gives start now
+    given_refused e done =
+        let w = done.err in
+        record {
+          ok = tt;
+          refused = ⊎_elim (λ is. inl (is.0, (is.1.0, sym (answer_is is.0) ∙ ap narrow_of is.1.1))) (λ out. inr out) done.refused;
+          err = record { bytes = w.bytes; lost = w.lost; given = w.given; written = λ rest. prefix_written (restored_text (w.bytes ++ rest)) (w.written rest) };
+        }

@@ -19,20 +19,20 @@ values_then n half half_now values bytes left rest taken parts whole =
     cc (taken, read, parts, append_assoc values half_now rest, promoted_all-append n values (half_now ++ rest) whole)
 
 -- whole values were read, of whose bytes the first were given and the rest are pending
-pub values_given : (n : Narrow) (before now : Option (List ℕ)) (half half_now values first pending : List ℕ) → TakesValues n before now half half_now values → promoted_bytes n values ≡ first ++ pending
+pub values_given : (n : Narrow) (before now : Option (List ℕ)) (gives : List ℕ → Type 0) (half half_now values first pending : List ℕ) → TakesValues n before now gives half half_now values → promoted_bytes n values ≡ first ++ pending
     → Takes (exposed_by n false [] half before) (exposed_by n false pending half_now now) first
-values_given n None now half half_now values first pending takes is = tt
-values_given n (Some left) None half half_now values first pending takes is = absurd takes.taken
-values_given n (Some left) (Some rest) half half_now values first pending takes is =
+values_given n None now gives half half_now values first pending takes is = tt
+values_given n (Some left) None gives half half_now values first pending takes is = absurd takes.taken
+values_given n (Some left) (Some rest) gives half half_now values first pending takes is =
     let then = values_then n half half_now values takes.bytes left rest takes.taken takes.parts takes.whole in
     cc (then, append_assoc first pending (promoted_all n (half_now ++ rest)))
 
 -- at the end of the source a zero byte is given for half a value
-pub half_given : (n : Narrow) (before now : Option (List ℕ)) (half half_now : List ℕ) (spent : Bool) → length half_now < size_of n → TakesValues n before now half half_now [] → IsAtEnd now → IsTrue spent ↔ (0 < length half_now)
+pub half_given : (n : Narrow) (before now : Option (List ℕ)) (gives : List ℕ → Type 0) (half half_now : List ℕ) (spent : Bool) → length half_now < size_of n → TakesValues n before now gives half half_now [] → IsAtEnd now → IsTrue spent ↔ (0 < length half_now)
     → Takes (exposed_by n false [] half before) (exposed_by n spent [] half_now now) (replicate (length half_now) 0)
-half_given n None now half half_now spent few takes end is = tt
-half_given n (Some left) None half half_now spent few takes end is = absurd takes.taken
-half_given n (Some left) (Some rest) half half_now spent few takes end is =
+half_given n None now gives half half_now spent few takes end is = tt
+half_given n (Some left) None gives half half_now spent few takes end is = absurd takes.taken
+half_given n (Some left) (Some rest) gives half half_now spent few takes end is =
     values_then n half half_now [] takes.bytes left rest takes.taken takes.parts takes.whole
     ∙ ap (λ bs. promoted_bytes n [] ++ promoted_all n (half_now ++ bs)) end
     ∙ ap (λ bs. bs ++ promoted_all n (half_now ++ [])) (nothing n)

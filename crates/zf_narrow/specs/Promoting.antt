@@ -21,18 +21,21 @@ abbrev pub exposed_by : Narrow → Bool → List ℕ → List ℕ → Option (Li
 exposed_by n spent pending half None = None
 exposed_by n spent pending half (Some left) = Some (pending ++ coming n spent half left)
 
--- some bytes were taken, which are these whole values, but for the first byte of a value before them and
--- behind them
-pub record TakesValues (n : Narrow) (before now : Option (List ℕ))
+-- some bytes were taken, which the source says that it gave, and which are these whole values, but for the
+-- first byte of a value before them and behind them
+pub record TakesValues (n : Narrow) (before now : Option (List ℕ)) (gives : List ℕ → Type 0)
     (half_before half_now values : List ℕ) : Type 0 where
   pub bytes : List ℕ
   pub taken : Takes before now bytes
+  pub given : gives bytes
   pub parts : half_before ++ bytes ≡ values ++ half_now
   pub whole : length values % size_of n ≡ 0
 
--- so many bytes were taken, and stand behind those from before
-pub record ReadsBehind (before now : Option (List ℕ)) (prefix all : List ℕ) (count : ℕ) : Type 0 where
+-- so many bytes were taken, which the source says that it gave, and stand behind those from before
+pub record ReadsBehind (before now : Option (List ℕ)) (gives : List ℕ → Type 0) (prefix all : List ℕ)
+    (count : ℕ) : Type 0 where
   pub bytes : List ℕ
   pub taken : Takes before now bytes
+  pub given : gives bytes
   pub all_are : all ≡ prefix ++ bytes
   pub count_is : length bytes ≡ count

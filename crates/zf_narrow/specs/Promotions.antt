@@ -1,5 +1,5 @@
 -- How far values were promoted, before and after.
-use Rattle.std.specs.Prelude.{ℕ, ◌≡◌, ◌<◌, ◌↔◌, Bool, true, false, IsTrue, List, ◌++◌, length, drop, replicate, Option}
+use Rattle.std.specs.Prelude.{ℕ, ◌≡◌, ◌<◌, ◌↔◌, ◌&&◌, ◌||◌, is_none, Bool, true, false, IsTrue, List, ◌++◌, length, drop, replicate, Option}
 use Rattle.zf_dev.specs.Source.{Takes, Gives}
 use Rattle.zf_narrow.specs.declared.promotion.Promotion.{Promotion}
 use Rattle.zf_narrow.specs.Promoting.{listed, exposed_by, TakesValues}
@@ -24,22 +24,33 @@ abbrev pub HasGiven : Promotion → List ℕ → Type 0
 HasGiven p given = given ++ drop p.at p.value ≡ promoted_bytes p.narrow p.taken.bytes ++ replicate
     (zeros_given p.spent (listed p.half)) 0
 
+-- so are these, and the source says, from what it had given at the start, that it gave all that were read
+abbrev pub HasGivenOf : Promotion → (List ℕ → Type 0) → (List ℕ → Type 0) → List ℕ → Type 0
+HasGivenOf p start gave given = HasGiven p given × Gives start gave (read_so_far p)
+
+-- no int32 byte is to come, where the source says that a read of it gave none: nothing is left of half a
+-- value, or its zero byte was given
+abbrev pub is_over : Promotion → Bool → Bool
+is_over p ended = ended && (is_none p.half || p.spent)
+
 -- nothing is pending, and no zero byte was given for half a value
 pub record IsIdle (p : Promotion) : Type 0 where
   pub all_given : p.at ≡ 4
   pub unspent : ¬ IsTrue p.spent
 
 -- some narrow bytes were read, of the same type
-pub record Logs (old new : Promotion) (before now : Option (List ℕ)) : Type 0 where
+pub record Logs (old new : Promotion) (before now : Option (List ℕ)) (gives : List ℕ → Type 0) : Type 0 where
   pub bytes : List ℕ
   pub taken : Takes before now bytes
+  pub given : gives bytes
   pub logged : read_so_far old ++ bytes ≡ read_so_far new
   pub same_type : new.narrow ≡ old.narrow
 
 -- some whole values were read, and these are their int32 bytes; all else is as it was
-pub record TakesRaw (old new : Promotion) (before now : Option (List ℕ)) (raw : List ℕ) : Type 0 where
+pub record TakesRaw (old new : Promotion) (before now : Option (List ℕ)) (gives : List ℕ → Type 0)
+    (raw : List ℕ) : Type 0 where
   pub values : List ℕ
-  pub taken : TakesValues old.narrow before now (listed old.half) (listed new.half) values
+  pub taken : TakesValues old.narrow before now gives (listed old.half) (listed new.half) values
   pub logged : new.taken.bytes ≡ old.taken.bytes ++ values
   pub raw_is : raw ≡ promoted_bytes old.narrow values
   pub same_type : new.narrow ≡ old.narrow

@@ -123,3 +123,26 @@ pub record RestoredNarrow (n : Narrow) (result : Result (Unit {0}) NarrowFault)
   pub unwritten : IfErr result (λ e. IsBeforeWriting e → Appends out_before out_now [])
   pub other : result ≡ Err NotNarrow → HasWideType src_before src_now
   pub memory : result ≡ Err (Stream faults.Memory) → HasGoodHeader src_before
+
+-- ---- of what a source says that it gave
+
+-- it is a good stream of int32, and its values were written
+pub record WritesNarrow (n : Narrow) (gives : List ℕ → Type 0) (out_before out_now : Option
+    (List ℕ)) : Type 0 where
+  pub bytes : List ℕ
+  pub given : gives bytes
+  pub good : restore_narrow_answer bytes ≡ Ok tt
+  pub written : Appends out_before out_now (narrow_restored n bytes)
+
+-- it has this refusal, or it comes from outside
+abbrev pub RefusesNarrow : (List ℕ → Type 0) → NarrowFault → Type 0
+RefusesNarrow gives e = ((input : List ℕ) × (gives input × (restore_narrow_answer input ≡ Err e))) ⊎
+    IsFromOutside e
+
+-- how it is restored: on `Ok` its values were written, a refusal is that of it, and on an error a prefix of
+-- its values was written
+pub record RestoredNarrowGiven (n : Narrow) (result : Result (Unit {0}) NarrowFault) (gives : List ℕ → Type 0)
+    (out_before out_now : Option (List ℕ)) : Type 0 where
+  pub ok : OnOk result (WritesNarrow n gives out_before out_now)
+  pub refused : IfErr result (RefusesNarrow gives)
+  pub err : OnErr result (outcomes.WritesPrefix (narrow_restored n) gives out_before out_now)

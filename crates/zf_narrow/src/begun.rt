@@ -13,10 +13,15 @@ pub(crate) trait Begun {
 
     /// What the device exposed of its bytes.
     ghost start: { Option (List ℕ) };
+
+    /// What a source may have given.
+    ghost gave: { List ℕ → Type 0 };
 }
 
 impl Begun for Brand {
     ghost narrow = { I8 };
 
     ghost start = { None };
+
+    ghost gave = { λ _. Unit {0} };
 }

@@ -1,10 +1,11 @@
 //! From raw narrow values to a stream.
 
-ghost use Rattle.std.specs.Prelude.{◌≡◌, Err};
+ghost use Rattle.std.specs.Prelude.{◌≡◌, true, [], Err, OnOk};
 ghost use Rattle.zf_base.specs.declared.lane.Ty.TheVariants as types;
 ghost use Rattle.zf_header.specs.HeaderBits.{IsMode};
 ghost use Rattle.zf_dev.specs.Devices.{Reads, Writes};
-ghost use Rattle.zf_stream.specs.Outcomes.{Compressed};
+ghost use Rattle.zf_dev.specs.Source.{Gives};
+ghost use Rattle.zf_stream.specs.Outcomes.{Compressed, CompressedGiven};
 ghost use Rattle.zf_parse.specs.declared.fault.StreamFault.TheVariants.{Read, Write};
 ghost use Rattle.zf_narrow.specs.Texts.{narrow_len, narrow_count, narrow_fault, compress_narrow_answer};
 ghost use Rattle.zf_narrow.specs.Texts.{narrow_text};
@@ -41,6 +42,10 @@ pub fn compress_narrow<S: Source, O: Sink>(
     ensures outcome { Compressed (compress_narrow_answer n h.now) (narrow_text n h.now)
         (narrow_len n h.now) result
         (S.contents src.old) (S.contents src.new) (O.contents out.old) (O.contents out.new) }
+    // Of every source, also of one that exposes nothing: of what it says that it gave.
+    ensures given { CompressedGiven (compress_narrow_answer n h.now) (narrow_text n h.now) result
+        (Gives (S.gave src.old) (S.gave src.new)) (O.contents out.old) (O.contents out.new) }
+    ensures ended { OnOk result (S.ended src.new ≡ true) }
     ensures source { Reads S.Source (result ≡ Err Read) src.old src.new }
     ensures sink { Writes O.Sink (result ≡ Err Write) out.old out.new }
 {
@@ -57,11 +62,17 @@ fn compress_begun<S: Source, O: Sink, K: Begun>(
 ) -> Result<(), StreamFault>
     requires narrow { K.narrow ≡ n }
     requires start { K.start ≡ S.contents src.old }
+    requires gave { Gives K.gave (S.gave src.old) [] }
+    requires from { Gives (S.gave src.old) K.gave [] }
     requires mode { IsMode h.now.mode }
     requires int32 { h.now.ty ≡ types.I32 }
     ensures outcome { Compressed (compress_narrow_answer n h.now) (narrow_text n h.now)
         (narrow_len n h.now) result
         (S.contents src.old) (S.contents src.new) (O.contents out.old) (O.contents out.new) }
+    // Of every source, also of one that exposes nothing: of what it says that it gave.
+    ensures given { CompressedGiven (compress_narrow_answer n h.now) (narrow_text n h.now) result
+        (Gives (S.gave src.old) (S.gave src.new)) (O.contents out.old) (O.contents out.new) }
+    ensures ended { OnOk result (S.ended src.new ≡ true) }
     ensures source { Reads S.Source (result ≡ Err Read) src.old src.new }
     ensures sink { Writes O.Sink (result ≡ Err Write) out.old out.new }
 {

@@ -1,12 +1,12 @@
 //! A source of raw narrow values as a source of raw int32 values: those that stand for them.
 
-ghost use Rattle.std.specs.Prelude.{◌≡◌, ◌<◌, ◌≤◌, [], length, take, drop, IsTrue, IsOk, IsErr, IfOk, OnOk};
+ghost use Rattle.std.specs.Prelude.{◌≡◌, true, ◌<◌, ◌≤◌, [], length, take, drop, IsTrue, IsOk, IsErr, IfOk, OnOk};
 ghost use Rattle.std.specs.Prelude.{OnErr};
 ghost use Rattle.std.specs.Coded.{→_prop};
-ghost use Rattle.zf_dev.specs.Facts.{IsAtEnd-prop};
+ghost use Rattle.zf_dev.specs.Facts.{IsAtEnd-prop, is_true-prop};
 ghost use Rattle.zf_dev.specs.Faults.{HasCause};
 ghost use Rattle.zf_dev.specs.Source.{Takes, IsAtEnd, EndsAt};
-ghost use Rattle.zf_narrow.specs.Promotions.{exposed, read_so_far, HasGiven};
+ghost use Rattle.zf_narrow.specs.Promotions.{exposed, read_so_far, HasGivenOf, is_over};
 ghost use Rattle.zf_narrow.specs.Facts.{Takes-prop};
 
 use crate::begun::Begun;
@@ -25,6 +25,7 @@ pub(crate) struct Promoted<'a, S: Source, K: Begun> {
     pub(crate) begun: PhantomData<K>,
     ghost same_type: { promotion.narrow ≡ K.narrow },
     ghost at_end: { IsTrue promotion.spent → IsAtEnd (S.contents src.now) } by { →_prop (IsAtEnd-prop (S.contents src.now)) },
+    ghost known: { IsTrue promotion.spent → S.ended src.now ≡ true } by { →_prop (is_true-prop (S.ended src.now)) },
     ghost read: { Takes K.start (S.contents src.now) (read_so_far promotion) } by { Takes-prop K.start (S.contents src.now) (read_so_far promotion) },
 }
 
@@ -35,7 +36,9 @@ impl<'a, S: Source, K: Begun> Source for Promoted<'a, S, K> {
 
     ghost contents = { λ p. exposed p.promotion (S.contents p.src.now) };
 
-    ghost gave = { λ p bytes. HasGiven p.promotion bytes };
+    ghost gave = { λ p. HasGivenOf p.promotion K.gave (S.gave p.src.now) };
+
+    ghost ended = { λ p. is_over p.promotion (S.ended p.src.now) };
 
     ghost faults = { λ p. S.faults p.src.now };
 

@@ -1,6 +1,6 @@
 //! How far values were promoted: what is between a source of narrow bytes and its int32 bytes.
 
-ghost use Rattle.std.specs.Prelude.{◌≡◌, ◌+◌, ◌-◌, ◌%◌, ◌<◌, ◌≤◌, ◌++◌, ◌↔◌, [], length, take, drop};
+ghost use Rattle.std.specs.Prelude.{◌≡◌, true, ◌+◌, ◌-◌, ◌%◌, ◌<◌, ◌≤◌, ◌++◌, ◌↔◌, [], length, take, drop};
 ghost use Rattle.std.specs.Prelude.{replicate, IsTrue, IsOk, IsErr, IfOk, OnOk, OnErr};
 ghost use Rattle.zf_dev.specs.Devices.{AsksSource};
 ghost use Rattle.zf_dev.specs.Source.{Takes, Gives, IsAtEnd};
@@ -38,7 +38,7 @@ pub(crate) struct Promotion {
 }
 
 impl Promotion {
-    ghost use Rattle.zf_narrow.specs.Promotions.{exposed, IsIdle, Logs, TakesRaw, GivesRaw, GivesHalf};
+    ghost use Rattle.zf_narrow.specs.Promotions.{exposed, is_over, IsIdle, Logs, TakesRaw, GivesRaw, GivesHalf};
 
     /// Nothing was read.
     pub(crate) fn new(narrow: Narrow) -> Promotion
@@ -70,6 +70,7 @@ impl Promotion {
     pub(crate) fn read<S: Source>(&mut self, src: &mut S, buf: &mut [u8]) -> Result<usize, Failed>
         requires room { 0 < length buf.old }
         requires at_end { IsTrue self.old.spent → IsAtEnd (S.contents src.old) }
+        requires known { IsTrue self.old.spent → S.ended src.old ≡ true }
         ensures bound { IfOk result (λ k. k ≤ length buf.old) }
         ensures given { IfOk result (λ k. GivesRaw self.old self.new (S.contents src.old) (S.contents src.new)
             (take k buf.new)) }
@@ -77,8 +78,11 @@ impl Promotion {
         ensures end { IfOk result (λ k. k ≡ 0 → IsAtEnd (exposed self.new (S.contents src.new))) }
         ensures ungiven { OnErr result (GivesRaw self.old self.new (S.contents src.old) (S.contents src.new)
             []) }
-        ensures taken { Logs self.old self.new (S.contents src.old) (S.contents src.new) }
+        ensures taken { Logs self.old self.new (S.contents src.old) (S.contents src.new)
+            (Gives (S.gave src.old) (S.gave src.new)) }
+        ensures over { IfOk result (λ k. k ≡ 0 → is_over self.new (S.ended src.new) ≡ true) }
         ensures at_end { IsTrue self.new.spent → IsAtEnd (S.contents src.new) }
+        ensures known { IsTrue self.new.spent → S.ended src.new ≡ true }
         ensures source { AsksSource S.Source result src.old src.new }
     {
         if self.at < 4 {
@@ -108,8 +112,11 @@ impl Promotion {
         ensures end { IfOk result (λ k. k ≡ 0 → IsAtEnd (exposed self.new (S.contents src.new))) }
         ensures ungiven { OnErr result (GivesRaw self.old self.new (S.contents src.old) (S.contents src.new)
             []) }
-        ensures taken { Logs self.old self.new (S.contents src.old) (S.contents src.new) }
+        ensures taken { Logs self.old self.new (S.contents src.old) (S.contents src.new)
+            (Gives (S.gave src.old) (S.gave src.new)) }
+        ensures over { IfOk result (λ k. k ≡ 0 → is_over self.new (S.ended src.new) ≡ true) }
         ensures at_end { IsTrue self.new.spent → IsAtEnd (S.contents src.new) }
+        ensures known { IsTrue self.new.spent → S.ended src.new ≡ true }
         ensures source { AsksSource S.Source result src.old src.new }
     {
         let mut value = [0; 4];
@@ -132,10 +139,12 @@ impl Promotion {
         ensures bound { IfOk result (λ k. k ≤ length buf.old) }
         ensures some { IfOk result (λ k. 0 < k → 4 ≤ k) }
         ensures values { IfOk result (λ k. TakesRaw self.old self.new (S.contents src.old)
-            (S.contents src.new) (take k buf.new)) }
+            (S.contents src.new) (Gives (S.gave src.old) (S.gave src.new)) (take k buf.new)) }
         ensures rest { IfOk result (λ k. drop k buf.new ≡ drop k buf.old) }
         ensures end { IfOk result (λ k. k ≡ 0 → IsAtEnd (S.contents src.new)) }
-        ensures err { OnErr result (TakesRaw self.old self.new (S.contents src.old) (S.contents src.new) []) }
+        ensures ended { IfOk result (λ k. k ≡ 0 → S.ended src.new ≡ true) }
+        ensures err { OnErr result (TakesRaw self.old self.new (S.contents src.old) (S.contents src.new)
+            (Gives (S.gave src.old) (S.gave src.new)) []) }
         ensures source { AsksSource S.Source result src.old src.new }
     {
         let len = size(self.narrow);

@@ -1,10 +1,11 @@
 //! From a stream to raw narrow values.
 
-ghost use Rattle.std.specs.Prelude.{◌≡◌, Err};
+ghost use Rattle.std.specs.Prelude.{◌≡◌, true, Err, OnOk};
 ghost use Rattle.zf_dev.specs.Devices.{Reads, Writes};
+ghost use Rattle.zf_dev.specs.Source.{Gives};
 ghost use Rattle.zf_parse.specs.declared.fault.StreamFault.TheVariants.{Read, Write};
 ghost use Rattle.zf_narrow.specs.declared.fault.NarrowFault.TheVariants.{Stream};
-ghost use Rattle.zf_narrow.specs.Texts.{RestoredNarrow};
+ghost use Rattle.zf_narrow.specs.Texts.{RestoredNarrow, RestoredNarrowGiven};
 
 use crate::begun::Begun;
 use crate::demoted::Demoted;
@@ -32,6 +33,10 @@ pub fn restore_narrow<S: Source, O: Sink>(
 ) -> Result<(), NarrowFault>
     ensures outcome { RestoredNarrow n result
         (S.contents src.old) (S.contents src.new) (O.contents out.old) (O.contents out.new) }
+    // Of every source, also of one that exposes nothing: of what it says that it gave.
+    ensures given { RestoredNarrowGiven n result (Gives (S.gave src.old) (S.gave src.new))
+        (O.contents out.old) (O.contents out.new) }
+    ensures ended { OnOk result (S.ended src.new ≡ true) }
     ensures source { Reads S.Source (result ≡ Err (Stream Read)) src.old src.new }
     ensures sink { Writes O.Sink (result ≡ Err (Stream Write)) out.old out.new }
 {
@@ -49,6 +54,9 @@ fn restore_begun<S: Source, O: Sink, K: Begun>(
     requires start { K.start ≡ O.contents out.old }
     ensures outcome { RestoredNarrow n result
         (S.contents src.old) (S.contents src.new) (O.contents out.old) (O.contents out.new) }
+    ensures given { RestoredNarrowGiven n result (Gives (S.gave src.old) (S.gave src.new))
+        (O.contents out.old) (O.contents out.new) }
+    ensures ended { OnOk result (S.ended src.new ≡ true) }
     ensures source { Reads S.Source (result ≡ Err (Stream Read)) src.old src.new }
     ensures sink { Writes O.Sink (result ≡ Err (Stream Write)) out.old out.new }
 {

@@ -1,9 +1,9 @@
 //! Reading whole narrow values from a source that may give any part of them.
 
-ghost use Rattle.std.specs.Prelude.{◌≡◌, ◌+◌, ◌%◌, ◌<◌, ◌≤◌, ◌++◌, [], length, take, IsOk, IsErr, IfOk, OnOk};
+ghost use Rattle.std.specs.Prelude.{◌≡◌, true, ◌+◌, ◌%◌, ◌<◌, ◌≤◌, ◌++◌, [], length, take, IsOk, IsErr, IfOk, OnOk};
 ghost use Rattle.std.specs.Prelude.{OnErr};
 ghost use Rattle.zf_dev.specs.Devices.{AsksSource};
-ghost use Rattle.zf_dev.specs.Source.{IsAtEnd};
+ghost use Rattle.zf_dev.specs.Source.{Gives, IsAtEnd};
 ghost use Rattle.zf_narrow.specs.Values.{size_of};
 ghost use Rattle.zf_narrow.specs.Promoting.{listed, TakesValues, ReadsBehind};
 
@@ -24,11 +24,12 @@ pub(crate) fn take_values<S: Source>(
     requires room { size_of n ≤ length piece.old }
     requires half { length (listed half.old) < size_of n }
     ensures bound { IfOk result (λ k. k ≤ length piece.old) }
-    ensures ok { IfOk result (λ k. TakesValues n (S.contents src.old) (S.contents src.new) (listed half.old)
-        (listed half.new) (take k piece.new)) }
+    ensures ok { IfOk result (λ k. TakesValues n (S.contents src.old) (S.contents src.new)
+        (Gives (S.gave src.old) (S.gave src.new)) (listed half.old) (listed half.new) (take k piece.new)) }
     ensures end { IfOk result (λ k. k ≡ 0 → IsAtEnd (S.contents src.new)) }
-    ensures err { OnErr result (TakesValues n (S.contents src.old) (S.contents src.new) (listed half.old)
-        (listed half.new) []) }
+    ensures ended { IfOk result (λ k. k ≡ 0 → S.ended src.new ≡ true) }
+    ensures err { OnErr result (TakesValues n (S.contents src.old) (S.contents src.new)
+        (Gives (S.gave src.old) (S.gave src.new)) (listed half.old) (listed half.new) []) }
     ensures half { length (listed half.new) < size_of n }
     ensures source { AsksSource S.Source result src.old src.new }
 {
@@ -68,11 +69,12 @@ fn put_half(half: &Option<u8>, piece: &mut [u8]) -> usize
 fn read_behind<S: Source>(src: &mut S, at: usize, piece: &mut [u8]) -> Result<usize, Failed>
     requires { at < length piece.old }
     ensures bound { IfOk result (λ k. at + k ≤ length piece.old) }
-    ensures ok { IfOk result (λ k. ReadsBehind (S.contents src.old) (S.contents src.new) (take at piece.old)
-        (take (at + k) piece.new) k) }
+    ensures ok { IfOk result (λ k. ReadsBehind (S.contents src.old) (S.contents src.new)
+        (Gives (S.gave src.old) (S.gave src.new)) (take at piece.old) (take (at + k) piece.new) k) }
     ensures end { IfOk result (λ k. k ≡ 0 → IsAtEnd (S.contents src.new)) }
-    ensures err { OnErr result (ReadsBehind (S.contents src.old) (S.contents src.new) (take at piece.old)
-        (take at piece.old) 0) }
+    ensures ended { IfOk result (λ k. k ≡ 0 → S.ended src.new ≡ true) }
+    ensures err { OnErr result (ReadsBehind (S.contents src.old) (S.contents src.new)
+        (Gives (S.gave src.old) (S.gave src.new)) (take at piece.old) (take at piece.old) 0) }
     ensures source { AsksSource S.Source result src.old src.new }
 {
     src.read(&mut piece[at..])

@@ -18,6 +18,7 @@
 --     Answering      what an answer says of the input
 --     Rooms          the rooms that an array is compressed and restored in, as they are used
 --     Endings        how compressing ends, put together
+--     Drawing        how what is drawn from a source adds up
 --     Windows        the bits of a window, as it moves on
 --     SlabsBack      the blocks and the values of an array, slab by slab
 --     Runs           the codes of a slab that were read so far
@@ -26,7 +27,10 @@
 --     FromPrefix      what is restored of a window, said of the whole stream
 --     OwnFaults      which faults are a call's own
 --     RestoreEndings how restoring ends, put together
+--     GoodText       what is restored of a good stream stays so with bytes behind it
+--     GivenBack      what is restored of what a source says that it gave
 --     Refusals       each refusal is that of some input, or comes from outside
+--     Lengths        how many bytes a stream has at most
 --     TypedAnswers   what is answered where a stream is restored if its values are of one type
 pub mod LittleEndian
 pub mod RawValues
@@ -47,6 +51,7 @@ pub mod Headed
 pub mod Answering
 pub mod Rooms
 pub mod Endings
+pub mod Drawing
 pub mod Windows
 pub mod SlabsBack
 pub mod Runs
@@ -55,5 +60,8 @@ pub mod RestoredAll
 pub mod FromPrefix
 pub mod OwnFaults
 pub mod RestoreEndings
+pub mod GoodText
+pub mod GivenBack
 pub mod Refusals
+pub mod Lengths
 pub mod TypedAnswers

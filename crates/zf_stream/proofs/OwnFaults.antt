@@ -2,6 +2,7 @@
 use Rattle.std.proofs.Common.{rules, ◌≡◌, ℕ, ℤ, Bool, true, false, List, Option, Result, Ok, Err, ◌⊎◌, subst, ⊎_elim}
 use Rattle.std.specs.Prelude.{IfErr}
 use Rattle.zf_header.{specs.declared.header.Header.{Header}, specs.declared.header.HeaderFault.{HeaderFault}}
+use Rattle.zf_dev.specs.declared.source.Source.{Ghosts as Source}
 use Rattle.zf_parse.{specs.declared.fault.StreamFault.{StreamFault}, specs.Parsing.{restore_answer}}
 use Rattle.zf_parse.proofs.Steps.{values_said, values_said-is, values_behind, header_or, codes_answer, without_values, restore_answer-values}
 use Rattle.zf_parse.specs.declared.fault.StreamFault.TheVariants as faults
@@ -61,5 +62,5 @@ device_not_before : (e : StreamFault) → (e ≡ faults.Read) ⊎ (e ≡ faults.
 device_not_before e device before =
     ⊎_elim (λ read. subst IsBeforeWriting read before) (λ write. subst IsBeforeWriting write before) device
 
-pub refused_later : (h : Header) (src now : Option (List ℕ)) (w : Window) (e : StreamFault) → Refuses h src now w e → ¬ IsBeforeWriting e
-refused_later h src now w e refuses = search (rules, not_before, values_behind, of_codes, device_not_before)
+pub refused_later : {A : Type 0} {S : Source A} (h : Header) (src now : A) (w : Window) (e : StreamFault) → Refuses h S src now w e → ¬ IsBeforeWriting e
+refused_later {A} {S} h src now w e refuses = search (rules, not_before, values_behind, of_codes, device_not_before)

@@ -4,13 +4,14 @@ use Rattle.std.{specs.Prelude.{IfErr, OnOk, OnErr}, proofs.lemmas.Result.{IfErr-
 use Rattle.zf_spec.specs.Stream.{to_bits}
 use Rattle.zf_header.specs.declared.header.Header.{Header}
 use Rattle.zf_dev.{specs.Source.{Takes, TakesSome}, proofs.Appending.{AppendsPrefix-none}}
+use Rattle.zf_dev.specs.declared.source.Source.{Ghosts as Source}
 use Rattle.zf_parse.specs.declared.fault.StreamFault.{StreamFault}
 use Rattle.zf_parse.specs.declared.fault.StreamFault.TheVariants.{Read, Memory}
 use Rattle.zf_parse.specs.Parsing.{restore_answer, restored_text}
 use Rattle.zf_parse.specs.ReadStreams.{BeginsWithHeader, HasGoodHeader, IsFaultOf}
 use Rattle.zf_stream.specs.Outcomes.{IsBeforeWriting, Answers, LeavesPrefix, TakesFirst, Restored}
 use Rattle.zf_stream.{specs.Windows.{Window}, proofs.OwnFaults.{refused_later}}
-use Rattle.zf_stream.specs.Restoring.{RestoredBehind, RestoresAll, LeavesRows, Refuses}
+use Rattle.zf_stream.specs.Restoring.{RestoredBehind, CanRefuseBehind, RestoresAll, LeavesRows, Refuses}
 use Rattle.zf_stream.proofs.Answering.{answer_of_refusal, answer_of_memory, after_err, on_ok_weaker}
 use Rattle.zf_stream.{proofs.Headed.{refusal_of_fault}, proofs.Refusals.{CanRefuse-header}}
 use Rattle.zf_stream.proofs.FromPrefix.{nothing_taken, finishes_behind, leaves_prefix, can_refuse, answers}
@@ -20,13 +21,17 @@ pub no_room : (prefix : List ℕ) (e : StreamFault) (src out : Option (List ℕ)
 no_room prefix e src out memory = search (rules, answer_of_memory, nothing_taken)
 
 -- the codes behind the header were restored, or refused
-pub restored_behind : (h : Header) (len : ℕ) (prefix : List ℕ) → BeginsWithHeader prefix h len → (w : Window) → w.reader.all ≡ to_bits prefix → w.reader.at ≡ len
-    → (r : Result (Unit {0}) StreamFault) (src now out0 out : Option (List ℕ)) → OnOk r (RestoresAll h src now out0 out w) → OnErr r (LeavesRows h src now out0 out w) → IfErr r (Refuses h src now w)
-    → RestoredBehind prefix r src now out0 out
-restored_behind h len prefix begun w all at r src now out0 out done left refused =
-    let unwritten = IfErr-weaker r (Refuses h src now w) (λ e. IsBeforeWriting e → out ≡ out0)
-    (λ e refuses before. absurd (refused_later h src now w e refuses before)) refused in
-    search (rules, answers, IfErr-weaker, can_refuse, on_ok_weaker, finishes_behind, after_err, leaves_prefix)
+pub restored_behind : {A : Type 0} (S : Source A) (h : Header) (len : ℕ) (prefix : List ℕ) → BeginsWithHeader prefix h len → (w : Window) → w.reader.all ≡ to_bits prefix → w.reader.at ≡ len
+    → (r : Result (Unit {0}) StreamFault) (src now : A) (out0 out : Option (List ℕ)) → OnOk r (RestoresAll h S src now out0 out w) → OnErr r (LeavesRows h S src now out0 out w) → IfErr r (Refuses h S src now w)
+    → RestoredBehind prefix r (S.contents src) (S.contents now) out0 out
+restored_behind {A} S h len prefix begun w all at r src now out0 out done left refused = record {
+  answer = answers h len prefix begun w all at S src now r out0 out done refused;
+  possible = IfErr-weaker r (Refuses h S src now w) (CanRefuseBehind prefix) (λ e. can_refuse h len prefix begun w all at e) refused;
+  ok = on_ok_weaker r done (finishes_behind h len prefix begun w all at);
+  err = after_err r left (leaves_prefix h len prefix begun w all at);
+  unwritten = IfErr-weaker r (Refuses h S src now w) (λ e. IsBeforeWriting e → out ≡ out0)
+      (λ e refuses before. absurd (refused_later h src now w e refuses before)) refused;
+}
 
 -- said of all of the source
 pub restored_known : (prefix : List ℕ) (r : Result (Unit {0}) StreamFault) (known src now out0 out : Option (List ℕ)) → Takes known src prefix → HasGoodHeader known → RestoredBehind prefix r src now out0 out → Restored r known now out0 out

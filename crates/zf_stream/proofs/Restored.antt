@@ -7,8 +7,8 @@ use Rattle.zf_base.specs.Widths.{width_of}
 use Rattle.zf_pad.specs.Slabs.{rows_of, row_len, with_rows, IsSlab, first_block}
 use Rattle.zf_pad.proofs.Slabs.{product-rows, rows_of-grid, extent_of-slab, blocks-with_rows}
 use Rattle.zf_header.specs.declared.header.Header.{Header}
-use Rattle.zf_dev.{specs.Source.{TakesSome, IsAtEnd}, specs.Sink.{Appends, AppendsPrefix}}
-use Rattle.zf_dev.proofs.Taking.{Takes-append}
+use Rattle.zf_dev.{specs.Source.{IsAtEnd}, specs.Sink.{Appends, AppendsPrefix}}
+use Rattle.zf_dev.specs.declared.source.Source.{Ghosts as Source}
 use Rattle.zf_dev.proofs.Appending.{Appends-none, Appends-append, AppendsPrefix-all, AppendsPrefix-append, AppendsPrefix-more}
 use Rattle.zf_parse.{specs.declared.fault.StreamFault.{StreamFault}, specs.Raw.{raw_bytes}}
 use Rattle.zf_parse.specs.Parsing.{read_codes, values_of_blocks, longest_codes}
@@ -17,10 +17,12 @@ use Rattle.zf_parse.proofs.Joining.{with_blocks, with_blocks-both, with_blocks-c
 use Rattle.zf_parse.proofs.TextOfParse.{read_codes_more}
 use Rattle.zf_parse.specs.declared.fault.StreamFault.TheVariants as faults
 use Rattle.zf_stream.{specs.Windows.{Window, left_of}, proofs.RawValues.{raw-append, raw_prefix}}
-use Rattle.zf_stream.specs.Restoring.{still, stream_from, ReadsSlab, LacksSlab, blocks_of_rows, Restores, text_of_codes, LeavesRows, Refuses}
+use Rattle.zf_stream.specs.Restoring.{still, stream_from, ReadsSlab, LacksSlab, blocks_of_rows, Restores, text_of_codes, LeavesRows, Refuses, answer_of_codes}
 use Rattle.zf_stream.proofs.Slabwise.{part_of, IsNext}
 use Rattle.zf_stream.proofs.SlabsBack.{counted_from, read_codes-slab, count_next, blocks_next, prefix_joined}
 use Rattle.zf_stream.proofs.Windows.{Goes-none, Goes-next, to_bits-append}
+use Rattle.zf_stream.{specs.Drawing.{DrawsSome}, proofs.Drawing.{Draws-append, DrawsSome-of}}
+use Rattle.zf_dev.{proofs.Taking.{Takes-append}, proofs.Giving.{Gives-append}}
 
 -- nothing is to come at the end
 pub still_none : (known : Option (List ℕ)) → IsAtEnd known → still known ≡ []
@@ -104,9 +106,18 @@ text_prefix h rows values s t left slab long read =
       ap (λ (vs : List ℤ). raw_bytes h vs ++ raw_bytes h (drop size joined)) (sym first) ∙ sym (raw_prefix (width_of h.ty) size joined) ∙ ap (blocks_text h) (sym all.is),
     )
 
+-- so of these values a prefix is one of the text, whatever follows
+prefix_of_rows : (h : Header) (rows : ℕ) (values : List ℤ) (w : Window) (bytes : List ℕ) (left : List Bool) (out0 out : Option (List ℕ)) → IsSlab h.shape 0 rows → length values ≡ row_len h.shape * rows
+    → read_codes h 0 (first_block h.shape ((rows + 3) / 4)) (stream_from w bytes) ≡ Ok (blocks_of_rows h.shape rows values, left) → AppendsPrefix out0 out (raw_bytes h values)
+    → (rest : List ℕ) → AppendsPrefix out0 out (text_of_codes h (stream_from w (bytes ++ rest)))
+prefix_of_rows h rows values w bytes left out0 out slab long read written rest =
+    let text = text_prefix h rows values (stream_from w bytes) (to_bits rest) left slab long read in
+    let is = text.1 ∙ ap (text_of_codes h) (to_bits-append (left_of w) bytes rest) in
+    rw is at (AppendsPrefix-more out0 out (raw_bytes h values) text.0 written)
+
 -- ---- one slab more
 
-module _ (h : Header) (row here : ℕ) (next : IsNext h row here) {src0 mid out0 out1 : Option (List ℕ)} {w0 w1 : Window} (done : Restores h row src0 mid out0 out1 w0 w1) where
+module _ (h : Header) (row here : ℕ) (next : IsNext h row here) {A : Type 0} {S : Source A} {src0 mid : A} {out0 out1 : Option (List ℕ)} {w0 w1 : Window} (done : Restores h row S src0 mid out0 out1 w0 w1) where
   long_before : length done.values ≡ row_len h.shape * (4 * (row / 4))
   long_before = done.long ∙ ap (λ r. row_len h.shape * r) (sym next.first)
 
@@ -117,7 +128,7 @@ module _ (h : Header) (row here : ℕ) (next : IsNext h row here) {src0 mid out0
   more_bytes bytes = to_bits-append (left_of w0) done.bytes bytes
 
   -- its codes were read
-  codes_read : {now : Option (List ℕ)} {w2 : Window} (values : List ℤ) (slab : ReadsSlab (part_of h here) mid now w1 w2 values) → length values ≡ row_len h.shape * here
+  codes_read : {now : A} {w2 : Window} (values : List ℤ) (slab : ReadsSlab (part_of h here) S mid now w1 w2 values) → length values ≡ row_len h.shape * here
       → read_codes h 0 (first_block h.shape ((row + here + 3) / 4)) (stream_from w0 (done.bytes ++ slab.bytes)) ≡ Ok (blocks_of_rows h.shape (row + here) (done.values ++ values), left_of w2)
   codes_read {now} {w2} values slab as_long =
       let P : ℕ → Type 0 = λ r. read_codes h 0 (first_block h.shape ((r + here + 3) / 4)) (stream_from w0 (done.bytes ++ slab.bytes)) ≡ Ok (blocks_of_rows h.shape (r + here) (done.values ++ values), left_of w2) in
@@ -131,69 +142,88 @@ module _ (h : Header) (row here : ℕ) (next : IsNext h row here) {src0 mid out0
   long_next values as_long = length-append done.values values ∙ omega (arith, done.long, as_long) ∙ sym (mul-add (row_len h.shape) row here)
 
   -- and its values written
-  pub slab_restored : {now out2 : Option (List ℕ)} {w2 : Window} (values : List ℤ) → ReadsSlab (part_of h here) mid now w1 w2 values → length values ≡ row_len h.shape * here → Appends out1 out2 (raw_bytes h values)
-      → Restores h (row + here) src0 now out0 out2 w0 w2
+  pub slab_restored : {now : A} {out2 : Option (List ℕ)} {w2 : Window} (values : List ℤ) → ReadsSlab (part_of h here) S mid now w1 w2 values → length values ≡ row_len h.shape * here → Appends out1 out2 (raw_bytes h values)
+      → Restores h (row + here) S src0 now out0 out2 w0 w2
   slab_restored {now} {out2} {w2} values slab as_long written =
-      let goes = Goes-next done.goes slab.goes in
-      let text = raw-append (width_of h.ty) done.values values in
-      let written = Appends-append out0 out1 out2 _ _ done.written written in
-      let all : Appends out0 out2 (raw_bytes h (done.values ++ values)) = rw text written in
-      let long = long_next values as_long in
-      search (rules, whole_next, codes_read)
+      let both = Appends-append out0 out1 out2 _ _ done.written written in
+      record {
+        whole = whole_next;
+        bytes = done.bytes ++ slab.bytes;
+        goes = Goes-next done.goes slab.goes;
+        values = done.values ++ values;
+        long = long_next values as_long;
+        codes = codes_read values slab as_long;
+        written = rw (raw-append (width_of h.ty) done.values values) both;
+      }
 
   -- or a prefix of them
-  pub slab_spilled : {now out2 : Option (List ℕ)} {w2 : Window} (values : List ℤ) → ReadsSlab (part_of h here) mid now w1 w2 values → length values ≡ row_len h.shape * here → AppendsPrefix out1 out2 (raw_bytes h values)
-      → LeavesRows h src0 now out0 out2 w0
+  pub slab_spilled : {now : A} {out2 : Option (List ℕ)} {w2 : Window} (values : List ℤ) → ReadsSlab (part_of h here) S mid now w1 w2 values → length values ≡ row_len h.shape * here → AppendsPrefix out1 out2 (raw_bytes h values)
+      → LeavesRows h S src0 now out0 out2 w0
   slab_spilled {now} {out2} {w2} values slab as_long written =
       let all = done.values ++ values in
-      let codes = codes_read values slab as_long in
-      let text = text_prefix h (row + here) all _ [] (left_of w2) whole_next (long_next values as_long) codes in
+      let bytes = done.bytes ++ slab.bytes in
       let both = AppendsPrefix-append out0 out1 out2 (raw_bytes h done.values) _ done.written written in
       let joined : AppendsPrefix out0 out2 (raw_bytes h all) = rw (raw-append (width_of h.ty) done.values values) both in
-      let taken = (Goes-next done.goes slab.goes).taken in
-      let is = text.1 ∙ ap (text_of_codes h) (append-nil (stream_from w0 (done.bytes ++ slab.bytes))) in
-      record { bytes = _; taken = taken; written = rw (← is) (AppendsPrefix-more out0 out2 _ text.0 joined) }
+      let drawn = Draws-append done.bytes slab.bytes done.goes.drawn slab.goes.drawn in
+      record {
+        bytes = bytes;
+        more = [];
+        taken = rw (append-nil bytes) drawn.taken;
+        lost = [];
+        given = rw (append-nil bytes) drawn.given;
+        written = prefix_of_rows h (row + here) all w0 bytes (left_of w2) out0 out2 whole_next (long_next values as_long) (codes_read values slab as_long) joined;
+      }
 
   -- its codes end too early
-  pub slab_cut : (now : Option (List ℕ)) (first : ℕ) (e : StreamFault) → first ≡ first_block h.shape (row / 4) → LacksSlab (part_of h here) first mid now w1 e → Refuses h src0 now w0 e
+  pub slab_cut : (now : A) (first : ℕ) (e : StreamFault) → first ≡ first_block h.shape (row / 4) → LacksSlab (part_of h here) first S mid now w1 e → Refuses h S src0 now w0 e
   slab_cut now first (faults.Truncated number) is cut =
       let bytes = done.bytes ++ cut.bytes in
-      let none : still now ≡ [] = still_none now cut.ended in
+      let none : still (S.contents now) ≡ [] = still_none (S.contents now) cut.ended.at_end in
       let number_is : first_block h.shape (row / 4) + cut.block ≡ number = omega (arith, is, cut.number_is) in
       let codes : read_codes h 0 (blocks h.shape) (stream_from w0 bytes) ≡ Err number =
       ap (read_codes h 0 (blocks h.shape)) (sym (more_bytes cut.bytes))
       ∙ codes_cut h (row / 4) here next.slab done.values long_before (stream_from w0 done.bytes) (to_bits cut.bytes) (left_of w1) codes_before cut.block cut.codes ∙ ap Err number_is in
+      let s = stream_from w0 bytes in
+      let answer : answer_of_codes h w0.reader.at s ≡ Err (faults.Truncated number) =
+      values_behind h (w0.reader.at + length s) s ∙ ap (codes_answer h (w0.reader.at + length s)) codes in
+      let all : bytes ++ still (S.contents now) ≡ bytes = ap (λ (bs : List ℕ). bytes ++ bs) none ∙ append-nil bytes in
       inl (record {
         bytes = bytes;
-        taken = Takes-append src0 mid now done.bytes cut.bytes done.goes.taken cut.taken;
-        answer = search (rules, append-nil, values_behind, codes_answer);
+        drawn = Draws-append done.bytes cut.bytes done.goes.drawn cut.drawn;
+        answer = answer;
+        answer_of_all = ap (λ (bs : List ℕ). answer_of_codes h w0.reader.at (stream_from w0 bs)) all ∙ answer;
       })
   slab_cut now first faults.Read is lacks = inr (inl refl)
   slab_cut now first e is lacks = absurd lacks
 
--- some bytes were taken
-pub some_lacked : (part : Header) (first : ℕ) (src now : Option (List ℕ)) (w : Window) (e : StreamFault) → LacksSlab part first src now w e → TakesSome src now
-some_lacked part first src now w (faults.Truncated number) cut = (cut.bytes, cut.taken)
-some_lacked part first src now w faults.Read some = some
-some_lacked part first src now w e lacks = absurd lacks
+module _ {A : Type 0} {S : Source A} where
+  -- some bytes were drawn
+  pub some_lacked : (part : Header) (first : ℕ) (src now : A) (w : Window) (e : StreamFault) → LacksSlab part first S src now w e → DrawsSome S src now
+  some_lacked part first src now w (faults.Truncated number) cut = DrawsSome-of cut.bytes cut.drawn
+  some_lacked part first src now w faults.Read some = some
+  some_lacked part first src now w e lacks = absurd lacks
 
--- where the work stopped
-pub rows_left : (h : Header) (row : ℕ) {src0 mid now out0 out1 : Option (List ℕ)} {w0 w1 : Window} → Restores h row src0 mid out0 out1 w0 w1 → TakesSome mid now → LeavesRows h src0 now out0 out1 w0
-rows_left h row {src0} {mid} {now} {out0} {out1} {w0} {w1} done some =
-    let text = text_prefix h row done.values (stream_from w0 done.bytes) (to_bits some.0) (left_of w1) done.whole done.long done.codes in
-    let is = text.1 ∙ ap (text_of_codes h) (to_bits-append (left_of w0) done.bytes some.0) in
-    let all = AppendsPrefix-all out0 out1 (raw_bytes h done.values) done.written in
-    let written = rw is at (AppendsPrefix-more out0 out1 (raw_bytes h done.values) text.0 all) in
-    search (rules, Takes-append)
+  -- where the work stopped
+  pub rows_left : (h : Header) (row : ℕ) {src0 mid now : A} {out0 out1 : Option (List ℕ)} {w0 w1 : Window} → Restores h row S src0 mid out0 out1 w0 w1 → DrawsSome S mid now → LeavesRows h S src0 now out0 out1 w0
+  rows_left h row {src0} {mid} {now} {out0} {out1} {w0} {w1} done some =
+      let all = AppendsPrefix-all out0 out1 (raw_bytes h done.values) done.written in
+      record {
+        bytes = done.bytes;
+        more = some.taken.0;
+        taken = Takes-append _ _ _ done.bytes some.taken.0 done.goes.drawn.taken some.taken.1;
+        lost = some.given.0;
+        given = Gives-append done.bytes some.given.0 done.goes.drawn.given some.given.1;
+        written = prefix_of_rows h row done.values w0 done.bytes (left_of w1) out0 out1 done.whole done.long done.codes all;
+      }
 
-pub slab_lacked : (h : Header) (row : ℕ) {src0 mid now out0 out1 : Option (List ℕ)} {w0 w1 : Window} → Restores h row src0 mid out0 out1 w0 w1 → (part : Header) (first : ℕ) (e : StreamFault) → LacksSlab part first mid now w1 e
-    → LeavesRows h src0 now out0 out1 w0
-slab_lacked h row {src0} {mid} {now} {out0} {out1} {w0} {w1} done part first e lacks = rows_left h row done (some_lacked part first mid now w1 e lacks)
+  pub slab_lacked : (h : Header) (row : ℕ) {src0 mid now : A} {out0 out1 : Option (List ℕ)} {w0 w1 : Window} → Restores h row S src0 mid out0 out1 w0 w1 → (part : Header) (first : ℕ) (e : StreamFault) → LacksSlab part first S mid now w1 e
+      → LeavesRows h S src0 now out0 out1 w0
+  slab_lacked h row {src0} {mid} {now} {out0} {out1} {w0} {w1} done part first e lacks = rows_left h row done (some_lacked part first mid now w1 e lacks)
 
 -- ---- the start, where no row is restored
 
-pub Restores-none : (h : Header) (src out : Option (List ℕ)) (w : Window) → 1 ≤ length h.shape → Restores h 0 src src out out w w
-Restores-none h src out w some =
+pub Restores-none : {A : Type 0} {S : Source A} (h : Header) (src : A) (out : Option (List ℕ)) (w : Window) → 1 ≤ length h.shape → Restores h 0 S src src out out w w
+Restores-none {A} {S} h src out w some =
     let none : first_block h.shape ((0 + 3) / 4) ≡ 0 = omega (arith, mul_comm (row_len (grid h.shape)) 0) in
     record {
       whole = record { some_axis = some; within = omega arith; whole = inl refl };

@@ -1,8 +1,9 @@
 -- The room that an array is compressed in, and the one that a stream is restored in, as they are used.
-use Rattle.std.{proofs.Common.{rules, ◌≡◌, sym, ◌∙◌, ℕ, ◌≤◌, List, length, Option, arith}, specs.Int.{Width}}
+use Rattle.std.{proofs.Common.{rules, ◌≡◌, sym, ◌∙◌, ℕ, ◌≤◌, List, length, arith}, specs.Int.{Width}}
 use Rattle.std.specs.declared.cmp.PartialEq.{Ghosts as PartialEq}
 use Rattle.zf_base.specs.declared.lane.Lane.{Ghosts as Lane}
 use Rattle.zf_header.specs.declared.header.Header.{Header}
+use Rattle.zf_dev.specs.declared.source.Source.{Ghosts as Source}
 use Rattle.zf_stream.{specs.declared.room.Room.{Room}, specs.declared.restore_room.RestoreRoom.{RestoreRoom}}
 use Rattle.zf_stream.{specs.Windows.{KnowsEnd}, proofs.Slabwise.{with_shape, longest_part}}
 use Rattle.zf_stream.specs.Rooms.{IsRoomFor, IsRoomOf, Keeps, CanRestore, CanRestoreAll, Stays}
@@ -31,12 +32,12 @@ module _ {X : Type 0} {l : Lane X} {e : PartialEq X} where
   Stays-next {a} {b} {c} first next = search rules
 
   -- it still is one that the array can be restored in
-  pub still_restores : {h : Header} {count : ℕ} {src now : Option (List ℕ)} {a b : RestoreRoom X l e} → CanRestore h count src a → Stays a b → KnowsEnd b.window now → CanRestore h count now b
-  still_restores {h} {count} {src} {now} {a} {b} can stays ended = search rules
+  pub still_restores : {A : Type 0} {S : Source A} {h : Header} {count : ℕ} {src now : A} {a b : RestoreRoom X l e} → CanRestore h count S src a → Stays a b → KnowsEnd S b.window now → CanRestore h count S now b
+  still_restores {A} {S} {h} {count} {src} {now} {a} {b} can stays ended = search rules
 
-  pub still_restores_all : {w : Width} {h : Header} {src now : Option (List ℕ)} {a b : RestoreRoom X l e} → CanRestoreAll w h src a → Stays a b → KnowsEnd b.window now → CanRestoreAll w h now b
-  still_restores_all {w} {h} {src} {now} {a} {b} can stays ended = search (rules, still_restores)
+  pub still_restores_all : {A : Type 0} {S : Source A} {w : Width} {h : Header} {src now : A} {a b : RestoreRoom X l e} → CanRestoreAll w h S src a → Stays a b → KnowsEnd S b.window now → CanRestoreAll w h S now b
+  still_restores_all {A} {S} {w} {h} {src} {now} {a} {b} can stays ended = search (rules, still_restores)
 
   -- and so can some rows of it
-  pub restores_part : {h : Header} {count : ℕ} {src : Option (List ℕ)} {room : RestoreRoom X l e} (shape : List ℕ) (few : ℕ) → length shape ≡ length h.shape → few ≤ count → CanRestore h count src room → CanRestore (with_shape h shape) few src room
-  restores_part {h} {count} {src} {room} shape few same fewer can = search (rules, longest_part)
+  pub restores_part : {A : Type 0} {S : Source A} {h : Header} {count : ℕ} {src : A} {room : RestoreRoom X l e} (shape : List ℕ) (few : ℕ) → length shape ≡ length h.shape → few ≤ count → CanRestore h count S src room → CanRestore (with_shape h shape) few S src room
+  restores_part {A} {S} {h} {count} {src} {room} shape few same fewer can = search (rules, longest_part)

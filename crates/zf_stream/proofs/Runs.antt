@@ -1,11 +1,12 @@
 -- The codes of a slab that were read so far, and the values of their blocks.
-use Rattle.std.proofs.Common.{◌≡◌, ℕ, zero, suc, ◌+◌, ◌-◌, ◌*◌, ◌^◌, ◌<◌, ◌≤◌, ℤ, Bool, List, [], ◌∷◌, ◌++◌, Option, Ok, length, length-append, sym, ap, subst, ◌∙◌, arith}
+use Rattle.std.proofs.Common.{◌≡◌, ℕ, zero, suc, ◌+◌, ◌-◌, ◌*◌, ◌^◌, ◌<◌, ◌≤◌, ℤ, Bool, List, [], ◌∷◌, ◌++◌, Ok, length, length-append, sym, ap, subst, ◌∙◌, arith}
 use Rattle.zf_spec.{specs.Grid.{blocks, product, extent_of}, specs.Codes.{existing_values}}
 use Rattle.zf_bits.specs.Reader.{Reader, Reads, rest}
 use Rattle.zf_pad.{specs.Stored.{HasWholeBlocks, AppendsBlock}, proofs.Stored.{Stores, stored_before, stored_within, all_stored, stores_more}, proofs.Appended.{whole_size}}
 use Rattle.std.{specs.Int.{Width}, proofs.Math.Nat.{mul-add}}
 use Rattle.zf_base.{specs.Widths.{width_of}, proofs.Extents.{length-extent_of}}
 use Rattle.zf_header.specs.declared.header.Header.{Header}
+use Rattle.zf_dev.specs.declared.source.Source.{Ghosts as Source}
 use Rattle.zf_parse.{specs.Parsing.{read_code, read_codes}, specs.ReadStreams.{ReadsCode}, proofs.Joining.{read_codes-next, rest_behind}}
 use Rattle.zf_stream.{specs.Restoring.{ReadsStored, ReadsRun, stream_from}, specs.Windows.{Window, left_of, Refills}}
 use Rattle.zf_stream.proofs.Windows.{codes_refilled}
@@ -58,9 +59,9 @@ pub run_none : (h : Header) (b n : ℕ) (s : List Bool) (old new : Reader) (befo
 run_none h b n s old new before now few run so_far = let none = run_of_none h b n old new before now few run in rw (none.0, none.1) so_far
 
 -- the source gave more bits
-pub read_refilled : (h : Header) (b : ℕ) (w : Window) (bytes : List ℕ) (stored : List ℤ) {src now : Option (List ℕ)} {u v : Window} → HasRead h b (stream_from w bytes) (left_of u) stored → (refill : Refills src now u v)
+pub read_refilled : (h : Header) (b : ℕ) (w : Window) (bytes : List ℕ) (stored : List ℤ) {A : Type 0} {S : Source A} {src now : A} {u v : Window} → HasRead h b (stream_from w bytes) (left_of u) stored → (refill : Refills S src now u v)
     → HasRead h b (stream_from w (bytes ++ refill.bytes)) (left_of v) stored
-read_refilled h b w bytes stored so_far refill = record {
+read_refilled h b w bytes stored {A} {S} {src} {now} {u} {v} so_far refill = record {
   found = so_far.found;
   count = so_far.count;
   codes = codes_refilled h b w bytes so_far.found so_far.codes refill;

@@ -1,11 +1,11 @@
 -- What is answered where a stream is restored if its values are of one type.
-use Rattle.std.proofs.Common.{rules, ◌≡◌, ◌≢◌, refl, sym, ap, ◌∙◌, ℕ, ◌≤◌, inl, inr, ⊎_elim, Bool, true, false, List, ◌++◌, Option, Some, None, Result, Ok, Err, arith}
+use Rattle.std.proofs.Common.{rules, ◌≡◌, ◌≢◌, refl, sym, ap, ◌∙◌, ℕ, ◌≤◌, inl, inr, ⊎_elim, Bool, true, false, List, [], ◌++◌, length, append-nil, Option, Some, None, Result, Ok, Err, arith}
 use Rattle.std.specs.Prelude.{IsErrAnd}
 use Rattle.zf_base.{specs.declared.lane.Ty.{Ty}}
 use Rattle.zf_header.specs.declared.header.Header.{Header}
-use Rattle.zf_dev.specs.Source.{Takes, TakesSome}
+use Rattle.zf_dev.specs.Source.{Takes, TakesSome, Gives}
 use Rattle.zf_parse.{specs.declared.fault.StreamFault.{StreamFault}, proofs.Steps.{header_or}}
-use Rattle.zf_parse.{specs.Parsing.{header_of, restore_answer}, proofs.Parsed.{begun_more, fault_first}}
+use Rattle.zf_parse.{specs.Parsing.{header_of, restore_answer, restored_text}, proofs.Parsed.{begun_more, fault_first}}
 use Rattle.zf_parse.specs.ReadStreams.{BeginsWithHeader, HasGoodHeader, IsFaultOf}
 use Rattle.zf_parse.specs.declared.fault.StreamFault.TheVariants as faults
 use Rattle.zf_stream.specs.Outcomes.{Answers, IsPrefix, TakesFirst, IsFromOutside}
@@ -13,6 +13,8 @@ use Rattle.zf_stream.specs.Restoring.{behind, FinishesBehind, CanRefuseBehind, R
 use Rattle.zf_stream.specs.Typed.{with_true, answer_of_types, typed_answer, CanRefuseTyped, RestoresTyped, RestoredWhere}
 use Rattle.zf_stream.{proofs.FromPrefix.{Answers-known, Takes-known}, proofs.Headed.{good_of_prefix}}
 use Rattle.zf_stream.proofs.RestoreEndings.{answer_unread, nothing_written, bad_memory}
+use Rattle.zf_stream.{specs.Outcomes.{RefusesGiven, RestoredGiven}, specs.Restoring.{given_behind}, specs.Typed.{RestoredWhereGiven}}
+use Rattle.zf_stream.proofs.GivenBack.{none_written, prefix_by, behind_more}
 
 same_types : (wanted ty : Ty) (answer : Result (Unit {0}) StreamFault) → ty ≡ wanted → answer_of_types wanted ty answer ≡ with_true answer
 same_types _ ty answer is = search rules
@@ -113,3 +115,45 @@ module _ (wanted : Ty) (prefix : List ℕ) (h : Header) (len : ℕ) (known src :
         let answer = typed_same wanted known src prefix h len (Ok tt) first.taken begun same_type rest.answer in
         let memory : Ok true ≡ Err faults.Memory → HasGoodHeader known = λ same. absurd cc in
         search (rules, typed_done)
+
+-- ---- of what the source says that it gave
+
+module _ (wanted : Ty) {gives : List ℕ → Type 0} (bytes : List ℕ) (given : gives bytes) (out : Option (List ℕ)) where
+  -- nothing was written
+  pub where_refused : (e : StreamFault) → RefusesGiven (typed_answer wanted) gives e → RestoredWhereGiven wanted (Err e) gives out out
+  where_refused e refuses = record { ok = tt; refused = refuses; err = none_written bytes given out e restored_text }
+
+  -- there is no good header
+  pub where_no_header : (e : StreamFault) → IsFaultOf bytes e → RestoredWhereGiven wanted (Err e) gives out out
+  where_no_header (faults.Header f) fault = where_refused (faults.Header f) (inl (bytes, (given, ap (λ o. header_or o (answer_of_types wanted (header_of bytes).ty (restore_answer bytes))) fault)))
+  where_no_header e fault = absurd fault
+
+  -- it is one of the other type
+  pub where_given_other : (h : Header) (len : ℕ) → BeginsWithHeader bytes h len → length bytes ≤ 24 → h.ty ≢ wanted → RestoredWhereGiven wanted (Ok false) gives out out
+  where_given_other h len begun few other =
+      let none : bytes ≡ bytes ++ [] = sym (append-nil bytes) in
+      let is = ap (typed_answer wanted) none ∙ typed_by wanted bytes [] h len begun ∙ other_types wanted h.ty (restore_answer (bytes ++ [])) other in
+      record { ok = record { bytes = bytes; given = given; few = few; other = is; unwritten = refl }; refused = tt; err = tt }
+
+-- what is restored behind a header of the wanted type
+module _ (wanted : Ty) {a b c : List ℕ → Type 0} (prefix : List ℕ) (first : Gives a b prefix) (h : Header) (len : ℕ) (begun : BeginsWithHeader prefix h len) (same : h.ty ≡ wanted) where
+  typed_behind : (bytes : List ℕ) → given_behind prefix (Gives b c) bytes → typed_answer wanted bytes ≡ with_true (restore_answer bytes)
+  typed_behind bytes behind =
+      ap (typed_answer wanted) behind.1.0 ∙ typed_by wanted prefix behind.0 h len begun ∙ same_types wanted h.ty (restore_answer (prefix ++ behind.0)) same
+      ∙ ap (λ bs. with_true (restore_answer bs)) (sym behind.1.0)
+
+  pub where_given_done : {out0 out : Option (List ℕ)} → RestoredGiven (Ok tt) (given_behind prefix (Gives b c)) out0 out → RestoredWhereGiven wanted (Ok true) (Gives a c) out0 out
+  where_given_done {out0} {out} done =
+      let w = done.ok in
+      record {
+        ok = record { bytes = w.bytes; given = behind_more prefix first w.bytes w.given; good = typed_behind w.bytes w.given ∙ ap with_true w.good; written = w.written };
+        refused = tt;
+        err = tt;
+      }
+
+  pub where_given_failed : (e : StreamFault) {out0 out : Option (List ℕ)} → RestoredGiven (Err e) (given_behind prefix (Gives b c)) out0 out → RestoredWhereGiven wanted (Err e) (Gives a c) out0 out
+  where_given_failed e {out0} {out} done = record {
+    ok = tt;
+    refused = ⊎_elim (λ is. inl (is.0, (behind_more prefix first is.0 is.1.0, typed_behind is.0 is.1.0 ∙ ap with_true is.1.1))) (λ outside. inr outside) done.refused;
+    err = prefix_by (behind_more prefix first) done.err;
+  }

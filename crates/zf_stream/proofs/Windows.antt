@@ -1,9 +1,10 @@
 -- The bits of a window, as its words are moved and more are put behind them.
-use Rattle.std.proofs.Common.{rules, ◌≡◌, sym, ap, ◌∙◌, ℕ, ◌+◌, ◌-◌, ◌*◌, ◌/◌, ◌%◌, ◌≤◌, Bool, List, [], ◌++◌, length, take, drop, ℤ, Option, Ok, append_assoc, length-append, arith}
+use Rattle.std.proofs.Common.{rules, ◌≡◌, sym, ap, ◌∙◌, ℕ, ◌+◌, ◌-◌, ◌*◌, ◌/◌, ◌%◌, ◌≤◌, Bool, List, [], ◌++◌, length, take, drop, ℤ, Ok, append_assoc, length-append, arith}
 use Rattle.std.proofs.lemmas.List.{drop-take, drop-drop, drop-append-le, length-drop, append-nil}
 use Rattle.std.proofs.lemmas.Grind.{flat_map-append}
 use Rattle.zf_spec.{specs.Numbers.{field, word_bits}, specs.Stream.{to_bits}, proofs.Bytes.{length-to_bits}}
-use Rattle.zf_dev.{specs.Source.{Takes}, proofs.Taking.{Takes-none, Takes-append}}
+use Rattle.zf_dev.specs.declared.source.Source.{Ghosts as Source}
+use Rattle.zf_stream.{specs.Drawing.{Draws}, proofs.Drawing.{Draws-none, Draws-append}}
 use Rattle.zf_stream.{specs.Windows.{Window, left_of, Goes, Refills}, specs.Restoring.{stream_from}}
 use Rattle.zf_stream.proofs.WordBytes.{word_bits-take, word_bits-drop}
 use Rattle.zf_header.specs.declared.header.Header.{Header}
@@ -31,12 +32,12 @@ bits_moved words new bits at first end same within whole bits_are before in_bits
 
 -- ---- one step after another
 
-pub Goes-none : (src : Option (List ℕ)) (w : Window) → Goes src src w w []
-Goes-none src w = search (rules, append-nil)
+pub Goes-none : {A : Type 0} {S : Source A} (src : A) (w : Window) → Goes S src src w w []
+Goes-none {A} {S} src w = record { drawn = Draws-none src; moved = 0; place = omega (arith, ap length (append-nil (left_of w))) }
 
-pub Goes-next : {a b c : Option (List ℕ)} {u v w : Window} {xs ys : List ℕ} → Goes a b u v xs → Goes b c v w ys → Goes a c u w (xs ++ ys)
-Goes-next {a} {b} {c} {u} {v} {w} {xs} {ys} first next = record {
-  taken = Takes-append a b c xs ys first.taken next.taken;
+pub Goes-next : {A : Type 0} {S : Source A} {a b c : A} {u v w : Window} {xs ys : List ℕ} → Goes S a b u v xs → Goes S b c v w ys → Goes S a c u w (xs ++ ys)
+Goes-next {A} {S} {a} {b} {c} {u} {v} {w} {xs} {ys} first next = record {
+  drawn = Draws-append xs ys first.drawn next.drawn;
   moved = first.moved + next.moved;
   place = search (rules, length-append, length-to_bits);
 }
@@ -44,15 +45,20 @@ Goes-next {a} {b} {c} {u} {v} {w} {xs} {ys} first next = record {
 pub to_bits-append : (s : List Bool) (xs ys : List ℕ) → (s ++ to_bits xs) ++ to_bits ys ≡ s ++ to_bits (xs ++ ys)
 to_bits-append s xs ys = append_assoc s (to_bits xs) (to_bits ys) ∙ ap (λ (bs : List Bool). s ++ bs) (sym (flat_map-append (field 8) xs ys))
 
-pub Refills-next : {a b c : Option (List ℕ)} {u v w : Window} → Refills a b u v → Refills b c v w → Refills a c u w
-Refills-next {a} {b} {c} {u} {v} {w} first next = search (rules, Goes-next, to_bits-append)
+pub Refills-next : {A : Type 0} {S : Source A} {a b c : A} {u v w : Window} → Refills S a b u v → Refills S b c v w → Refills S a c u w
+Refills-next {A} {S} {a} {b} {c} {u} {v} {w} first next = record {
+  bytes = first.bytes ++ next.bytes;
+  goes = Goes-next first.goes next.goes;
+  bits = next.bits ∙ (ap (λ (s : List Bool). s ++ to_bits next.bytes) first.bits ∙ to_bits-append (left_of u) first.bytes next.bytes);
+  room = next.room ∙ first.room;
+}
 
 -- words that were read are gone
-pub Refills-moved : (src : Option (List ℕ)) (u v : Window) → left_of v ≡ left_of u → v.room ≡ u.room → v.reader.at ≡ u.reader.at % 64 → Refills src src u v
-Refills-moved src u v same room place = record {
+pub Refills-moved : {A : Type 0} {S : Source A} (src : A) (u v : Window) → left_of v ≡ left_of u → v.room ≡ u.room → v.reader.at ≡ u.reader.at % 64 → Refills S src src u v
+Refills-moved {A} {S} src u v same room place = record {
   bytes = [];
   goes = record {
-    taken = Takes-none src;
+    drawn = Draws-none src;
     moved = u.reader.at / 64;
     place = omega (arith, place, ap length same, ap length (append-nil (left_of u)));
   };
@@ -61,25 +67,25 @@ Refills-moved src u v same room place = record {
 }
 
 -- bytes were put behind
-unfoldable pub Refills-put : (a b : Option (List ℕ)) (u v : Window) (bytes : List ℕ) → Takes a b bytes → v.reader.all ≡ u.reader.all ++ to_bits bytes → v.reader.at ≡ u.reader.at → u.reader.at ≤ length u.reader.all → v.room ≡ u.room
-    → Refills a b u v
-Refills-put a b u v bytes taken all place within room =
+unfoldable pub Refills-put : {A : Type 0} {S : Source A} (a b : A) (u v : Window) (bytes : List ℕ) → Draws S a b bytes → v.reader.all ≡ u.reader.all ++ to_bits bytes → v.reader.at ≡ u.reader.at → u.reader.at ≤ length u.reader.all → v.room ≡ u.room
+    → Refills S a b u v
+Refills-put {A} {S} a b u v bytes drawn all place within room =
     let bits : left_of v ≡ left_of u ++ to_bits bytes = ap (drop v.reader.at) all ∙ ap (λ k. drop k (u.reader.all ++ to_bits bytes)) place ∙ drop-append-le u.reader.at u.reader.all (to_bits bytes) within in
     record {
       bytes = bytes;
-      goes = record { taken = taken; moved = 0; place = omega (arith, place, ap length bits) };
+      goes = record { drawn = drawn; moved = 0; place = omega (arith, place, ap length bits) };
       bits = bits;
       room = room;
     }
 
 -- bits that are held were read
-pub Goes-read : {a b : Option (List ℕ)} {u v w : Window} {xs : List ℕ} → Goes a b u v xs → w.reader.at + length (left_of w) ≡ v.reader.at + length (left_of v) → Goes a b u w xs
-Goes-read {a} {b} {u} {v} {w} {xs} goes read = record { taken = goes.taken; moved = goes.moved; place = omega (arith, goes.place, read) }
+pub Goes-read : {A : Type 0} {S : Source A} {a b : A} {u v w : Window} {xs : List ℕ} → Goes S a b u v xs → w.reader.at + length (left_of w) ≡ v.reader.at + length (left_of v) → Goes S a b u w xs
+Goes-read {A} {S} {a} {b} {u} {v} {w} {xs} goes read = record { drawn = goes.drawn; moved = goes.moved; place = omega (arith, goes.place, read) }
 
 -- what was read of the bits so far is read of them with those behind
-pub codes_refilled : (h : Header) (n : ℕ) (w : Window) (bytes : List ℕ) (blocks : List (List ℤ)) {a b : Option (List ℕ)} {u v : Window} → read_codes h 0 n (stream_from w bytes) ≡ Ok (blocks, left_of u) → (refill : Refills a b u v)
+pub codes_refilled : (h : Header) (n : ℕ) (w : Window) (bytes : List ℕ) (blocks : List (List ℤ)) {A : Type 0} {S : Source A} {a b : A} {u v : Window} → read_codes h 0 n (stream_from w bytes) ≡ Ok (blocks, left_of u) → (refill : Refills S a b u v)
     → read_codes h 0 n (stream_from w (bytes ++ refill.bytes)) ≡ Ok (blocks, left_of v)
-codes_refilled h n w bytes blocks {a} {b} {u} {v} read refill =
+codes_refilled h n w bytes blocks {A} {S} {a} {b} {u} {v} read refill =
     ap (read_codes h 0 n) (sym (to_bits-append (left_of w) bytes refill.bytes))
     ∙ read_codes_more h 0 n (stream_from w bytes) (to_bits refill.bytes) (blocks, left_of u) read
     ∙ ap (λ (s : List Bool). Ok (blocks, s)) (sym refill.bits)

@@ -1,5 +1,5 @@
 -- The header that a source begins with.
-use Rattle.std.specs.Prelude.{ℕ, ◌≡◌, List, Option, Some}
+use Rattle.std.specs.Prelude.{ℕ, ◌≡◌, ◌≤◌, length, List, Option, Some}
 use Rattle.zf_header.specs.declared.header.Header.{Header}
 use Rattle.zf_header.specs.HeaderFaults.{header_fault}
 use Rattle.zf_dev.specs.Source.{TakesAtMost}
@@ -28,3 +28,19 @@ LacksHeader before now (faults.Header f) = (bytes : List ℕ) × TakesFirst head
     (header_fault bytes ≡ Some f)
 LacksHeader before now faults.Read = TakesAtMost before now header_room
 LacksHeader before now e = ⊥
+
+-- ---- of what a source says that it gave
+
+-- it is no more than the longest header lies in, and begins with this one
+pub record GivesHeader (gives : List ℕ → Type 0) (h : Header) (bits : ℕ) : Type 0 where
+  pub bytes : List ℕ
+  pub given : gives bytes
+  pub few : length bytes ≤ header_room
+  pub begun : BeginsWithHeader bytes h bits
+
+-- no header was read: it is no more, and has this fault, or the source failed
+abbrev pub GivesNoHeader : (List ℕ → Type 0) → StreamFault → Type 0
+GivesNoHeader gives (faults.Header f) = (bytes : List ℕ) × (gives bytes × ((length bytes ≤ header_room) ×
+    (header_fault bytes ≡ Some f)))
+GivesNoHeader gives faults.Read = (bytes : List ℕ) × gives bytes
+GivesNoHeader gives e = ⊥

@@ -96,6 +96,11 @@ pub record WritesPrefix (text : List ℕ → List ℕ) (gives : List ℕ → Typ
   pub given : gives (bytes ++ lost)
   pub written : (rest : List ℕ) → AppendsPrefix out_before out_now (text (bytes ++ rest))
 
+-- what a source says that it gave has this refusal, or it comes from outside
+abbrev pub RefusesGiven : {T : Type 0} → (List ℕ → Result T StreamFault) → (List ℕ → Type 0) → StreamFault
+    → Type 0
+RefusesGiven answer gives e = ((input : List ℕ) × (gives input × (answer input ≡ Err e))) ⊎ IsFromOutside e
+
 -- how raw values are compressed, of which so many bytes are wanted: the result is the one that is stated for
 -- the input; on `Ok` its text was written, and on an error a prefix of one, but nothing where memory was
 -- wanting
@@ -128,6 +133,14 @@ pub record Restored (result : Result (Unit {0}) StreamFault)
   pub err : OnErr result (LeavesPrefix restored_text src_before src_now out_before out_now)
   pub unwritten : IfErr result (λ e. IsBeforeWriting e → out_now ≡ out_before)
   pub memory : result ≡ Err Memory → HasGoodHeader src_before
+
+-- the same of what a source says that it gave: on `Ok` its values were written, a refusal is that of it, and
+-- on an error a prefix of its values was written
+pub record RestoredGiven (result : Result (Unit {0}) StreamFault) (gives : List ℕ → Type 0)
+    (out_before out_now : Option (List ℕ)) : Type 0 where
+  pub ok : OnOk result (WritesText restore_answer restored_text gives out_before out_now)
+  pub refused : IfErr result (RefusesGiven restore_answer gives)
+  pub err : OnErr result (WritesPrefix restored_text gives out_before out_now)
 
 -- these are the first n bytes of what a device exposes, or all where there are fewer
 abbrev pub IsPrefix : ℕ → Option (List ℕ) → List ℕ → Type 0

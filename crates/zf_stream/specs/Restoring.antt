@@ -11,7 +11,8 @@ use Rattle.zf_pad.specs.Stored.{AppendsBlock}
 use Rattle.zf_bits.specs.Reader.{Reader, rest}
 use Rattle.zf_base.specs.Widths.{width_of}
 use Rattle.zf_header.specs.declared.header.Header.{Header}
-use Rattle.zf_dev.specs.Source.{Takes, TakesSome, IsAtEnd}
+use Rattle.zf_dev.specs.declared.source.Source.{Ghosts as Source}
+use Rattle.zf_dev.specs.Source.{Takes, Gives}
 use Rattle.zf_dev.specs.Sink.{Appends, AppendsPrefix}
 use Rattle.zf_parse.specs.declared.fault.StreamFault.{StreamFault}
 use Rattle.zf_parse.specs.declared.fault.StreamFault.TheVariants as faults
@@ -21,12 +22,17 @@ use Rattle.zf_parse.specs.Parsing.{restored_text}
 use Rattle.zf_stream.specs.Outcomes.{Answers, Finishes, LeavesPrefix, IsFromOutside, IsBeforeWriting}
 use Rattle.zf_parse.specs.ReadStreams.{BeginsWithHeader}
 use Rattle.zf_stream.specs.Headed.{prefix_room}
+use Rattle.zf_stream.specs.Drawing.{Draws, DrawsSome, IsSpent}
 use Rattle.zf_stream.specs.Windows.{Window, left_of, Goes}
 
 -- bytes in front of what is still to come of a device
 abbrev pub behind : List ℕ → Option (List ℕ) → Option (List ℕ)
 behind prefix None = None
 behind prefix (Some left) = Some (prefix ++ left)
+
+-- these bytes, and what a source says that it gave behind them
+abbrev pub given_behind : List ℕ → (List ℕ → Type 0) → List ℕ → Type 0
+given_behind prefix gives bytes = (more : List ℕ) × ((bytes ≡ prefix ++ more) × gives more)
 
 -- the input behind these bytes was read to its end; all of it is a good stream, whose text was written
 pub record FinishesBehind (prefix : List ℕ)
@@ -50,10 +56,11 @@ pub record RestoredBehind (prefix : List ℕ) (result : Result (Unit {0}) Stream
 
 -- the first bytes of a stream were read, all of it where they are fewer than three words, and a header of so
 -- many bits begins them
-pub record IsBegun (prefix : List ℕ) (h : Header) (bits : ℕ) (src : Option (List ℕ)) : Type 0 where
+pub record IsBegun {A : Type 0} (prefix : List ℕ) (h : Header) (bits : ℕ) (S : Source A) (src : A) : Type
+    0 where
   pub begun : BeginsWithHeader prefix h bits
   pub few : length prefix ≤ prefix_room
-  pub ended : length prefix < prefix_room → IsAtEnd src
+  pub ended : length prefix < prefix_room → IsSpent S src
 
 -- what is still to come, as far as the device exposes it
 abbrev pub still : Option (List ℕ) → List ℕ
@@ -81,29 +88,29 @@ ReadsRun h b (suc n) old new before now = (middle : Reader) × ((values : List �
     × (ReadsRun h b n old middle before values × ReadsStored h (b + n) middle new values now))
 
 -- its codes were read, which are those of these values
-pub record ReadsSlab (part : Header) (src_before src_now : Option (List ℕ)) (old new : Window)
+pub record ReadsSlab {A : Type 0} (part : Header) (S : Source A) (src_before src_now : A) (old new : Window)
     (values : List ℤ) : Type 0 where
   pub bytes : List ℕ
-  pub goes : Goes src_before src_now old new bytes
+  pub goes : Goes S src_before src_now old new bytes
   pub codes : read_codes part 0 (blocks part.shape) (stream_from old bytes) ≡ Ok
       (blocks_of part.shape values, left_of new)
 
 -- the source ends within the code of this block of the array, of which the slab's blocks are those from the
 -- first on
-pub record CutsSlab (part : Header) (first number : ℕ) (src_before src_now : Option (List ℕ))
+pub record CutsSlab {A : Type 0} (part : Header) (first number : ℕ) (S : Source A) (src_before src_now : A)
     (old : Window) : Type 0 where
   pub bytes : List ℕ
-  pub taken : Takes src_before src_now bytes
-  pub ended : IsAtEnd src_now
+  pub drawn : Draws S src_before src_now bytes
+  pub ended : IsSpent S src_now
   pub block : ℕ
   pub number_is : number ≡ first + block
   pub codes : read_codes part 0 (blocks part.shape) (stream_from old bytes) ≡ Err block
 
-abbrev pub LacksSlab : Header → ℕ → Option (List ℕ) → Option (List ℕ) → Window → StreamFault → Type 0
-LacksSlab part first src_before src_now old (faults.Truncated number) =
-    CutsSlab part first number src_before src_now old
-LacksSlab part first src_before src_now old faults.Read = TakesSome src_before src_now
-LacksSlab part first src_before src_now old e = ⊥
+abbrev pub LacksSlab : {A : Type 0} → Header → ℕ → Source A → A → A → Window → StreamFault → Type 0
+LacksSlab part first S src_before src_now old (faults.Truncated number) =
+    CutsSlab part first number S src_before src_now old
+LacksSlab part first S src_before src_now old faults.Read = DrawsSome S src_before src_now
+LacksSlab part first S src_before src_now old e = ⊥
 
 -- ---- the array
 
@@ -112,11 +119,11 @@ abbrev pub blocks_of_rows : List ℕ → ℕ → List ℤ → List (List ℤ)
 blocks_of_rows ns rows values = map (block_of ns values) (upto (first_block ns ((rows + 3) / 4)))
 
 -- the codes of its first rows were read, and their values written
-pub record Restores (h : Header) (rows : ℕ) (src_before src_now out_before out_now : Option (List ℕ))
-    (old new : Window) : Type 0 where
+pub record Restores {A : Type 0} (h : Header) (rows : ℕ) (S : Source A) (src_before src_now : A)
+    (out_before out_now : Option (List ℕ)) (old new : Window) : Type 0 where
   pub whole : IsSlab h.shape 0 rows
   pub bytes : List ℕ
-  pub goes : Goes src_before src_now old new bytes
+  pub goes : Goes S src_before src_now old new bytes
   pub values : List ℤ
   pub long : length values ≡ row_len h.shape * rows
   pub codes : read_codes h 0 (first_block h.shape ((rows + 3) / 4)) (stream_from old bytes) ≡ Ok
@@ -132,30 +139,38 @@ abbrev pub answer_of_codes : Header → ℕ → List Bool → Result (List ℤ) 
 answer_of_codes h before s = result_map_both (λ said. said.values) (λ e. e)
     (said_behind h (before + length s) s)
 
--- some bytes were taken, and a prefix of the text was written
-pub record LeavesRows (h : Header) (src_before src_now out_before out_now : Option (List ℕ))
-    (old : Window) : Type 0 where
+-- some bytes were drawn, and maybe more; of the text of the former a prefix was written, whatever follows
+-- them
+pub record LeavesRows {A : Type 0} (h : Header) (S : Source A) (src_before src_now : A)
+    (out_before out_now : Option (List ℕ)) (old : Window) : Type 0 where
   pub bytes : List ℕ
-  pub taken : Takes src_before src_now bytes
-  pub written : AppendsPrefix out_before out_now (text_of_codes h (stream_from old bytes))
+  pub more : List ℕ
+  pub taken : Takes (S.contents src_before) (S.contents src_now) (bytes ++ more)
+  -- what the source says that it gave, which may end otherwise
+  pub lost : List ℕ
+  pub given : Gives (S.gave src_before) (S.gave src_now) (bytes ++ lost)
+  pub written : (rest : List ℕ) → AppendsPrefix out_before out_now
+      (text_of_codes h (stream_from old (bytes ++ rest)))
 
--- the fault of all that was to come, unless it is one of a device
-pub record HasFault (h : Header) (src_before src_now : Option (List ℕ)) (old : Window)
+-- the fault of what was drawn, and of all that was to come, unless it is one of a device
+pub record HasFault {A : Type 0} (h : Header) (S : Source A) (src_before src_now : A) (old : Window)
     (e : StreamFault) : Type 0 where
   pub bytes : List ℕ
-  pub taken : Takes src_before src_now bytes
-  pub answer : answer_of_codes h old.reader.at (stream_from old (bytes ++ still src_now)) ≡ Err e
+  pub drawn : Draws S src_before src_now bytes
+  pub answer : answer_of_codes h old.reader.at (stream_from old bytes) ≡ Err e
+  pub answer_of_all : answer_of_codes h old.reader.at
+      (stream_from old (bytes ++ still (S.contents src_now))) ≡ Err e
 
-abbrev pub Refuses : Header → Option (List ℕ) → Option (List ℕ) → Window → StreamFault → Type 0
-Refuses h src_before src_now old e = HasFault h src_before src_now old e ⊎
+abbrev pub Refuses : {A : Type 0} → Header → Source A → A → A → Window → StreamFault → Type 0
+Refuses h S src_before src_now old e = HasFault h S src_before src_now old e ⊎
     ((e ≡ faults.Read) ⊎ (e ≡ faults.Write))
 
--- all that was to come was taken and is good, and its text was written
-pub record RestoresAll (h : Header) (src_before src_now out_before out_now : Option (List ℕ))
-    (old : Window) : Type 0 where
+-- all that was to come was drawn and is good, and its text was written
+pub record RestoresAll {A : Type 0} (h : Header) (S : Source A) (src_before src_now : A)
+    (out_before out_now : Option (List ℕ)) (old : Window) : Type 0 where
   pub bytes : List ℕ
-  pub taken : Takes src_before src_now bytes
-  pub ended : IsAtEnd src_now
+  pub drawn : Draws S src_before src_now bytes
+  pub ended : IsSpent S src_now
   pub values : List ℤ
   pub good : answer_of_codes h old.reader.at (stream_from old bytes) ≡ Ok values
   pub written : Appends out_before out_now (raw_bytes h values)

@@ -1,5 +1,5 @@
 -- A stream that is restored where its values are of one type.
-use Rattle.std.specs.Prelude.{ℕ, ◌≡◌, ◌≢◌, ◌⊎◌, Bool, true, false, List, Option, Some, None, Result, Ok, Err}
+use Rattle.std.specs.Prelude.{ℕ, ◌≡◌, ◌≢◌, ◌≤◌, ◌⊎◌, length, Bool, true, false, List, Option, Some, None, Result, Ok, Err}
 use Rattle.std.specs.Prelude.{IfOk, IfErr, OnErr}
 use Rattle.zf_base.specs.declared.lane.Ty.{Ty}
 use Rattle.zf_base.specs.declared.lane.Ty.TheVariants.{I32, I64}
@@ -10,6 +10,7 @@ use Rattle.zf_parse.specs.declared.fault.StreamFault.{StreamFault}
 use Rattle.zf_parse.specs.declared.fault.StreamFault.TheVariants as faults
 use Rattle.zf_parse.specs.ReadStreams.{HasGoodHeader}
 use Rattle.zf_stream.specs.Outcomes.{Answers, IsFromOutside, IsBeforeWriting, LeavesPrefix, TakesFirst}
+use Rattle.zf_stream.specs.Outcomes.{RefusesGiven, WritesPrefix}
 use Rattle.zf_stream.specs.Headed.{prefix_room}
 use Rattle.zf_parse.specs.Parsing.{header_of, restore_answer, restored_text}
 
@@ -70,3 +71,33 @@ pub record RestoredWhere (wanted : Ty) (result : Result Bool StreamFault)
   pub err : OnErr result (LeavesPrefix restored_text src_before src_now out_before out_now)
   pub unwritten : IfErr result (λ e. IsBeforeWriting e → out_now ≡ out_before)
   pub memory : result ≡ Err faults.Memory → HasGoodHeader src_before
+
+-- ---- of what a source says that it gave
+
+-- it is a good stream of the wanted type, and its text was written
+pub record WritesTyped (wanted : Ty) (gives : List ℕ → Type 0) (out_before out_now : Option
+    (List ℕ)) : Type 0 where
+  pub bytes : List ℕ
+  pub given : gives bytes
+  pub good : typed_answer wanted bytes ≡ Ok true
+  pub written : Appends out_before out_now (restored_text bytes)
+
+-- it is no more than a header is looked for in, and begins with one of another type; nothing was written
+pub record GivesOtherType (wanted : Ty) (gives : List ℕ → Type 0) (out_before out_now : Option
+    (List ℕ)) : Type 0 where
+  pub bytes : List ℕ
+  pub given : gives bytes
+  pub few : length bytes ≤ prefix_room
+  pub other : typed_answer wanted bytes ≡ Ok false
+  pub unwritten : out_now ≡ out_before
+
+abbrev pub WritesWhere : Ty → Bool → (List ℕ → Type 0) → Option (List ℕ) → Option (List ℕ) → Type 0
+WritesWhere wanted true gives out_before out_now = WritesTyped wanted gives out_before out_now
+WritesWhere wanted false gives out_before out_now = GivesOtherType wanted gives out_before out_now
+
+-- how it is restored where its values are of one type
+pub record RestoredWhereGiven (wanted : Ty) (result : Result Bool StreamFault) (gives : List ℕ → Type 0)
+    (out_before out_now : Option (List ℕ)) : Type 0 where
+  pub ok : IfOk result (λ is. WritesWhere wanted is gives out_before out_now)
+  pub refused : IfErr result (RefusesGiven (typed_answer wanted) gives)
+  pub err : OnErr result (WritesPrefix restored_text gives out_before out_now)

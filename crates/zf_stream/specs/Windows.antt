@@ -1,9 +1,9 @@
 -- A window of a stream: the bits of it that are held, of which some were read.
 use Rattle.std.specs.Prelude.{ℕ, ◌≡◌, ◌+◌, ◌*◌, ◌%◌, ◌^◌, ◌<◌, ◌≤◌, Bool, true, false, List, ◌++◌, length}
-use Rattle.std.specs.Prelude.{Option}
 use Rattle.zf_spec.specs.Stream.{to_bits}
 use Rattle.zf_bits.specs.Reader.{Reader, rest}
-use Rattle.zf_dev.specs.Source.{Takes, IsAtEnd}
+use Rattle.zf_dev.specs.declared.source.Source.{Ghosts as Source}
+use Rattle.zf_stream.specs.Drawing.{Draws, IsSpent}
 
 -- the bits held and the place among them, the room in words, and whether the source is known to be at its end
 pub record Window : Type 0 where
@@ -23,20 +23,21 @@ abbrev pub left_of : Window → List Bool
 left_of window = rest window.reader
 
 -- what the window knows of the end of its source is so
-abbrev pub KnowsEnd : Window → Option (List ℕ) → Type 0
-KnowsEnd window src = window.ended ≡ true → IsAtEnd src
+abbrev pub KnowsEnd : {A : Type 0} → Source A → Window → A → Type 0
+KnowsEnd S window src = window.ended ≡ true → IsSpent S src
 
--- these bytes were taken of the source behind the bits that were left; of all these, what is left now is
+-- these bytes were drawn from the source behind the bits that were left; of all these, what is left now is
 -- counted from a place that has moved by whole words
-pub record Goes (src_before src_now : Option (List ℕ)) (old new : Window) (bytes : List ℕ) : Type 0 where
-  pub taken : Takes src_before src_now bytes
+pub record Goes {A : Type 0} (S : Source A) (src_before src_now : A) (old new : Window)
+    (bytes : List ℕ) : Type 0 where
+  pub drawn : Draws S src_before src_now bytes
   pub moved : ℕ
   pub place : old.reader.at + length (left_of old ++ to_bits bytes) ≡ new.reader.at + 64 * moved + length
       (left_of new)
 
--- no bit was read, and what was taken of the source follows the bits that were left
-pub record Refills (src_before src_now : Option (List ℕ)) (old new : Window) : Type 0 where
+-- no bit was read, and what was drawn from the source follows the bits that were left
+pub record Refills {A : Type 0} (S : Source A) (src_before src_now : A) (old new : Window) : Type 0 where
   pub bytes : List ℕ
-  pub goes : Goes src_before src_now old new bytes
+  pub goes : Goes S src_before src_now old new bytes
   pub bits : left_of new ≡ left_of old ++ to_bits bytes
   pub room : new.room ≡ old.room

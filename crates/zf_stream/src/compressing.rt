@@ -1,6 +1,6 @@
 //! From raw values to a stream.
 
-ghost use Rattle.std.specs.Prelude.{◌≡◌, ◌<◌, ◌*◌, ◌+◌, ◌^◌, length, IfErr, OnOk, OnErr, Err};
+ghost use Rattle.std.specs.Prelude.{◌≡◌, true, ◌<◌, ◌*◌, ◌+◌, ◌^◌, length, IfErr, OnOk, OnErr, Err};
 ghost use Rattle.std.specs.Int.{byte_len};
 ghost use Rattle.zf_spec.specs.Grid.{product};
 ghost use Rattle.zf_pad.specs.Rasters.{IsRaster};
@@ -48,6 +48,7 @@ pub fn compress<S: Source, O: Sink>(
     // Of every source, also of one that exposes nothing: of what it says that it gave.
     ensures given { CompressedGiven (compress_answer h.now) (stream_text h.now) result
         (Gives (S.gave src.old) (S.gave src.new)) (O.contents out.old) (O.contents out.new) }
+    ensures ended { OnOk result (S.ended src.new ≡ true) }
     ensures source { Reads S.Source (result ≡ Err Read) src.old src.new }
     ensures sink { Writes O.Sink (result ≡ Err Write) out.old out.new }
 {
@@ -70,6 +71,7 @@ fn compress_as<T: Lane, S: Source, O: Sink>(
         (S.contents src.old) (S.contents src.new) (O.contents out.old) (O.contents out.new) }
     ensures given { CompressedGiven (compress_answer h.now) (stream_text h.now) result
         (Gives (S.gave src.old) (S.gave src.new)) (O.contents out.old) (O.contents out.new) }
+    ensures ended { OnOk result (S.ended src.new ≡ true) }
     ensures source { Reads S.Source (result ≡ Err Read) src.old src.new }
     ensures sink { Writes O.Sink (result ≡ Err Write) out.old out.new }
 {
@@ -90,6 +92,7 @@ fn write_stream<T: Lane, S: Source, O: Sink>(
     requires header { room.old.codes.bits ≡ header_bits h.now }
     ensures ends { Ends h.now result (S.contents src.old) (S.contents src.new)
         (Gives (S.gave src.old) (S.gave src.new)) (O.contents out.old) (O.contents out.new) }
+    ensures ended { OnOk result (S.ended src.new ≡ true) }
     ensures source { Reads S.Source (result ≡ Err Read) src.old src.new }
     ensures sink { Writes O.Sink (result ≡ Err Write) out.old out.new }
 {

@@ -41,15 +41,14 @@ pub(crate) fn read_slab<T: Lane, S: Source>(
     src: &mut S,
 ) -> Result<(), StreamFault>
     requires same_type { T.width ≡ width_of part.now.ty }
-    requires room { CanRestore part.now (product part.now.shape) (S.contents src.old) room.old }
+    requires room { CanRestore part.now (product part.now.shape) S.Source src.old room.old }
     requires numbers { first + blocks part.now.shape < 2 ^ 64 }
-    ensures ok { OnOk result (ReadsSlab part.now (S.contents src.old) (S.contents src.new)
+    ensures ok { OnOk result (ReadsSlab part.now S.Source src.old src.new
         room.old.window room.new.window (raster_of part.now.shape (map T.value room.new.stored.items))) }
-    ensures err { IfErr result (LacksSlab part.now first (S.contents src.old)
-        (S.contents src.new) room.old.window) }
+    ensures err { IfErr result (LacksSlab part.now first S.Source src.old src.new room.old.window) }
     ensures all { OnOk result (length room.new.stored.items ≡ product part.now.shape) }
     ensures stays { OnOk result (Stays room.old room.new) }
-    ensures ended { OnOk result (KnowsEnd room.new.window (S.contents src.new)) }
+    ensures ended { OnOk result (KnowsEnd S.Source room.new.window src.new) }
     ensures source { Reads S.Source (result ≡ Err Read) src.old src.new }
 {
     let size = block_len(part.shape.dims());

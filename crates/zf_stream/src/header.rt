@@ -3,7 +3,8 @@
 ghost use Rattle.std.specs.Prelude.{◌≡◌, ◌≢◌, ◌+◌, ◌≤◌, Err, IfOk, IfErr};
 ghost use Rattle.zf_dev.specs.Devices.{Reads};
 ghost use Rattle.zf_parse.specs.ReadStreams.{BeginsWithHeader, IsFaultOf};
-ghost use Rattle.zf_stream.specs.Headed.{ReadsHeader, LacksHeader};
+ghost use Rattle.zf_dev.specs.Source.{Gives};
+ghost use Rattle.zf_stream.specs.Headed.{ReadsHeader, LacksHeader, GivesHeader, GivesNoHeader};
 ghost use Rattle.zf_parse.specs.declared.fault.StreamFault.TheVariants.{Read};
 
 use crate::StreamFault;
@@ -22,6 +23,10 @@ pub fn read_header<S: Source>(src: &mut S) -> Result<(Header, u32), StreamFault>
     ensures ok { IfOk result (λ found. ReadsHeader (S.contents src.old)
         (S.contents src.new) found.0 found.1) }
     ensures err { IfErr result (LacksHeader (S.contents src.old) (S.contents src.new)) }
+    // Of every source, also of one that exposes nothing: of what it says that it gave.
+    ensures given { IfOk result (λ found. GivesHeader (Gives (S.gave src.old) (S.gave src.new))
+        found.0 found.1) }
+    ensures lacking { IfErr result (GivesNoHeader (Gives (S.gave src.old) (S.gave src.new))) }
     // It reads no more once it saw the end.
     ensures seen { S.ends_seen src.new ≤ S.ends_seen src.old + 1 }
     ensures source { Reads S.Source (result ≡ Err Read) src.old src.new }

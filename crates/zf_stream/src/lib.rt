@@ -7,6 +7,7 @@ mod decoding;
 mod encoding;
 mod header;
 pub mod laws;
+mod most;
 mod reading;
 mod restore_room;
 mod restoring;
@@ -19,5 +20,6 @@ mod writing;
 
 pub use compressing::compress;
 pub use header::read_header;
+pub use most::most_bytes;
 pub use restoring::{restore, restore_where};
 pub use zf_parse::{StreamFault, check_fill, read_code};

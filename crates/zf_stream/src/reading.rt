@@ -1,6 +1,6 @@
 //! Reading from a source: as many bytes as are wanted, and then the end.
 
-ghost use Rattle.std.specs.Prelude.{◌≡◌, ◌≢◌, ◌≤◌, ◌<◌, ◌*◌, ◌+◌, ◌^◌, [], map, length, take, IsOk, Err};
+ghost use Rattle.std.specs.Prelude.{◌≡◌, ◌≢◌, true, ◌≤◌, ◌<◌, ◌*◌, ◌+◌, ◌^◌, [], map, length, take, IsOk, Err};
 ghost use Rattle.std.specs.Prelude.{IfOk, IfErr, OnOk, OnErr};
 ghost use Rattle.std.specs.Int.{byte_len};
 ghost use Rattle.zf_dev.specs.Source.{TakesSome, TakesAtMost, Takes, Gives, GivesSome, IsAtEnd, SeesEnd};
@@ -70,6 +70,7 @@ pub(crate) fn read_end<S: Source>(src: &mut S) -> Result<(), StreamFault>
         (S.contents src.new)) }
     ensures err { IfErr result (GoesOn (S.contents src.old) (S.contents src.new)) }
     ensures gave { OnOk result (Gives (S.gave src.old) (S.gave src.new) []) }
+    ensures ended { OnOk result (S.ended src.new ≡ true) }
     ensures gave_some { GivesSome (S.gave src.old) (S.gave src.new) }
     ensures source { Reads S.Source (result ≡ Err Read) src.old src.new }
 {
@@ -87,6 +88,7 @@ pub(crate) fn read_into<S: Source>(src: &mut S, buf: &mut [u8]) -> Result<usize,
     ensures first { IfOk result (λ n. TakesFirst (length buf.old) (S.contents src.old) (S.contents src.new)
         (take n buf.new)) }
     ensures end { IfOk result (λ n. n < length buf.old → IsAtEnd (S.contents src.new)) }
+    ensures ended { IfOk result (λ n. n < length buf.old → S.ended src.new ≡ true) }
     ensures lost { OnErr result (TakesAtMost (S.contents src.old) (S.contents src.new) (length buf.old)) }
     ensures some { TakesSome (S.contents src.old) (S.contents src.new) }
     ensures gave { IfOk result (λ n. Gives (S.gave src.old) (S.gave src.new) (take n buf.new)) }

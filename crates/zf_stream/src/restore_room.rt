@@ -8,7 +8,7 @@ ghost use Rattle.zf_parse.specs.Parsing.{longest_code};
 ghost use Rattle.zf_parse.specs.ReadStreams.{BeginsWithHeader};
 ghost use Rattle.zf_stream.specs.Rows.{ArePieces};
 
-use crate::room::PIECE;
+use crate::room::{PIECE, piece_len};
 use crate::slabs::{most_rows, rows_of, with_rows};
 use crate::stored::Stored;
 use crate::window::Window;
@@ -64,7 +64,7 @@ pub(crate) fn restore_room<T: Lane>(
     let first = (8 * PIECE).min(slab.blocks() * longest);
     let window = Window::new(alloc, longest + first, prefix, u64::from(header_len))?;
     let block = vec![in alloc; T::zero(); BLOCK]?;
-    let piece = vec![in alloc; 0; PIECE as usize]?;
+    let piece = vec![in alloc; 0; piece_len::<T>(&slab)]?;
     // Room for a slab is taken here, and written as blocks come: a stream that ends early needs no more than
     // its values.
     let stored = Stored::with_room(alloc, slab.values() as usize)?;

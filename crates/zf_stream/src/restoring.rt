@@ -1,15 +1,16 @@
 //! From a stream to raw values.
 
-ghost use Rattle.std.specs.Prelude.{◌≡◌, IfErr, OnOk, OnErr, Err};
+ghost use Rattle.std.specs.Prelude.{◌≡◌, true, IfOk, IfErr, OnOk, OnErr, Err};
 ghost use Rattle.zf_pad.specs.Slabs.{rows_of};
 ghost use Rattle.zf_base.specs.Widths.{width_of};
 ghost use Rattle.zf_dev.specs.Devices.{Reads, Writes};
-ghost use Rattle.zf_stream.specs.Outcomes.{Restored};
-ghost use Rattle.zf_stream.specs.Typed.{RestoredWhere};
+ghost use Rattle.zf_dev.specs.Source.{Gives};
+ghost use Rattle.zf_stream.specs.Outcomes.{Restored, RestoredGiven};
+ghost use Rattle.zf_stream.specs.Typed.{RestoredWhere, RestoredWhereGiven};
 ghost use Rattle.zf_stream.specs.Rooms.{CanRestoreAll, Stays};
 ghost use Rattle.zf_stream.specs.Windows.{KnowsEnd};
 ghost use Rattle.zf_stream.specs.Restoring.{RestoredBehind, IsBegun, Restores, LeavesRows, Refuses};
-ghost use Rattle.zf_stream.specs.Restoring.{RestoresAll};
+ghost use Rattle.zf_stream.specs.Restoring.{RestoresAll, given_behind};
 ghost use Rattle.zf_parse.specs.declared.fault.StreamFault.TheVariants.{Read, Write};
 
 use crate::StreamFault;
@@ -45,6 +46,10 @@ pub fn restore<S: Source, O: Sink>(
 ) -> Result<(), StreamFault>
     ensures outcome { Restored result
         (S.contents src.old) (S.contents src.new) (O.contents out.old) (O.contents out.new) }
+    // Of every source, also of one that exposes nothing: of what it says that it gave.
+    ensures given { RestoredGiven result (Gives (S.gave src.old) (S.gave src.new))
+        (O.contents out.old) (O.contents out.new) }
+    ensures ended { OnOk result (S.ended src.new ≡ true) }
     ensures source { Reads S.Source (result ≡ Err Read) src.old src.new }
     ensures sink { Writes O.Sink (result ≡ Err Write) out.old out.new }
 {
@@ -65,6 +70,10 @@ pub fn restore_where<S: Source, O: Sink>(
 ) -> Result<bool, StreamFault>
     ensures outcome { RestoredWhere wanted result
         (S.contents src.old) (S.contents src.new) (O.contents out.old) (O.contents out.new) }
+    // Of every source, also of one that exposes nothing: of what it says that it gave.
+    ensures given { RestoredWhereGiven wanted result (Gives (S.gave src.old) (S.gave src.new))
+        (O.contents out.old) (O.contents out.new) }
+    ensures ended { IfOk result (λ is. is ≡ true → S.ended src.new ≡ true) }
     ensures source { Reads S.Source (result ≡ Err Read) src.old src.new }
     ensures sink { Writes O.Sink (result ≡ Err Write) out.old out.new }
 {
@@ -87,9 +96,12 @@ fn restore_behind<S: Source, O: Sink>(
     src: &mut S,
     out: &mut O,
 ) -> Result<(), StreamFault>
-    requires { IsBegun prefix.now h.now header_len (S.contents src.old) }
+    requires { IsBegun prefix.now h.now header_len S.Source src.old }
     ensures outcome { RestoredBehind prefix.now result
         (S.contents src.old) (S.contents src.new) (O.contents out.old) (O.contents out.new) }
+    ensures given { RestoredGiven result (given_behind prefix.now (Gives (S.gave src.old) (S.gave src.new)))
+        (O.contents out.old) (O.contents out.new) }
+    ensures ended { OnOk result (S.ended src.new ≡ true) }
     ensures source { Reads S.Source (result ≡ Err Read) src.old src.new }
     ensures sink { Writes O.Sink (result ≡ Err Write) out.old out.new }
 {
@@ -108,10 +120,13 @@ fn restore_as<T: Lane, S: Source, O: Sink>(
     src: &mut S,
     out: &mut O,
 ) -> Result<(), StreamFault>
-    requires begun { IsBegun prefix.now h.now header_len (S.contents src.old) }
+    requires begun { IsBegun prefix.now h.now header_len S.Source src.old }
     requires same_type { T.width ≡ width_of h.now.ty }
     ensures outcome { RestoredBehind prefix.now result
         (S.contents src.old) (S.contents src.new) (O.contents out.old) (O.contents out.new) }
+    ensures given { RestoredGiven result (given_behind prefix.now (Gives (S.gave src.old) (S.gave src.new)))
+        (O.contents out.old) (O.contents out.new) }
+    ensures ended { OnOk result (S.ended src.new ≡ true) }
     ensures source { Reads S.Source (result ≡ Err Read) src.old src.new }
     ensures sink { Writes O.Sink (result ≡ Err Write) out.old out.new }
 {
@@ -128,12 +143,12 @@ fn restore_rows<T: Lane, S: Source, O: Sink>(
     src: &mut S,
     out: &mut O,
 ) -> Result<(), StreamFault>
-    requires room { CanRestoreAll T.width h.now (S.contents src.old) room.old }
+    requires room { CanRestoreAll T.width h.now S.Source src.old room.old }
     ensures ok { OnOk result (RestoresAll h.now
-        (S.contents src.old) (S.contents src.new) (O.contents out.old) (O.contents out.new) room.old.window) }
+        S.Source src.old src.new (O.contents out.old) (O.contents out.new) room.old.window) }
     ensures err { OnErr result (LeavesRows h.now
-        (S.contents src.old) (S.contents src.new) (O.contents out.old) (O.contents out.new) room.old.window) }
-    ensures refused { IfErr result (Refuses h.now (S.contents src.old) (S.contents src.new) room.old.window) }
+        S.Source src.old src.new (O.contents out.old) (O.contents out.new) room.old.window) }
+    ensures refused { IfErr result (Refuses h.now S.Source src.old src.new room.old.window) }
     ensures source { Reads S.Source (result ≡ Err Read) src.old src.new }
     ensures sink { Writes O.Sink (result ≡ Err Write) out.old out.new }
 {
@@ -150,15 +165,15 @@ fn restore_slabs<T: Lane, S: Source, O: Sink>(
     src: &mut S,
     out: &mut O,
 ) -> Result<(), StreamFault>
-    requires room { CanRestoreAll T.width h.now (S.contents src.old) room.old }
+    requires room { CanRestoreAll T.width h.now S.Source src.old room.old }
     ensures ok { OnOk result (Restores h.now (rows_of h.now.shape)
-        (S.contents src.old) (S.contents src.new) (O.contents out.old) (O.contents out.new)
+        S.Source src.old src.new (O.contents out.old) (O.contents out.new)
         room.old.window room.new.window) }
     ensures err { OnErr result (LeavesRows h.now
-        (S.contents src.old) (S.contents src.new) (O.contents out.old) (O.contents out.new) room.old.window) }
-    ensures refused { IfErr result (Refuses h.now (S.contents src.old) (S.contents src.new) room.old.window) }
+        S.Source src.old src.new (O.contents out.old) (O.contents out.new) room.old.window) }
+    ensures refused { IfErr result (Refuses h.now S.Source src.old src.new room.old.window) }
     ensures stays { OnOk result (Stays room.old room.new) }
-    ensures ended { OnOk result (KnowsEnd room.new.window (S.contents src.new)) }
+    ensures ended { OnOk result (KnowsEnd S.Source room.new.window src.new) }
     ensures source { Reads S.Source (result ≡ Err Read) src.old src.new }
     ensures sink { Writes O.Sink (result ≡ Err Write) out.old out.new }
 {

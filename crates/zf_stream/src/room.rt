@@ -9,10 +9,11 @@ ghost use Rattle.zf_stream.specs.Rows.{ArePieces};
 
 use crate::slabs::{most_rows, rows_of, with_rows};
 use std::alloc::{AllocError, Global};
-use zf_base::{Lane, block_len};
+use zf_base::{Lane, Shape, block_len};
 use zf_bits::BitWriter;
 use zf_block::Scratch;
 use zf_header::{Header, LONG_HEADER_BITS};
+use zf_pad::value_len;
 use zf_parse::longest_code;
 
 /// The most bytes that are read or written at a time: so many that the system is seldom called, and few
@@ -56,7 +57,7 @@ pub(crate) fn room_for<T: Lane>(alloc: Global, h: &Header) -> Result<(Vec<T>, Ro
     let values = vec![in alloc; T::zero(); slab.values() as usize]?;
     let block = vec![in alloc; T::zero(); block_len(dims)]?;
     let scratch = Scratch::new(alloc, dims)?;
-    let piece = vec![in alloc; 0; PIECE as usize]?;
+    let piece = vec![in alloc; 0; piece_len::<T>(&slab)]?;
     let mut codes = BitWriter::new(alloc);
     codes.reserve(most + longest + u64::from(LONG_HEADER_BITS))?;
     zf_header::write(h, &mut codes);
@@ -69,4 +70,11 @@ pub(crate) fn room_for<T: Lane>(alloc: Global, h: &Header) -> Result<(Vec<T>, Ro
         piece,
     };
     Ok((values, room))
+}
+
+/// How many bytes are read or written at a time for these rows: no more than they have.
+pub(crate) fn piece_len<T: Lane>(slab: &Shape) -> usize
+    ensures { 64 ≤ result }
+{
+    (value_len::<T>() as u64 * slab.values()).clamp(64, PIECE) as usize
 }

@@ -1,5 +1,5 @@
 -- What a command wrote is handed on once it has ended: what stays of what is known of it, and what a fault makes of it.
-use Rattle.std.proofs.Common.{rules, ◌≡◌, ◌≢◌, ℕ, ◌≤◌, true, false, List, [], take, inl, inr, Option, None, Result, IsOk, IsErr, refl, subst, append-nil, arith}
+use Rattle.std.proofs.Common.{rules, ◌≡◌, ◌≢◌, ℕ, ◌≤◌, true, false, List, [], take, inl, inr, Option, None, Result, Ok, IsOk, IsErr, refl, ap, sym, subst, append-nil, arith}
 use Rattle.std.{specs.Prelude.{OnOk}, proofs.lemmas.Bool.{false≢true}}
 use Rattle.zf_dev.{specs.Faults.{IsQuiet, HasCause}, specs.declared.faults.Failed.{Failed}}
 use Rattle.zf_dev.{specs.declared.faults.LoadError.{LoadError}, specs.Shelf.{Files}}
@@ -14,9 +14,10 @@ use Rattle.zfpi.specs.declared.command.Command.TheVariants.{New, Run, Look, Boun
 use Rattle.zfpi.{specs.Faults.{load_status}, specs.Opened.{array_in, opened}, specs.Answer.{meaning, OfUsed}}
 use Rattle.zfpi.{specs.Certified.{certified_status}, specs.World.{Seen, seen, counts}}
 use Rattle.zfpi.{proofs.Ends.{IsPossible}, specs.Sending.{IsDone, EndsSent, HandsOn}}
-use Rattle.zfpi.{specs.Steps.{is_work_done, IsShelfless}, specs.Calls.{Streams, Fulfils}}
+use Rattle.zfpi.{specs.Steps.{IsShelfless}, specs.Calls.{Streams, Fulfils}}
 use Rattle.zfpi.specs.Headline.{IsSent, Writes, Saves, Behaves, HasCauses, IsIdle, StopsAtEnd, Sends}
-use Rattle.zfpi.{proofs.Stepping.{Steps-none}, proofs.Loading.{ComesFirst}}
+use Rattle.zfpi.{specs.Statuses.{is_work_done}, specs.Steps.{Told}}
+use Rattle.zfpi.{proofs.Stepping.{Steps-none, Told-stays, untold}, proofs.Loading.{ComesFirst}}
 use Rattle.zfpi.proofs.Promises.{IsRefusal, opened_first_array, IsPossible-behaves}
 
 -- ---- what was written stays what it was
@@ -86,6 +87,10 @@ writes_used c unsaved before now = search rules
 reads_cut : (c : Command) → IsSentAfter c → (status : Status) (m n : ℕ) → IsIdle ((meaning c).reads status) m n → IsIdle ((meaning c).reads WriteFault) m n
 reads_cut c unsaved status m n idle = search rules
 
+-- and where they may have seen its end
+sees_cut : (c : Command) → IsSentAfter c → (status : Status) (m n : ℕ) → ((meaning c).sees_end status ≡ false → n ≤ m) → (meaning c).sees_end WriteFault ≡ false → n ≤ m
+sees_cut c unsaved status m n unseen = search rules
+
 module _ (c : Command) (status ended : Status) (unsaved : IsSentAfter c) where
   -- what such a command did once what it wrote was handed on
   pub Behaves-sent : (before : Seen) (src mid now : Option (List ℕ)) (shelf : Option Files) {m n : ℕ} {Flushed : Type 0} → Behaves c status before (seen src mid shelf) → HandsOn status ended mid now m n Flushed → Behaves c ended before (seen src now shelf)
@@ -95,9 +100,12 @@ module _ (c : Command) (status ended : Status) (unsaved : IsSentAfter c) where
   idle_sent : (m n : ℕ) {Failed : Type 0} → IsIdle ((meaning c).reads status) m n → EndsSent status ended Failed → IsIdle ((meaning c).reads ended) m n
   idle_sent m n idle ends = search (rules, reads_cut)
 
+  unseen_sent : (m n : ℕ) {Failed : Type 0} → ((meaning c).sees_end status ≡ false → n ≤ m) → EndsSent status ended Failed → (meaning c).sees_end ended ≡ false → n ≤ m
+  unseen_sent m n unseen ends = search (rules, sees_cut)
+
   -- how often it saw the end of its source
-  pub StopsAtEnd-sent : (m n : ℕ) {k l : ℕ} {before now : Option (List ℕ)} {Flushed : Type 0} → StopsAtEnd ((meaning c).reads status) m n → HandsOn status ended before now k l Flushed → StopsAtEnd ((meaning c).reads ended) m n
-  StopsAtEnd-sent m n stops sent = record { once = stops.once; unused = idle_sent m n stops.unused sent.ends }
+  pub StopsAtEnd-sent : (m n : ℕ) {k l : ℕ} {before now : Option (List ℕ)} {Flushed : Type 0} → StopsAtEnd ((meaning c).reads status) ((meaning c).sees_end status) m n → HandsOn status ended before now k l Flushed → StopsAtEnd ((meaning c).reads ended) ((meaning c).sees_end ended) m n
+  StopsAtEnd-sent m n stops sent = record { once = stops.once; unused = idle_sent m n stops.unused sent.ends; unseen = unseen_sent m n stops.unseen sent.ends }
 
   -- its causes
   pub HasCauses-sent : (src src_now out mid now : ℕ) {before after : Option (List ℕ)} {Sure Still Flushed : Type 0} → HasCauses c status (counts src out) (counts src_now mid) Sure Still → HandsOn status ended before after mid now Flushed
@@ -115,6 +123,16 @@ module _ (c : Command) (status ended : Status) (unsaved : IsSentAfter c) where
     | inr quiet ↦ inr (omega (arith, kept, quiet))
   ])
 
+  -- what is told of it
+  told_sent : (given : List ℕ → Type 0) (out mid now : Option (List ℕ)) {m n : ℕ} {Flushed : Type 0} → (is_work_done status ≡ true → Told c (Ok []) given out mid status None) → HandsOn status ended mid now m n Flushed
+      → is_work_done ended ≡ true → Told c (Ok []) given out now ended None
+  told_sent given out mid now told sent work = elim sent.ends [
+    | inl same ↦
+        let was = told (subst (λ s. is_work_done s ≡ true) same work) in
+        subst (λ s. Told c (Ok []) given out now s None) (sym same) (Told-stays (λ text written. Appends-stays out mid now text written sent.stays) was)
+    | inr cut ↦ untold ended (ap is_work_done cut.0) work
+  ]
+
   -- over all devices, of a command that has no shelf
   pub Fulfils-sent : {A B C : Type 0} {S : Source A} {O : Sink B} {F : Shelf C} → (meaning c).loads ≡ false → (meaning c).saves ≡ false → (src src_now : A) (out mid now : B) (shelf : C) → Streams S O c status src src_now out mid
       → HandsOn status ended (O.contents mid) (O.contents now) (O.faults mid) (O.faults now) (O.is_flushed now) → Fulfils S O F c ended src src_now out now shelf shelf
@@ -125,13 +143,26 @@ module _ (c : Command) (status ended : Status) (unsaved : IsSentAfter c) where
         behaves = behaves (F.files shelf);
         causes = HasCauses-sent _ _ _ _ _ s.causes sends;
         stops = StopsAtEnd-sent _ _ s.stops sends;
-        steps = Steps-none F.loads F.saves F.faults c ended shelf unloaded unchanged shelfless;
+        steps = Steps-none F.loads F.saves F.faults c _ _ _ ended shelf unloaded unchanged shelfless (told_sent _ _ _ _ s.told sends);
         sure_shelf = λ sure. (shelfless.no_load, sure);
+        sure_saves = λ sure. (shelfless.no_save, sure);
         sent = λ flushed. IsSent-sent _ _ _ _ _ (behaves None) s.causes.writing.0 sends;
       }
 
 pub unloaded_sent : (status ended : Status) {before now : Option (List ℕ)} {m n : ℕ} {Flushed : Type 0} → status ≢ LoadFault → HandsOn status ended before now m n Flushed → ended ≢ LoadFault
 unloaded_sent status ended none sent = search rules
+
+pub unsaved_sent : (status ended : Status) {before now : Option (List ℕ)} {m n : ℕ} {Flushed : Type 0} → status ≢ SaveFault → HandsOn status ended before now m n Flushed → ended ≢ SaveFault
+unsaved_sent status ended none sent = search rules
+
+-- work that was done is no fault of a save
+pub done_unsaved : (status : Status) → IsDone status → status ≢ SaveFault
+done_unsaved status done is = subst IsDone is done
+
+-- a file that was not loaded is no fault of a save
+pub unsaved_status : (e : LoadError) → load_status e ≢ SaveFault
+unsaved_status loading.Failed is = cc
+unsaved_status e is = cc
 
 -- a file that was not loaded was no fault of the shelf, where the load was none
 pub unloaded_status : (e : LoadError) → e ≢ loading.Failed → load_status e ≢ LoadFault

@@ -1,5 +1,5 @@
 -- What `info` promises, from what reading a header does.
-use Rattle.std.proofs.Common.{rules, ◌≡◌, ℕ, ◌≤◌, cond, List, [], length, take, Option, Some, None, is_none, ◌⊎◌, inl, inr, refl, ap, sym, subst, ◌∙◌}
+use Rattle.std.proofs.Common.{rules, ◌≡◌, ℕ, ◌≤◌, cond, List, [], length, take, Option, Some, None, is_none, Ok, ◌⊎◌, inl, inr, refl, ap, sym, subst, ◌∙◌}
 use Rattle.std.proofs.lemmas.List.{take_all}
 use Rattle.zf_dev.{specs.Shelf.{Files}, specs.Sink.{Appends, AppendsPrefix}}
 use Rattle.zf_dev.proofs.Appending.{AppendsPrefix-none}
@@ -8,11 +8,11 @@ use Rattle.zf_header.{specs.declared.header.Header.{Header}, specs.HeaderFields.
 use Rattle.zf_header.specs.HeaderFaults.{header_fault}
 use Rattle.zf_parse.specs.declared.fault.StreamFault.{StreamFault}
 use Rattle.zf_parse.specs.declared.fault.StreamFault.TheVariants as faults
-use Rattle.zf_stream.{specs.Outcomes.{IsPrefix, TakesFirst}, specs.Headed.{ReadsHeader, LacksHeader}}
+use Rattle.zf_stream.{specs.Outcomes.{IsPrefix, TakesFirst}, specs.Headed.{ReadsHeader, LacksHeader, GivesHeader}}
 use Rattle.zfpi.{specs.declared.status.Status.{Status}, specs.declared.command.Command.TheVariants.{Info}}
 use Rattle.zfpi.{specs.Faults.{fault_status, header_status}, specs.Info.{info_line, info_text, TakesHeader}}
 use Rattle.zfpi.{specs.World.{World, ExposesInput, seen}, specs.Answer.{meaning, MayFail, cut_draft}}
-use Rattle.zfpi.specs.Headline.{IsOfCommand, Writes, Behaves}
+use Rattle.zfpi.{specs.Headline.{IsOfCommand, Writes, Behaves}, specs.Steps.{Told}}
 use Rattle.zfpi.proofs.Exposed.{some_input, world_of, ExposesFiles-same, KeepsFiles-none}
 use Rattle.zfpi.specs.declared.status.Status.TheVariants as statuses
 
@@ -45,6 +45,13 @@ Behaves-first status bytes src_before src_now out_before out_now shelf ends firs
 pub Behaves-line : (h : Header) (bits : ℕ) (line : List ℕ) (src_before src_now out_before out_now : Option (List ℕ)) (shelf : Option Files) → ReadsHeader src_before src_now h bits → line ≡ info_line h → Appends out_before out_now line
     → Behaves Info statuses.Done (seen src_before out_before shelf) (seen src_now out_now shelf)
 Behaves-line h bits line src_before src_now out_before out_now shelf reads is written = search (rules, info_text-read, Behaves-first)
+
+-- and what is told of it
+pub Told-line : (h : Header) (bits : ℕ) (line : List ℕ) (gives given : List ℕ → Type 0) (out out_now : Option (List ℕ)) → ((bytes : List ℕ) → gives bytes → given bytes) → GivesHeader gives h bits → line ≡ info_line h → Appends out out_now line → Told Info (Ok []) given out out_now statuses.Done None
+Told-line h bits line gives given out out_now more g is written =
+    let fault : header_fault (take 19 g.bytes) ≡ None = ap header_fault (take_all 19 g.bytes g.few) ∙ g.begun.good in
+    let text = is ∙ sym (info_text-read g.bytes h g.begun.good g.begun.header) in
+    record { world = world_of g.bytes None; loaded = tt; input = more g.bytes g.given; starved = []; starved_are = refl; stated = inl (ap header_status (sym fault)); written = subst (Appends out out_now) text written; to_save = refl }
 
 -- a prefix of the line was
 pub Behaves-cut_line : (h : Header) (bits : ℕ) (line : List ℕ) (src_before src_now out_before out_now : Option (List ℕ)) (shelf : Option Files) → ReadsHeader src_before src_now h bits → line ≡ info_line h → AppendsPrefix out_before out_now line

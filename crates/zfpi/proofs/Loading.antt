@@ -71,7 +71,7 @@ pub ExposesFiles-with : (known : Option Files) (bytes : List ℕ) → ExposesFil
 unfolding files_with
 ExposesFiles-with _ bytes = search rules
 
-found_with : (known : Option Files) (name bytes : List ℕ) → HasFile known name bytes → files_with known bytes name ≡ Some bytes
+pub found_with : (known : Option Files) (name bytes : List ℕ) → HasFile known name bytes → files_with known bytes name ≡ Some bytes
 unfolding files_with
 found_with _ name bytes held = search rules
 

@@ -1,8 +1,8 @@
 -- What a command on a script promises on each rung of its way, from what the calls there answer.
-use Rattle.std.proofs.Common.{rules, ◌≡◌, ◌≢◌, ℕ, ◌+◌, ◌≤◌, Bool, true, false, List, length, Option, Some, None, inl, inr, refl, ap, sym, subst, ◌∙◌, arith}
+use Rattle.std.proofs.Common.{rules, ◌≡◌, ◌≢◌, ℕ, ◌+◌, ◌≤◌, ◌&&◌, ◌⊎◌, Bool, true, false, List, length, Option, Some, None, Ok, inl, inr, refl, ap, sym, subst, ◌∙◌, arith}
 use Rattle.std.{proofs.lemmas.Bool.{true≢false}, specs.Prelude.{count_by}}
 use Rattle.zf_dev.{specs.Faults.{Rose, IsQuiet, HasCause}, specs.Sink.{Appends}}
-use Rattle.zf_dev.specs.Source.{Takes, IsAtEnd, TakesMoreThan, TakesSome}
+use Rattle.zf_dev.specs.Source.{Takes, Gives, IsAtEnd, TakesMoreThan, TakesSome}
 use Rattle.zf_dev.{specs.declared.faults.TakeError.{TakeError}, specs.declared.sink.Sink.{Ghosts as Sink}}
 use Rattle.zf_dev.specs.declared.source.Source.{Ghosts as Source}
 use Rattle.zf_dev.specs.declared.shelf.Shelf.{Ghosts as Shelf}
@@ -15,19 +15,19 @@ use Rattle.zf_cached.{specs.Runs.{ended, replies_text}, specs.Steps.{Session}}
 use Rattle.zf_commands.{specs.Steps.{is_refusal}, specs.Runs.{RunsAll}}
 use Rattle.zf_run.specs.declared.end.RunEnd.TheVariants as ends
 use Rattle.zfpi.{specs.declared.status.Status.{Status}, specs.declared.command.Access.{Access}}
-use Rattle.zfpi.specs.declared.status.Status.TheVariants.{Header as NoHeader, NotRate, ReadFault, WriteFault, LoadFault}
+use Rattle.zfpi.specs.declared.status.Status.TheVariants.{Header as NoHeader, NotRate, ReadFault, WriteFault, LoadFault, SaveFault}
 use Rattle.zfpi.{specs.declared.command.Access.TheVariants.{Run, Look}, specs.Faults.{take_status}}
-use Rattle.zfpi.{specs.World.{seen}, specs.Answer.{meaning}, specs.Scripts.{reads_script, lines_status}}
+use Rattle.zfpi.{specs.World.{seen}, specs.Answer.{meaning}, specs.Opened.{opened}, specs.Scripts.{reads_script, sees_script, lines_status, AreStarved, OnWholeScript}}
 use Rattle.zfpi.specs.Accesses.{command_on, admits, reading_of, answers_of, file_of, named}
-use Rattle.zfpi.{specs.Subjects.{Subject, Ran}, specs.Loaded.{StandsFor, RefusesFile, IsRefused}}
-use Rattle.zfpi.{specs.Sending.{HandsOn}, specs.Steps.{is_work_done}, specs.Headline.{Behaves, IsSent}}
-use Rattle.zfpi.{specs.Rungs.{WorksOn, Answers, Closes}, proofs.Stepping.{SavesOnce-none, SavesOnce-take}}
+use Rattle.zfpi.{specs.Subjects.{Subject, Ran}, specs.Loaded.{HoldsFile, StandsFor, RefusesFile, IsRefused}}
+use Rattle.zfpi.{specs.Sending.{HandsOn}, specs.Statuses.{is_work_done}, specs.Steps.{Gave, Makes, Saving, IsLoaded}, specs.Headline.{Behaves, IsSent}}
+use Rattle.zfpi.{specs.Rungs.{WorksOn, Answers, Closes}, proofs.Stepping.{SavesOnce-none, SavesOnce-take, SavesOnce-by}}
 use Rattle.zfpi.proofs.Opening.{array_in-header, stream_in-header, array_in-no_rate}
 use Rattle.zfpi.proofs.Causes.{HasCauses-refused, HasCauses-untaken, HasCauses-wrote, reads_take}
-use Rattle.zfpi.proofs.Stopping.{StopsAtEnd-same, StopsAtEnd-used}
-use Rattle.zfpi.proofs.Loading.{ComesFirst, Behaves-starved, Behaves-refused}
-use Rattle.zfpi.proofs.Scripting.{by_lines, by_end, IsScripted-on, Behaves-untaken, Behaves-closed, Behaves-cut_script}
-use Rattle.zfpi.proofs.HandedOn.{Behaves-stays, cut_sent, IsSent-later, IsSent-cut}
+use Rattle.zfpi.proofs.Stopping.{StopsAtEnd-same, StopsAtEnd-used, StopsAtEnd-unseen}
+use Rattle.zfpi.proofs.Loading.{ComesFirst, world_with, found_with, opened-held, Behaves-starved, Behaves-refused}
+use Rattle.zfpi.proofs.Scripting.{text_is, status_is as stated_so, by_lines, by_end, IsScripted-on, loads-on, Behaves-untaken, Behaves-closed, Behaves-cut_script}
+use Rattle.zfpi.proofs.HandedOn.{Appends-stays, Behaves-stays, cut_sent, IsSent-later, IsSent-cut}
 
 -- ---- files that are refused
 
@@ -48,10 +48,24 @@ pub record Refuses (status : Status) : Type 0 where
   pub no_read : status ≢ ReadFault
   pub no_write : status ≢ WriteFault
   pub no_load : status ≢ LoadFault
+  pub no_save : status ≢ SaveFault
   pub undone : is_work_done status ≡ false
 
 pub refuses : (status : Status) → RefusesFile status → Refuses status
 refuses status why = search rules
+
+-- no script that was not read is a fault of a shelf
+no_load_taken : (e : TakeError) → take_status e ≢ LoadFault
+no_load_taken taking.Long = λ same. cc
+no_load_taken e = λ same. cc
+
+no_save_taken : (e : TakeError) → take_status e ≢ SaveFault
+no_save_taken taking.Long = λ same. cc
+no_save_taken e = λ same. cc
+
+-- what holds where a whole script was run
+on_whole : (status : Status) {P : Type 0} → P → OnWholeScript status P
+on_whole status p = search rules
 
 -- ---- the rungs
 
@@ -69,20 +83,34 @@ module _ {A B C : Type 0} {S : Source A} {O : Sink B} {F : Shelf C} (access : Ac
               (Behaves-starved c name (reading_of access) loading (S.contents src) (O.contents out) known (F.files shelf) kept)
         ];
         causes = HasCauses-refused c status (S.faults src) (O.faults out) r.no_read r.no_write;
-        stops = StopsAtEnd-same ((meaning c).reads status) (S.ends_seen src);
-        once = SavesOnce-none F.saves F.faults c status shelf r.undone r.no_load;
+        stops = StopsAtEnd-same ((meaning c).reads status) ((meaning c).sees_end status) (S.ends_seen src);
+        once = λ size. SavesOnce-none F.saves F.faults c (Ok file) _ _ _ status shelf r.undone;
+        no_load = r.no_load;
         sent = λ flushed why. flushed;
         still = λ sure. sure;
+        sure_saves = λ sure. (r.no_save, sure);
       }
 
   -- the script was read to its end, and the rest answers it
-  pub WorksOn-taken : (script : List ℕ) (status : Status) (src src_now : A) (out out_now : B) (shelf shelf_now : C) → Takes (S.contents src) (S.contents src_now) script → IsAtEnd (S.contents src_now) → length script ≤ 16777216 → S.faults src ≤ S.faults src_now → S.ends_seen src_now ≤ S.ends_seen src + 1
+  pub WorksOn-taken : (script : List ℕ) (status : Status) (src src_now : A) (out out_now : B) (shelf shelf_now : C) → Takes (S.contents src) (S.contents src_now) script → Gives (S.gave src) (S.gave src_now) script → S.ended src_now ≡ true → IsAtEnd (S.contents src_now) → length script ≤ 16777216 → S.faults src ≤ S.faults src_now → S.ends_seen src_now ≤ S.ends_seen src + 1
       → (S.never_fails src → S.never_fails src_now) → Answers O F (command_on access name) name file script status out out_now shelf shelf_now → WorksOn O F S (command_on access name) name file status src src_now out out_now shelf shelf_now
-  WorksOn-taken script status src src_now out out_now shelf shelf_now takes end most rose seen sure a = search rules
+  WorksOn-taken script status src src_now out out_now shelf shelf_now takes gave ended end most rose seen sure a = record {
+    behaves = search rules;
+    causes = search rules;
+    stops = search rules;
+    once = λ size.
+        let c = command_on access name in
+        let given : Gave S c src src_now script = record { given = gave; ended = λ to_end. ended; taken = λ loads. takes } in
+        SavesOnce-by F.saves F.faults c (Ok file) (λ bytes. bytes ≡ script) (Gave S c src src_now) (O.contents out) (O.contents out_now) status shelf shelf_now (λ bytes is. subst (Gave S c src src_now) (sym is) given) (a.once size most);
+    no_load = a.no_load;
+    sent = search rules;
+    still = search rules;
+    sure_saves = a.sure_saves;
+  }
 
   -- it was not
   pub WorksOn-untaken : (s : Subject) (stands : StandsFor s access file) (e : TakeError) (src src_now : A) (out : B) (shelf : C) → (e ≡ taking.Long → TakesMoreThan (S.contents src) (S.contents src_now) 16777216) → TakesSome (S.contents src) (S.contents src_now)
-      → HasCause (e ≡ taking.Failed) (S.faults src) (S.faults src_now) → S.ends_seen src_now ≤ S.ends_seen src + 1 → (S.never_fails src → (e ≢ taking.Failed) × S.never_fails src_now)
+      → HasCause (e ≡ taking.Failed) (S.faults src) (S.faults src_now) → S.ends_seen src_now ≤ S.ends_seen src → (S.never_fails src → (e ≢ taking.Failed) × S.never_fails src_now)
       → WorksOn O F S (command_on access name) name file (take_status e) src src_now out out shelf shelf
   WorksOn-untaken s stands e src src_now out shelf long took cause seen sure =
       let c = command_on access name in
@@ -90,10 +118,12 @@ module _ {A B C : Type 0} {S : Source A} {O : Sink B} {F : Shelf C} (access : Ac
       record {
         behaves = λ known holds kept. Behaves-untaken c name (reading_of access) (answers_of access) (file_of access) is known (F.files shelf) file stands.said holds stands.opened kept e (S.contents src) (S.contents src_now) (O.contents out) long took;
         causes = HasCauses-untaken c e (S.faults src) (S.faults src_now) (O.faults out) (is.reads_script_by (take_status e) ∙ reads_take e) cause sure;
-        stops = StopsAtEnd-used ((meaning c).reads (take_status e)) (S.ends_seen src) (S.ends_seen src_now) (is.reads_script_by (take_status e) ∙ reads_take e) seen;
-        once = SavesOnce-take F.saves F.faults c e shelf;
+        stops = StopsAtEnd-unseen ((meaning c).reads (take_status e)) ((meaning c).sees_end (take_status e)) (S.ends_seen src) (S.ends_seen src_now) (is.reads_script_by (take_status e) ∙ reads_take e) seen;
+        once = λ size. SavesOnce-take F.saves F.faults c (Ok file) _ _ _ e shelf;
+        no_load = no_load_taken e;
         sent = λ flushed why. flushed;
         still = λ sure. sure;
+        sure_saves = λ sure. (no_save_taken e, sure);
       }
 
 module _ {B C : Type 0} {O : Sink B} {F : Shelf C} (access : Access) (name : List ℕ) (file : List ℕ) (s : Subject) (stands : StandsFor s access file) where
@@ -112,9 +142,12 @@ module _ {B C : Type 0} {O : Sink B} {F : Shelf C} (access : Access) (name : Lis
             s.setting s.start (stands.replies ran.starved script) ran.last (O.contents out) (O.contents mid) ran.how);
         causes = λ src. HasCauses-wrote c WriteFault src (O.faults out) (O.faults out_now) is.writes_replies (omega (arith, kept, sent.kept)) (λ same. cc) (λ same. omega (arith, rose, sent.kept));
         read = is.reads_script_by WriteFault;
-        once = SavesOnce-none F.saves F.faults c WriteFault shelf refl (λ same. cc);
+        saw = is.sees_script_by WriteFault;
+        once = λ size most. SavesOnce-none F.saves F.faults c (Ok file) _ _ _ WriteFault shelf refl;
+        no_load = λ same. cc;
         sent = subst (λ status. IsSent status (IsQuiet (O.faults out) (O.faults out_now)) (O.is_flushed out_now)) cut (IsSent-cut end (O.faults out) (O.faults mid) (O.faults out_now) kept sent);
         still = λ sure. sure;
+        sure_saves = λ sure. ((λ same. cc), sure);
       })
 
   -- all lines were run, so many of them were refused, and the work was closed
@@ -137,7 +170,38 @@ module _ {B C : Type 0} {O : Sink B} {F : Shelf C} (access : Access) (name : Lis
             n end (O.contents out) (O.contents mid) (O.contents out_now) (F.files shelf_now) (ran.refused_is ∙ ap (count_by is_refusal) replies_are) (ran.starved_are ∙ stands.starved starved script) written closes.stays closes.ends closes.saves;
         causes = λ src. search (rules, by_lines);
         read = is.reads_script_by end ∙ of_end (λ status. reads_script status ≡ true) (by_lines (λ status. reads_script status ≡ true) refl (λ m. refl) n) (λ saving. refl) (λ rose. refl);
-        once = search (rules, by_lines);
+        saw = is.sees_script_by end ∙ of_end (λ status. sees_script status ≡ true) (by_lines (λ status. sees_script status ≡ true) refl (λ m. refl) n) (λ saving. refl) (λ rose. refl);
+        once = λ size most.
+            let holds : HoldsFile None name file = record { held = tt; size = size } in
+            let w = world_with None file script in
+            let f = named name (file_of access said starved script) in
+            let reading = reading_of access in
+            let answered = subst (λ rs. Appends (O.contents out) (O.contents mid) (replies_text rs)) replies_are ran.written in
+            let written = subst (Appends (O.contents out) (O.contents mid)) (text_is c name reading (answers_of access) (file_of access) is None None file said holds stands.opened tt starved script script) answered in
+            let counted = ap lines_status (ran.refused_is ∙ ap (count_by is_refusal) replies_are) ∙ stated_so c name reading (answers_of access) (file_of access) is None None file said holds stands.opened tt starved script most in
+            let opens : opened reading (w.files name) ≡ Ok said = opened-held reading None name file holds ∙ stands.opened in
+            let starved_are = subst (λ o. AreStarved (answers_of access) o starved script) (sym opens) (ran.starved_are ∙ stands.starved starved script) in
+            let stated : is_work_done end ≡ true → (end ≡ (meaning c).status w starved) ⊎ (end ≡ SaveFault) = λ work. elim closes.ends [
+              | inl same ↦ inl (same ∙ counted)
+              | inr (inl saving) ↦ inr saving.0
+              | inr (inr cut) ↦ absurd (true≢false (sym work ∙ ap is_work_done cut.0))
+            ] in
+            record {
+              file = f;
+              told = λ work. record {
+                world = w;
+                loaded = subst (λ b. IsLoaded b (Ok file) (w.files (meaning c).name)) (sym (loads-on access name)) (found_with None (meaning c).name file tt);
+                input = refl;
+                starved = starved;
+                starved_are = is.starved_are w starved end (on_whole end starved_are);
+                stated = stated work;
+                written = Appends-stays (O.contents out) (O.contents mid) (O.contents out_now) ((meaning c).text w starved script) written closes.stays;
+                to_save = sym (is.saved w starved said opens);
+              };
+              save = subst (λ b. Makes (b && is_work_done end) (Saving F.saves f end) F.faults (end ≡ SaveFault) shelf shelf_now) (is.saving said starved script) closes.step;
+            };
+        no_load = of_end (λ s. s ≢ LoadFault) (by_lines (λ s. s ≢ LoadFault) (λ same. cc) (λ m same. cc) n) (λ saving same. cc) (λ rose same. cc);
         sent = IsSent-later end (O.faults out) (O.faults mid) (O.faults out_now) kept closes.sent;
         still = closes.still;
+        sure_saves = closes.sure_saves;
       }

@@ -14,7 +14,7 @@ use Rattle.zf_commands.{specs.Steps.{is_refusal}, specs.Runs.{StopsAt}}
 use Rattle.zfpi.{specs.declared.status.Status.{Status}, specs.declared.command.Access.{Access}}
 use Rattle.zfpi.{specs.Faults.{take_status}, specs.declared.command.Command.{Command}, specs.Opened.{opened}}
 use Rattle.zfpi.{specs.Loaded.{HoldsFile}, specs.World.{World, ExposesInput, IsExposed, seen}}
-use Rattle.zfpi.specs.Scripts.{Answering, lines_status, script_status, script_text, reads_script, AreStarved, OnWholeScript, TakesScript, IsRunnable}
+use Rattle.zfpi.specs.Scripts.{Answering, lines_status, script_status, script_text, reads_script, sees_script, AreStarved, OnWholeScript, TakesScript, IsRunnable}
 use Rattle.zfpi.specs.Accesses.{command_on, reading_of, answers_of, file_of, named}
 use Rattle.zfpi.{proofs.HandedOn.{Appends-stays}, specs.Answer.{meaning, cut_draft, MayFail, OfUsed}}
 use Rattle.zfpi.specs.Headline.{IsOfCommand, Writes, Saves, Behaves}
@@ -45,6 +45,7 @@ pub record IsScripted (c : Command) (name : List ℕ) (reading : List ℕ → Re
   pub saved : (w : World) (starved : List ℕ) (said : Said) → opened reading (w.files name) ≡ Ok said → (meaning c).saved w starved ≡ named name (filed said starved w.input)
   pub saving : (said : Said) (starved script : List ℕ) → is_some (named name (filed said starved script)) ≡ (meaning c).saves
   pub reads_script_by : (status : Status) → (meaning c).reads status ≡ reads_script status
+  pub sees_script_by : (status : Status) → (meaning c).sees_end status ≡ sees_script status
   pub writes_replies : (meaning c).writes ≡ true
   pub reads : (w : World) → IsOk (opened reading (w.files name)) → OfUsed ((meaning c).reads statuses.ReadFault) ((meaning c).opens w)
   pub writes : (w : World) → IsRunnable (opened reading (w.files name)) w → OfUsed (meaning c).writes ((meaning c).works w)
@@ -55,6 +56,9 @@ IsScripted-on _ name = search rules
 
 pub loads-on : (access : Access) (name : List ℕ) → (meaning (command_on access name)).loads ≡ true
 loads-on _ name = search rules
+
+pub name-on : (access : Access) (name : List ℕ) → (meaning (command_on access name)).name ≡ name
+name-on _ name = search rules
 
 -- a script of more bytes than a script may have
 long_input : (src src_now : Option (List ℕ)) (bytes : List ℕ) → 16777216 < length bytes → Takes src src_now bytes → (input : List ℕ) × ExposesInput src input × (16777216 < length input)
@@ -70,14 +74,14 @@ module _ (c : Command) (name : List ℕ) (reading : List ℕ → Result Said Sta
   open_ok = subst IsOk (sym is_open) refl
 
   -- the status of a script, by the number of its lines that are refused
-  status_is : (starved script : List ℕ) → length script ≤ 16777216 → lines_status (count_by is_refusal (answers said starved script).0) ≡ (meaning c).status (world_with known bytes script) starved
+  pub status_is : (starved script : List ℕ) → length script ≤ 16777216 → lines_status (count_by is_refusal (answers said starved script).0) ≡ (meaning c).status (world_with known bytes script) starved
   status_is starved script most = search (rules, le-ltb, is_open, world_with)
 
   too_long : (input : List ℕ) → 16777216 < length input → statuses.ScriptLong ≡ (meaning c).status (world_with known bytes input) []
   too_long input long = search (rules, lt-ltb, is_open, world_with)
 
   -- its text
-  text_is : (starved script taken : List ℕ) → replies_text (answers said starved script).0 ≡ (meaning c).text (world_with known bytes script) starved taken
+  pub text_is : (starved script taken : List ℕ) → replies_text (answers said starved script).0 ≡ (meaning c).text (world_with known bytes script) starved taken
   text_is starved script taken = sym (ap (λ file. script_text answers file starved script) is_open) ∙ sym (is.text (world_with known bytes script) starved taken)
 
   -- and what it saves

@@ -1,5 +1,5 @@
 -- From what a call on a stream promises to what a command promises that hands it on.
-use Rattle.std.proofs.Common.{rules, ◌≡◌, ◌≢◌, ℕ, ◌+◌, ◌≤◌, true, List, [], ◌∷◌, Option, Some, None, Result, Err, ◌⊎◌, inl, inr, refl, ap, sym, subst, ◌∙◌}
+use Rattle.std.proofs.Common.{rules, ◌≡◌, ◌≢◌, ℕ, ◌+◌, ◌≤◌, true, false, List, [], ◌∷◌, Option, Some, None, Result, Ok, Err, ◌⊎◌, inl, inr, refl, ap, sym, subst, ◌∙◌}
 use Rattle.std.proofs.lemmas.List.{take_all}
 use Rattle.zf_dev.{specs.Faults.{HasCause}, specs.Shelf.{Files}, specs.declared.sink.Sink.{Ghosts as Sink}}
 use Rattle.zf_dev.{specs.declared.source.Source.{Ghosts as Source}, specs.Source.{Takes, IsAtEnd}}
@@ -19,6 +19,7 @@ use Rattle.zf_narrow.specs.Texts.{restore_narrow_answer, answer_of_type, HasWide
 use Rattle.zfpi.{specs.declared.status.Status.{Status}, specs.declared.command.Command.{Command}}
 use Rattle.zfpi.specs.declared.command.Command.TheVariants.{Compress, CompressNarrow, Restore, RestoreNarrow}
 use Rattle.zfpi.specs.Faults.{fault_status, narrow_status, status_of, narrow_status_of}
+use Rattle.zfpi.{specs.Statuses.{is_work_done}, specs.Steps.{IsLoaded, Gave, Told}, proofs.Stepping.{untold}}
 use Rattle.zfpi.{specs.World.{World, ExposesInput, seen}, specs.Calls.{Streams}, proofs.Completed.{one_value}}
 use Rattle.zfpi.specs.Answer.{meaning, TakesStream, MayFail, compress_draft, restore_draft, OfUsed}
 use Rattle.zfpi.specs.Headline.{IsOfCommand, Writes, Saves, Behaves}
@@ -75,11 +76,29 @@ pub IsStreaming-restore_narrow : (n : Narrow) → IsStreaming (RestoreNarrow n)
 IsStreaming-restore_narrow n = search (rules, TakesStream-fault)
 
 -- what a command did by calls over its source, which may have been put aside for them: it is not read behind its end
-pub Streams-begun : {A B : Type 0} (S : Source A) (O : Sink B) (c : Command) (status : Status) {begun : ℕ} {src s src_now : A} {out out_now : B} {Read Write : Type 0} → (meaning c).reads status ≡ true → (meaning c).writes ≡ true
+pub Streams-begun : {A B : Type 0} (S : Source A) (O : Sink B) (c : Command) (status : Status) {begun : ℕ} {src s src_now : A} {out out_now : B} {Read Write : Type 0} → (meaning c).reads status ≡ true → (meaning c).sees_end status ≡ true → (meaning c).writes ≡ true
     → s ≡ src_now → begun ≡ S.ends_seen src → S.ends_seen src_now ≤ begun + 1 → HasCause Read (S.faults src) (S.faults src_now) → HasCause Write (O.faults out) (O.faults out_now) → (S.never_fails src → (Read → ⊥) × S.never_fails src_now)
-    → (status ≡ statuses.ReadFault → Read) → (status ≡ statuses.WriteFault → Write) → ((files : Option Files) → Behaves c status (seen (S.contents src) (O.contents out) files) (seen (S.contents src_now) (O.contents out_now) files))
+    → (status ≡ statuses.ReadFault → Read) → (status ≡ statuses.WriteFault → Write) → (is_work_done status ≡ true → Told c (Ok []) (Gave S c src src_now) (O.contents out) (O.contents out_now) status None) → ((files : Option Files) → Behaves c status (seen (S.contents src) (O.contents out) files) (seen (S.contents src_now) (O.contents out_now) files))
     → Streams S O c status src s out out_now
-Streams-begun S O c status {begun} {src} {s} {src_now} {out} {out_now} reads writes moved began once reading writing sure read write behaves = subst (λ s. Streams S O c status src s out out_now) (sym moved) (search rules)
+Streams-begun S O c status {begun} {src} {s} {src_now} {out} {out_now} reads saw writes moved began once reading writing sure read write told behaves = subst (λ s. Streams S O c status src s out out_now) (sym moved) (search rules)
+
+-- of a fault of a stream nothing is told
+pub untold_fault : (e : StreamFault) {P : Type 0} → is_work_done (fault_status e) ≡ true → P
+untold_fault e work = untold (fault_status e) (undone e) work
+  where
+    undone : (e : StreamFault) → is_work_done (fault_status e) ≡ false
+    undone e = search rules
+
+pub untold_narrow : (e : NarrowFault) {P : Type 0} → is_work_done (narrow_status e) ≡ true → P
+untold_narrow NotNarrow work = untold statuses.NotNarrow refl work
+untold_narrow (Stream e) work = untold_fault e work
+
+-- and of one that was read to its end, what it gave
+pub Told-done : (c : Command) (given : List ℕ → Type 0) (out out_now : Option (List ℕ)) (bytes : List ℕ) → IsStreaming c → (meaning c).loads ≡ false → given bytes → statuses.Done ≡ (meaning c).status (world_of bytes None) [] → Appends out out_now ((meaning c).text (world_of bytes None) [] bytes)
+    → Told c (Ok []) given out out_now statuses.Done None
+Told-done c given out out_now bytes is unloaded gave stated written =
+    let w = world_of bytes None in
+    record { world = w; loaded = subst (λ b. IsLoaded b (Ok []) (w.files (meaning c).name)) (sym unloaded) tt; input = gave; starved = []; starved_are = is.not_starved statuses.Done w; stated = inl stated; written = written; to_save = sym (is.nothing_saved w) }
 
 -- a fault of a device is named as such
 pub read_named : (e : StreamFault) → fault_status e ≡ statuses.ReadFault → e ≡ faults.Read

@@ -19,7 +19,7 @@ use Rattle.zfpi.specs.World.{World}
 use Rattle.zfpi.specs.Words.{IsLines, IsCaching}
 use Rattle.zfpi.specs.Info.{header_bytes, TakesHeader, info_text}
 use Rattle.zfpi.specs.Opened.{array_in, stream_in, opened}
-use Rattle.zfpi.specs.Scripts.{Answering, TakesScript, reads_script, OnWholeScript, IsRunnable, run_answers, run_file, look_answers, script_status, script_text, saved_of, AreStarved}
+use Rattle.zfpi.specs.Scripts.{Answering, TakesScript, reads_script, sees_script, OnWholeScript, IsRunnable, run_answers, run_file, look_answers, script_status, script_text, saved_of, AreStarved}
 use Rattle.zfpi.specs.Certified.{certified_text, certified_status}
 use Rattle.zfpi.specs.Sample.{sample_text}
 
@@ -40,6 +40,12 @@ pub record Meaning : Type 1 where
   pub extent : Status → List ℕ → List ℕ → Type 0
   -- it may have come to the source by this status
   pub reads : Status → Bool
+  -- and may have seen the end of it
+  pub sees_end : Status → Bool
+  -- it reads its input to the end, where its work is done
+  pub to_end : Bool
+  -- the name of the file that it loads or saves
+  pub name : List ℕ
   -- it uses these devices at all
   pub writes : Bool
   pub loads : Bool
@@ -83,6 +89,9 @@ plain = record {
   saved = λ w starved. None;
   extent = λ status input taken. taken ≡ [];
   reads = λ status. false;
+  sees_end = λ status. false;
+  to_end = false;
+  name = [];
   writes = false;
   loads = false;
   saves = false;
@@ -93,7 +102,7 @@ plain = record {
 
 -- a stream is written of what is read, or values of a stream
 abbrev pub streaming : Meaning
-streaming = record plain { draft = compress_draft; extent = TakesStream; reads = λ s. true; writes = true }
+streaming = record plain { draft = compress_draft; extent = TakesStream; reads = λ s. true; sees_end = λ s. true; to_end = true; writes = true }
 
 -- a script is answered so, over what a file is opened as
 abbrev pub scripting : Answering → (World → Result Said Status) → Meaning
@@ -103,6 +112,8 @@ scripting answers file = record plain {
   text = λ w starved taken. script_text answers (file w) starved w.input;
   extent = TakesScript;
   reads = reads_script;
+  sees_end = sees_script;
+  to_end = true;
   writes = true;
   loads = true;
   opens = λ w. IsOk (file w);
@@ -137,24 +148,29 @@ meaning Info = record plain {
   text = λ w starved taken. info_text taken;
   extent = TakesHeader;
   reads = λ status. true;
+  sees_end = λ status. true;
   writes = true;
   memory = λ w. ⊥;
 }
 meaning (New name ty ns b) = record plain {
   can_run = IsShape ns × IsRate (Rate b);
   saved = λ w starved. Some (name, file_of (zeros ty ns b));
+  name = name;
   saves = true;
 }
 meaning (Run name caching) = record (scripting (run_answers caching) (λ w. opened array_in (w.files name))) {
   can_run = IsCaching caching;
+  name = name;
   saved = λ w starved. saved_of name (run_file caching) (opened array_in (w.files name)) starved w.input;
   saves = true;
 }
 meaning (Look name lines) = record (scripting (look_answers lines) (λ w. opened stream_in (w.files name))) {
   can_run = IsLines lines;
+  name = name;
 }
 meaning (Bound name most) = record plain {
   status = λ w starved. certified_status (opened array_in (w.files name));
+  name = name;
   text = λ w starved taken. certified_text most (opened array_in (w.files name));
   writes = true;
   loads = true;

@@ -18,7 +18,7 @@ use Rattle.zfpi.specs.declared.command.Command.{Command}
 use Rattle.zfpi.specs.Words.{narrow_word, IsSpelled, IsUsage}
 use Rattle.zfpi.specs.World.{World, Seen, Counts, IsExposed}
 use Rattle.zfpi.specs.Answer.{meaning, MayFail}
-use Rattle.zfpi.specs.Steps.{is_work_done}
+use Rattle.zfpi.specs.Statuses.{is_work_done}
 
 -- this holds of the command that the words are, where they are one
 abbrev pub OfCommand : List (List ℕ) → (Command → Type 0) → Type 0
@@ -87,11 +87,12 @@ pub record HasCauses (c : Command) (status : Status) (before now : Counts) (Sure
     pub no_writing : IsIdle (meaning c).writes before.out now.out
     pub sure : Sure → (status ≢ ReadFault) × Still
 
--- nothing was read behind the end that was seen: it was seen once more at most, and not at all where the
--- source was not used
-pub record StopsAtEnd (used : Bool) (before now : ℕ) : Type 0 where
+-- nothing was read behind the end that was seen: it was seen once more at most, and not at all by a status
+-- that does not see it, or where the source was not used
+pub record StopsAtEnd (used sees : Bool) (before now : ℕ) : Type 0 where
   pub once : now ≤ before + 1
   pub unused : IsIdle used before now
+  pub unseen : sees ≡ false → now ≤ before
 
 -- all that was written was handed on, unless the sink failed before the work was done
 abbrev pub IsSent : Status → Type 0 → Type 0 → Type 0

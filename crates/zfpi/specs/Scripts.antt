@@ -140,6 +140,15 @@ reads_script statuses.ReadFault = true
 reads_script statuses.Memory = true
 reads_script status = false
 
+-- by these the end of the script may have been seen: it is read to its end before its first line is run, so
+-- after every other status no line was
+abbrev pub sees_script : Status → Bool
+sees_script statuses.Done = true
+sees_script (statuses.Lines n) = true
+sees_script statuses.WriteFault = true
+sees_script statuses.SaveFault = true
+sees_script status = false
+
 -- this holds where the whole of a script was run
 abbrev pub OnWholeScript : Status → Type 0 → Type 0
 OnWholeScript statuses.Done P = P

@@ -1,9 +1,16 @@
--- The exit code of each status, and its line for the error output.
-use Rattle.std.specs.Prelude.{ℕ, List, [], ◌++◌, codes, decimal}
+-- The exit code of each status, its line for the error output, and by which the work was done.
+use Rattle.std.specs.Prelude.{ℕ, Bool, true, false, List, [], ◌++◌, codes, decimal}
 use Rattle.zf_header.specs.declared.header.HeaderFault.{HeaderFault}
 use Rattle.zf_header.specs.declared.header.HeaderFault.TheVariants as headers
 use Rattle.zfpi.specs.declared.status.Status.{Status}
 use Rattle.zfpi.specs.declared.status.Status.TheVariants.{Done, Lines, Usage, RawShort, RawLong, Header, Truncated, Pad, Trailing, NotRate, NotNarrow, Missing, ScriptLong, FileLong, ReadFault, WriteFault, LoadFault, SaveFault, Memory}
+
+-- the work was done, but for the saving maybe
+abbrev pub is_work_done : Status → Bool
+is_work_done Done = true
+is_work_done (Lines n) = true
+is_work_done SaveFault = true
+is_work_done status = false
 
 -- the exit code of the process
 abbrev pub code_of : Status → ℕ

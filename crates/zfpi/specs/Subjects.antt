@@ -1,7 +1,6 @@
 -- What a script works on, as its lines find it, and how the run of a script over it ends.
 use Rattle.std.specs.Prelude.{◌≡◌, ℕ, ℤ, Bool, List, length, Option, Some, None, vec_len}
 use Rattle.std.specs.Int.{Width}
-use Rattle.zf_spec.specs.Grid.{blocks}
 use Rattle.zf_header.specs.HeaderBits.{block_bits, rate_bytes_of}
 use Rattle.zf_cached.specs.Windows.{whole}
 use Rattle.zf_cached.specs.Arrays.{saved_file}
@@ -9,7 +8,6 @@ use Rattle.zf_cached.specs.Replies.{Reply}
 use Rattle.zf_cached.specs.Steps.{Setting, Session}
 use Rattle.zf_cached.specs.Runs.{lines_of, run_lines, ended}
 use Rattle.zf_cache.specs.Kept.{IsEmpty}
-use Rattle.zf_twoway.specs.Standing.{HasRoom as HasRows}
 use Rattle.zf_commands.specs.Sittings.{session}
 use Rattle.zf_commands.specs.Runs.{RunsAll, StopsAt}
 use Rattle.zf_run.specs.declared.end.RunEnd.{RunEnd}
@@ -45,10 +43,9 @@ subject value w (Look a) = record {
   filed = λ s. None;
 }
 
--- no line has been run on it: the cache is empty, and has room for the blocks, where a run asks for that
+-- no line has been run on it: the cache is empty, where a run asks for that
 abbrev pub IsFresh : {X : Type 0} {d : ℕ} → Target X d → Type 0
 IsFresh (TwoWay pair) = IsEmpty pair.cache (length pair.cache.tags)
-    × HasRows pair.cache (blocks pair.store.header.shape)
 IsFresh (Direct a) = Unit {0}
 IsFresh (Look a) = Unit {0}
 

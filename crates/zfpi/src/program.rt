@@ -5,7 +5,7 @@ ghost use Rattle.zf_dev.specs.Faults.{IsQuiet};
 ghost use Rattle.zfpi.specs.Statuses.{error_line};
 ghost use Rattle.zfpi.specs.World.{seen, counts};
 ghost use Rattle.zfpi.specs.Answer.{meaning};
-ghost use Rattle.zfpi.specs.Steps.{Steps};
+ghost use Rattle.zfpi.specs.Steps.{Gave, Steps};
 ghost use Rattle.zfpi.specs.Calls.{Fulfils, HeedsWords};
 ghost use Rattle.zfpi.specs.Headline.{OfCommand, OnUsage, RefusesWords, Behaves, HasCauses, StopsAtEnd, IsSent, AreQuiet, IsComplete, GivesBack, Sends};
 
@@ -46,10 +46,15 @@ pub fn zfpi<S: Source, O: Sink, E: Sink, F: Shelf>(
         (S.never_fails src.old) (S.never_fails src.new)) }
     // Nothing is read behind the end that was seen.
     ensures stops { OfCommand (map string_bytes words.now) (λ c.
-        StopsAtEnd ((meaning c).reads result) (S.ends_seen src.old) (S.ends_seen src.new)) }
+        StopsAtEnd ((meaning c).reads result) ((meaning c).sees_end result)
+        (S.ends_seen src.old) (S.ends_seen src.new)) }
+    // Also over devices that expose nothing: what was loaded, given, answered, written and saved is told of
+    // one world.
     ensures steps { OfCommand (map string_bytes words.now)
-        (λ c. Steps F.loads F.saves F.faults c result shelf.old shelf.new) }
+        (λ c. Steps F.loads F.saves F.faults c (Gave S.Source c src.old src.new)
+        (O.contents out.old) (O.contents out.new) result shelf.old shelf.new) }
     ensures sure_shelf { F.never_fails shelf.old → (result ≢ Status.LoadFault) × F.never_fails shelf.new }
+    ensures sure_saves { F.always_saves shelf.old → (result ≢ Status.SaveFault) × F.always_saves shelf.new }
     // What was written was handed on where the work was done, and where the sink did not fail.
     ensures sent { O.is_flushed out.old → IsSent result (IsQuiet (O.faults out.old) (O.faults out.new))
         (O.is_flushed out.new) }

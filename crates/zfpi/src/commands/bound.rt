@@ -1,6 +1,6 @@
 //! `bound`: how far the values of a stream are from whatever was stored in it, as a line.
 
-ghost use Rattle.std.specs.Prelude.{◌≡◌, ◌≢◌, ℕ, List, Option, IfOk, IfErr, OnOk};
+ghost use Rattle.std.specs.Prelude.{◌≡◌, ◌≢◌, ℕ, List, [], Option, IfOk, IfErr, OnOk};
 ghost use Rattle.zf_header.specs.HeaderBits.{IsRate};
 ghost use Rattle.zf_index.specs.Files.{HasHeader, stream_fault};
 ghost use Rattle.zf_parse.specs.Parsing.{parse};
@@ -36,8 +36,10 @@ pub fn bound<O: Sink, F: Shelf>(
         (seen src (O.contents out.new) (F.files shelf.new)) }
     ensures causes { (src : ℕ) → HasCauses (Bound name.now most) result
         (counts src (O.faults out.old)) (counts src (O.faults out.new)) (Unit {0}) (Unit {0}) }
-    ensures steps { Steps F.loads F.saves F.faults (Bound name.now most) result shelf.old shelf.new }
+    ensures steps { Steps F.loads F.saves F.faults (Bound name.now most) (λ bytes. bytes ≡ [])
+        (O.contents out.old) (O.contents out.new) result shelf.old shelf.new }
     ensures sure_shelf { F.never_fails shelf.old → (result ≢ Status.LoadFault) × F.never_fails shelf.new }
+    ensures sure_saves { F.always_saves shelf.old → (result ≢ Status.SaveFault) × F.always_saves shelf.new }
 {
     match shelf.load(alloc, name.as_str(), MAX_FILE) {
         Ok(file) => bound_file(alloc, name, most, &file, out),

@@ -1,6 +1,6 @@
 //! `new`: an array of zeros as a file.
 
-ghost use Rattle.std.specs.Prelude.{◌≡◌, ◌≢◌, ℕ, List, Option, length, IfOk};
+ghost use Rattle.std.specs.Prelude.{◌≡◌, ◌≢◌, ℕ, List, [], Option, length, IfOk};
 ghost use Rattle.zf_header.specs.declared.header.Mode.TheVariants.{Rate};
 ghost use Rattle.zf_header.specs.HeaderBits.{IsRate};
 ghost use Rattle.zf_store.specs.Stored.{file_of, zeros};
@@ -34,8 +34,10 @@ pub fn new<F: Shelf>(
         (seen src out (F.files shelf.old)) (seen src out (F.files shelf.new)) }
     ensures causes { (src out : ℕ) → HasCauses (New name.now ty shape bits) result
         (counts src out) (counts src out) (Unit {0}) (Unit {0}) }
-    ensures steps { Steps F.loads F.saves F.faults (New name.now ty shape bits) result shelf.old shelf.new }
+    ensures steps { (out : Option (List ℕ)) → Steps F.loads F.saves F.faults (New name.now ty shape bits)
+        (λ bytes. bytes ≡ []) out out result shelf.old shelf.new }
     ensures sure_shelf { F.never_fails shelf.old → (result ≢ Status.LoadFault) × F.never_fails shelf.new }
+    ensures sure_saves { F.always_saves shelf.old → (result ≢ Status.SaveFault) × F.always_saves shelf.new }
 {
     match file_of_zeros(alloc, ty, shape, bits) {
         Ok(file) => match shelf.save(name.as_str(), &file) {

@@ -1,7 +1,6 @@
 //! Codes and a two-way cache over them, for a script to work on.
 
 ghost use Rattle.std.specs.Prelude.{◌≡◌, Some, length, vec_len, IfOk, IfErr};
-ghost use Rattle.zf_spec.specs.Grid.{blocks};
 ghost use Rattle.zf_base.specs.Widths.{width_of};
 ghost use Rattle.zf_header.specs.HeaderBits.{block_bits, rate_bytes_of};
 ghost use Rattle.zf_parse.specs.Parsing.{parse};
@@ -12,7 +11,6 @@ ghost use Rattle.zf_index.specs.Files.{stream_fault};
 ghost use Rattle.zf_store.specs.Files.{HasHeader, IsOpened};
 ghost use Rattle.zf_store.specs.Stored.{IsStore, file_of};
 ghost use Rattle.zf_cache.specs.Kept.{IsEmpty};
-ghost use Rattle.zf_twoway.specs.Standing.{HasRoom};
 ghost use Rattle.zf_run.specs.Pairs.{pair_state};
 ghost use Rattle.zfpi.specs.Words.{IsLines};
 ghost use Rattle.zfpi.specs.Sending.{IsDone};
@@ -37,8 +35,8 @@ pub struct Opened<T: Lane, const D: usize> {
     pub file: Vec<u8>,
 }
 
-/// The codes of a file with this header, and an empty cache of as many lines, raised to a power of two, with
-/// room for its blocks. The file becomes the bytes for saving.
+/// The codes of a file with this header, and an empty cache of as many lines, raised to a power of two. The
+/// file becomes the bytes for saving.
 pub fn open<T: Lane, const D: usize>(
     alloc: Global,
     header: &Header,
@@ -51,15 +49,13 @@ pub fn open<T: Lane, const D: usize>(
     requires dims { length header.now.shape ≡ D }
     ensures stored { IfOk result (λ o. IsOpened file.items header.now o.store) }
     ensures empty { IfOk result (λ o. IsEmpty o.cache (raised_lines lines)) }
-    ensures rows { IfOk result (λ o. HasRoom o.cache (blocks o.store.header.shape)) }
     ensures state { IfOk result (λ o. pair_state T.value o.store o.cache
         ≡ open_array T.width (block_bits header.now.mode) header.now.shape o.store.codes lines) }
     ensures room { IfOk result (λ o. vec_len o.file ≡ rate_bytes_of o.store.header) }
     ensures fault { IfErr result (λ e. IsFault (parse file.items) (stream_fault e)) }
 {
     let store = Store::from_file(alloc, header, &file)?;
-    let blocks = header.shape.blocks();
-    let Ok(cache) = TwoWay::for_blocks(alloc, raised(lines), blocks) else {
+    let Ok(cache) = TwoWay::new(alloc, raised(lines)) else {
         // Said as a call: the end of a scope would be proved with each part that is given back.
         drop(store);
         return Err(StoreFault::Memory);

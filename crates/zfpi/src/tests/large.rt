@@ -125,11 +125,13 @@ impl Shelf for Overlong {
 
     ghost faults = { λ s. 0 };
 
-    ghost loads = { λ old new. Unit {0} };
+    ghost loads = { λ old name answer new. Unit {0} };
 
-    ghost saves = { λ old new. Unit {0} };
+    ghost saves = { λ old name bytes ok new. Unit {0} };
 
     ghost never_fails = { λ s. Unit {0} };
+
+    ghost always_saves = { λ s. Unit {0} };
 
     fn load(&mut self, _alloc: Global, _name: &str, _max: u64) -> Result<Vec<u8>, LoadError> {
         Err(LoadError::Long)

@@ -2,4 +2,4 @@
 use Rattle.zf_narrow.proofs.compressing.compress_narrow.Given as goal
 
 abbrev pub ghosts-compress_begun : goal.ghosts-compress_begun
-ghosts-compress_begun g a = record { narrow = a.n; start = g.S.Source.contents a.src.now }
+ghosts-compress_begun g a = record { narrow = a.n; start = g.S.Source.contents a.src.now; gave = g.S.Source.gave a.src.now }

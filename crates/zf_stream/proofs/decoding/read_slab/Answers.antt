@@ -4,7 +4,8 @@ use Rattle.zf_spec.{specs.Grid.{blocks, extent_of}}
 use Rattle.zf_pad.proofs.Stored.{stored_before, stores_none, blocks_stored, all_stored}
 use Rattle.zf_base.{specs.Widths.{width_of}, proofs.Extents.{length-extent_of}}
 use Rattle.zf_bits.specs.Reader.{rest}
-use Rattle.zf_dev.{proofs.Taking.{Takes-append}, proofs.Devices.{Reads-none, Reads-more}}
+use Rattle.zf_dev.proofs.Devices.{Reads-none, Reads-more}
+use Rattle.zf_stream.proofs.Drawing.{Draws-append, DrawsSome-append}
 use Rattle.zf_parse.{specs.Parsing.{read_code}, proofs.Enough.{enough_for_one}}
 use Rattle.zf_parse.proofs.Joining.{read_codes-cut}
 use Rattle.zf_stream.{specs.Windows.{left_of}, specs.Restoring.{stream_from}, proofs.Failing.{Reads-ok}}
@@ -33,7 +34,7 @@ pub returns-in_err-reach-clause-err : goal.returns-in_err-reach-clause-err
 returns-in_err-reach-clause-err g c =
     let p = err_from_is_err_and c.from_residual.result c.from_residual.ensures.1 in
     rw (p.1, p.2, c.in_err-reach.ensures.source.fault)
-    (_, Takes-append _ _ _ _ _ c.loop-b.invariant.goes.taken c.in_err-reach.ensures.taken.1)
+    (DrawsSome-append _ c.loop-b.invariant.goes.drawn c.in_err-reach.ensures.drawn)
 
 -- a source that is not at its end would have given enough
 at_end : (ended : Bool) (Enough End : Type 0) → (ended ≡ false → Enough) → ¬ Enough → (ended ≡ true → End) → End
@@ -64,7 +65,7 @@ returns-in_default-clause-err g c =
     let none_there : read_code (width_of h.ty) h.mode es (left_of c.reach.new.self) ≡ None = ap (λ r. read_code (width_of h.ty) h.mode es (rest r)) (sym unread) ∙ none in
     record {
       bytes = bytes;
-      taken = Takes-append _ _ _ _ _ so_far.goes.taken refill.goes.taken;
+      drawn = Draws-append _ _ so_far.goes.drawn refill.goes.drawn;
       ended = search (rules, at_end, enough_for_one, length-extent_of);
       block = b;
       number_is = refl;

@@ -11,10 +11,10 @@ pub record Decoded (g : goal.Over) (l : goal.Live-loop-b g) : Type 0 where
   pub within : l.b ≤ blocks l.part.shape
   pub look : l.look ≡ true → HasWholeBlocks l.part.shape
   pub bytes : List ℕ
-  pub goes : Goes (g.S.Source.contents l.fn.src) (g.S.Source.contents l.src) l.fn.room.window l.room.window bytes
+  pub goes : Goes g.S.Source l.fn.src l.src l.fn.room.window l.room.window bytes
   pub read : HasRead l.part l.b (stream_from l.fn.room.window bytes) (left_of l.room.window) (map g.T.Lane.value l.room.stored.items)
   pub stays : Stays l.fn.room l.room
-  pub ended : KnowsEnd l.room.window (g.S.Source.contents l.src)
+  pub ended : KnowsEnd g.S.Source l.room.window l.src
   pub source : Reads g.S.Source ⊥ l.fn.src l.src
 
 abbrev pub invariant-loop-b : goal.invariant-loop-b

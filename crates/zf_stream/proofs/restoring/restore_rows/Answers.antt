@@ -6,7 +6,7 @@ use Rattle.zf_stream.proofs.restoring.restore_rows.Goals as goal
 
 pub returns-in_err-reach-clause-err : goal.returns-in_err-reach-clause-err
 returns-in_err-reach-clause-err g c =
-    on_err c.from_residual-in_err-reach.result _ (rows_left c.args.h.now (rows_of c.args.h.now.shape) c.in_ok-restore_slabs.ensures.ok c.in_err-reach.ensures.taken)
+    on_err c.from_residual-in_err-reach.result _ (rows_left c.args.h.now (rows_of c.args.h.now.shape) c.in_ok-restore_slabs.ensures.ok c.in_err-reach.ensures.drawn)
 
 pub returns-clause-ok : goal.returns-clause-ok
 returns-clause-ok g c = search (rules, on_ok_of, restores_all)

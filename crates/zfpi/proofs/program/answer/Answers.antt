@@ -13,6 +13,7 @@ returns-in-Ok g c =
       untouched = OnUsage-of status _ done.behaves.ends;
       fulfils = OfCommand-one words c.in-Ok.command spelled (λ d. Fulfils g.S.Source g.O.Sink g.F.Shelf d status _ _ _ _ _ _) done;
       sure_shelf = done.sure_shelf;
+      sure_saves = done.sure_saves;
       sent = done.sent;
     }
 

@@ -1,8 +1,9 @@
-use Rattle.std.proofs.Common.{refl}
-use Rattle.zfpi.specs.declared.command.Command.TheVariants.{Compress, CompressNarrow, Restore, RestoreNarrow, Info, Bound, Sample}
+use Rattle.std.proofs.Common.{◌≡◌, [], Some, None, Ok, refl}
+use Rattle.zfpi.specs.Steps.{Gave}
+use Rattle.zfpi.specs.declared.command.Command.TheVariants.{Compress, CompressNarrow, Restore, RestoreNarrow, Info, New, Bound, Sample}
 use Rattle.zfpi.{proofs.Causes.{HasCauses-sure}, proofs.Stopping.{StopsAtEnd-same}}
-use Rattle.zfpi.proofs.Stepping.{Steps-sent}
-use Rattle.zfpi.proofs.HandedOn.{Behaves-sent, HasCauses-sent, IsSent-sent, Fulfils-sent, unloaded_sent}
+use Rattle.zfpi.proofs.Stepping.{Steps-sent, Steps-by, Told-behaves, Gave-none}
+use Rattle.zfpi.proofs.HandedOn.{Appends-stays, Behaves-sent, HasCauses-sent, IsSent-sent, Fulfils-sent, unloaded_sent, unsaved_sent}
 use Rattle.zfpi.proofs.program.do_command.Goals as goal
 
 pub returns-in-Compress : goal.returns-in-Compress
@@ -24,7 +25,10 @@ pub returns-in-Sample : goal.returns-in-Sample
 returns-in-Sample g c = rw c.in-Sample.is (Fulfils-sent (Sample c.in-Sample.header c.in-Sample.seed) _ _ tt refl refl _ _ _ _ _ _ (record {
   behaves = λ files. c.sample.ensures.behaves _ files;
   causes = HasCauses-sure _ _ _ _ (c.sample.ensures.causes _);
-  stops = StopsAtEnd-same _ _;
+  stops = StopsAtEnd-same _ _ _;
+  told = λ work.
+      let sample = Sample c.in-Sample.header c.in-Sample.seed in
+      Told-behaves sample (Ok []) (Gave g.S.Source sample _ _) _ _ c.sample.result work (c.sample.ensures.behaves (Some []) None) (λ w starved taken. refl) (Gave-none g.S.Source sample _ [] refl refl) tt;
 }) c.send-in-Sample.ensures)
 
 pub returns-in-Bound : goal.returns-in-Bound
@@ -35,9 +39,10 @@ returns-in-Bound g c =
     rw c.in-Bound.is (record {
       behaves = behaves;
       causes = HasCauses-sent bound _ _ tt _ _ _ _ _ (HasCauses-sure _ _ _ _ (c.bound.ensures.causes _)) sends;
-      stops = StopsAtEnd-same _ _;
-      steps = Steps-sent g.F.Shelf.loads g.F.Shelf.saves g.F.Shelf.faults bound _ _ _ _ refl sends.ends c.bound.ensures.steps;
+      stops = StopsAtEnd-same _ _ _;
+      steps = Steps-by (λ bytes. bytes ≡ []) _ (λ bytes is. Gave-none g.S.Source bound _ bytes refl is) (Steps-sent g.F.Shelf.loads g.F.Shelf.saves g.F.Shelf.faults bound _ _ _ _ _ _ _ _ refl sends.ends (λ text written. Appends-stays _ _ _ text written sends.stays) c.bound.ensures.steps);
       sure_shelf = λ sure. let loaded = c.bound.ensures.sure_shelf sure in (unloaded_sent _ _ loaded.0 sends, loaded.1);
+      sure_saves = λ sure. let saved = c.bound.ensures.sure_saves sure in (unsaved_sent _ _ saved.0 sends, saved.1);
       sent = λ flushed. IsSent-sent bound _ _ tt _ _ _ _ _ behaves (c.bound.ensures.causes 0).writing.0 sends;
     })
 
@@ -45,9 +50,10 @@ pub returns-in-New : goal.returns-in-New
 returns-in-New g c = rw c.in-New.is (record {
   behaves = c.new.ensures.behaves _ _;
   causes = HasCauses-sure _ _ _ _ (c.new.ensures.causes _ _);
-  stops = StopsAtEnd-same _ _;
-  steps = c.new.ensures.steps;
+  stops = StopsAtEnd-same _ _ _;
+  steps = Steps-by (λ bytes. bytes ≡ []) _ (λ bytes is. Gave-none g.S.Source (New c.in-New.name c.in-New.ty c.in-New.shape c.in-New.bits) _ bytes refl is) (c.new.ensures.steps _);
   sure_shelf = c.new.ensures.sure_shelf;
+  sure_saves = c.new.ensures.sure_saves;
   sent = λ flushed why. flushed;
 })
 

@@ -14,12 +14,13 @@ returns g c =
       stops = λ d spelled. (fulfils d spelled).stops;
       steps = λ d spelled. (fulfils d spelled).steps;
       sure_shelf = c.answer-status.ensures.sure_shelf;
+      sure_saves = c.answer-status.ensures.sure_saves;
       sent = c.answer-status.ensures.sent;
       back = GivesBack-behaves (map string_bytes c.args.words.now) status _ _ (λ d spelled. (fulfils d spelled).behaves);
       complete = λ quiet d spelled.
           let done = fulfils d spelled in
           IsComplete-quiet d status _ _ _ _ _ _ done.behaves done.causes quiet.src quiet.out
-          (Steps-quiet g.F.Shelf.loads g.F.Shelf.saves g.F.Shelf.faults d status c.args.shelf.now c.answer-status.new.shelf done.steps quiet.shelf);
+          (Steps-quiet g.F.Shelf.loads g.F.Shelf.saves g.F.Shelf.faults d _ _ _ status c.args.shelf.now c.answer-status.new.shelf done.steps quiet.shelf);
       message = search rules;
       message_sent = search rules;
     }

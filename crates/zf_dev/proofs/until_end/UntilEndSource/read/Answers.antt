@@ -4,4 +4,4 @@ pub invariant_of-self : goal.invariant_of-self
 invariant_of-self g c =
     let self = c.args.self.now in
     let seen = c.read_on.ensures.once g.K.Begun.ends_seen (self.once, self.none) in
-    record { at_end = c.read_on.ensures.at_end; once = seen.0; none = seen.1 }
+    record { at_end = c.read_on.ensures.at_end; known = c.read_on.ensures.known; once = seen.0; none = seen.1 }

@@ -1,18 +1,18 @@
 use Rattle.std.proofs.lemmas.Result.{IfOk-weaker, on_err_weaker}
-use Rattle.zf_narrow.{specs.Promotions.{exposed}, proofs.Stepping.{ends_at}}
+use Rattle.zf_narrow.{specs.Promotions.{exposed}, proofs.Stepping.{ends_at}, proofs.GivenNarrow.{gives_of}}
 use Rattle.zf_narrow.proofs.promoted.PromotedSource.read.Goals as goal
 
 pub returns-clause-taken : goal.returns-clause-taken
 returns-clause-taken g c = IfOk-weaker c.read.result _ _ (λ k given. given.gone) c.read.ensures.given
 
 pub returns-clause-gave : goal.returns-clause-gave
-returns-clause-gave g c = IfOk-weaker c.read.result _ _ (λ k given. given.gave) c.read.ensures.given
+returns-clause-gave g c = IfOk-weaker c.read.result _ _ (λ k given. gives_of _ given.gave c.read.ensures.taken) c.read.ensures.given
 
 pub returns-clause-untaken : goal.returns-clause-untaken
 returns-clause-untaken g c = on_err_weaker c.read.result (λ given. given.gone) c.read.ensures.ungiven
 
 pub returns-clause-ungiven : goal.returns-clause-ungiven
-returns-clause-ungiven g c = on_err_weaker c.read.result (λ given. given.gave) c.read.ensures.ungiven
+returns-clause-ungiven g c = on_err_weaker c.read.result (λ given. gives_of _ given.gave c.read.ensures.taken) c.read.ensures.ungiven
 
 pub returns-clause-end : goal.returns-clause-end
 returns-clause-end g c =

@@ -3,7 +3,7 @@ use Rattle.std.proofs.Common.{◌≡◌, ℕ, ◌+◌, ◌*◌, ◌/◌, ◌<◌
 use Rattle.std.proofs.lemmas.List.{with_items_is, places, length-take-le, take-append-le}
 use Rattle.zf_spec.{specs.Numbers.{word_bits}, specs.Stream.{to_bits}, proofs.Bytes.{length-to_bits}}
 use Rattle.zf_bits.proofs.Reading.{length-reader_of}
-use Rattle.zf_stream.{specs.Windows.{left_of}, proofs.Windows.{Refills-put}}
+use Rattle.zf_stream.{specs.Drawing.{Draws}, specs.Windows.{left_of}, proofs.Windows.{Refills-put}}
 use Rattle.zf_stream.proofs.window.Window.append.Goals as goal
 
 pub returns-clause-ok : goal.returns-clause-ok
@@ -16,15 +16,15 @@ returns-clause-ok g c =
     let buf = c.read_into.new.buf in
     let rest = drop (8 * c.min-most.result) c.args.piece.now in
     let bytes = take count (buf ++ rest) in
-    let from = g.S.Source.contents c.args.src.now in
-    let to = g.S.Source.contents c.read_into.new.src in
     let within : count ≤ length buf = omega (arith, c.in_ok-count.ensures.bound, c.read_into.auto.buf) in
     let long : length bytes ≡ count = length-take-le count (buf ++ rest) (omega (arith, within, length-append buf rest)) in
     let whole : w.bits ≡ 64 * held = omega (arith, c.self.invariant.whole (ap (λ v. v.ended) c.self.view_is ∙ c.requires.going)) in
     let size : w.bits + 8 * count ≡ 64 * held + 8 * length bytes = omega (arith, whole, long) in
     let room = with_items_is w.words new (search (rules, places)) in
     let all : take (w.bits + 8 * count) (word_bits (with_items w.words new).items) ≡ c.args.self.now.reader.all ++ to_bits bytes = search rules in
-    Refills-put from to c.args.self.now _ bytes (rw (take-append-le count buf rest within) c.in_ok-count.ensures.first.taken) all
+    let drawn : Draws g.S.Source c.args.src.now c.read_into.new.src bytes =
+    rw (take-append-le count buf rest within) (record { taken = c.in_ok-count.ensures.first.taken; given = c.in_ok-count.ensures.gave }) in
+    Refills-put c.args.src.now c.read_into.new.src c.args.self.now _ bytes drawn all
     (ap (λ v. v.reader.at) c.self.view_is)
     (omega (arith, c.self.invariant.at_within, ap (λ v. v.reader.at) c.self.view_is, ap (λ v. length v.reader.all) c.self.view_is, length-reader_of words w.bits w.at c.self.invariant.within))
     (ap length room ∙ c.put_words_at.ensures.len ∙ ap length c.deref_mut.ensures.value ∙ ap (λ v. v.room) c.self.view_is)

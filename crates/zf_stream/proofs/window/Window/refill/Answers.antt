@@ -1,12 +1,13 @@
 use Rattle.std.{proofs.Common.{rules, sym, ◌∙◌, arith}, proofs.lemmas.Result.{err_from_is_err_and}}
-use Rattle.zf_dev.{proofs.Taking.{Takes-append}, proofs.Devices.{Reads-none, Reads-more}}
+use Rattle.zf_dev.proofs.Devices.{Reads-none, Reads-more}
+use Rattle.zf_stream.proofs.Drawing.{DrawsSome-append}
 use Rattle.zf_stream.{proofs.OnErrors.{on_err}, proofs.Windows.{Refills-next, Refills-moved}}
 use Rattle.zf_stream.proofs.Failing.{ReadsOnly-ok}
 use Rattle.zf_stream.proofs.window.Window.refill.Goals as goal
 
 pub loop-self-init : goal.loop-self-init
 loop-self-init g c = record {
-  refills = Refills-moved (g.S.Source.contents c.args.src.now) c.args.self.now c.move_down.new.self c.move_down.ensures.bits c.move_down.ensures.room c.move_down.ensures.place;
+  refills = Refills-moved c.args.src.now c.args.self.now c.move_down.new.self c.move_down.ensures.bits c.move_down.ensures.room c.move_down.ensures.place;
   place = omega (arith, c.move_down.ensures.place);
   ended = λ is. c.requires.ended (sym c.move_down.ensures.ended ∙ is);
   source = Reads-none _;
@@ -20,10 +21,9 @@ loop-self-preserved g c = record {
   source = Reads-more c.loop-self.invariant.source c.append.ensures.source.device;
 }
 
-pub returns-in_err-append-clause-taken : goal.returns-in_err-append-clause-taken
-returns-in_err-append-clause-taken g c =
-    let more = c.in_err-append.ensures.taken in
-    on_err c.from_residual.result _ (_, Takes-append _ _ _ _ _ c.loop-self.invariant.refills.goes.taken more.1)
+pub returns-in_err-append-clause-drawn : goal.returns-in_err-append-clause-drawn
+returns-in_err-append-clause-drawn g c =
+    on_err c.from_residual.result _ (DrawsSome-append _ c.loop-self.invariant.refills.goes.drawn c.in_err-append.ensures.drawn)
 
 pub returns-in_err-append-clause-source : goal.returns-in_err-append-clause-source
 returns-in_err-append-clause-source g c = search (rules, err_from_is_err_and)

@@ -5,9 +5,9 @@ use Rattle.zf_dev.specs.Devices.{Reads}
 use Rattle.zf_stream.proofs.window.Window.refill.Given as goal
 
 pub record Filling (g : goal.Over) (l : goal.Live-loop-self g) : Type 0 where
-  pub refills : Refills (g.S.Source.contents l.fn.src) (g.S.Source.contents l.src) l.fn.self l.self
+  pub refills : Refills g.S.Source l.fn.src l.src l.fn.self l.self
   pub place : l.self.reader.at < 64
-  pub ended : KnowsEnd l.self (g.S.Source.contents l.src)
+  pub ended : KnowsEnd g.S.Source l.self l.src
   pub source : Reads g.S.Source ⊥ l.fn.src l.src
 
 abbrev pub invariant-loop-self : goal.invariant-loop-self
