@@ -5,6 +5,8 @@
                                                          `rattle check`: --only module::function, --test, --allow-holes
     python3 bench/over.py BUILT library NAME [FLAG..]    proves it, and keeps its statements for the crates above it
     python3 bench/over.py BUILT program NAME [FLAG..]    proves a program and links it: crates/NAME/out/over/NAME
+    python3 bench/over.py BUILT archive NAME [FLAG..]    proves a static library and builds it: crates/NAME/out/over/libNAME.a;
+                                                         --cpu x86-64-v3 for processors with AVX2
 
 BUILT is the top of a clone in which `rt ci` has proved the crates below: it leaves their statements in crates/*/out/rlib. What
 `library` has made in this clone counts in place of those. One job, unless FLAG says another. It gives no verdict: `rt ci` does.
@@ -27,10 +29,11 @@ def kit():
 
 
 def crates_below():
-    """Of each crate those that it stands on, of this repository and of the toolchain."""
+    """Of each crate those that it stands on, of this repository and of the toolchain; and the static libraries."""
     lines = (TOP / "crates.txt").read_text().splitlines()
-    pairs = (line.partition(":") for line in lines if ":" in line and line[0] != "#")
-    return {name.strip(): below.split() for name, _, below in pairs}
+    pairs = [line.partition(":") for line in lines if ":" in line and line[0] != "#"]
+    below = {name.split()[0]: below.split() for name, _, below in pairs}
+    return below, {name.split()[0] for name, _, _ in pairs if name.split()[1:] == ["staticlib"]}
 
 
 def all_below(name, below):
@@ -44,7 +47,8 @@ def all_below(name, below):
 
 class Crate:
     def __init__(self, built, name):
-        self.built, self.name, self.kit, self.below = built, name, kit(), crates_below()
+        self.built, self.name, self.kit = built, name, kit()
+        self.below, self.static = crates_below()
         self.folder = TOP / "crates" / name
         self.over = self.folder / "out" / "over"
         self.over.mkdir(parents=True, exist_ok=True)
@@ -63,6 +67,8 @@ class Crate:
             words += ["--extern", f"{name}={library}"]
         for name in all_below(self.name, self.below):
             words += ["-L", f"dependency={self.library_of(name).parent}"]
+        if self.name in self.static:
+            words += ["--crate-type", "staticlib"]
         project = self.kit / "rattle/logic/antt-project.json"
         return [*words, "--antt-project", str(project), "--links", f"{self.name}="]
 
@@ -84,6 +90,13 @@ class Crate:
         shutil.rmtree(made, ignore_errors=True)
         return self.rattle("build", *self.checked(flags), "--statements", "-o", str(made))
 
+    def archive(self, flags):
+        kept = self.over / "kept"
+        kept.mkdir(exist_ok=True)
+        made = self.over / f"lib{self.name}.a"
+        tools = ["--toolchain", f"{self.kit}/toolchain", "--incremental", str(kept)]
+        return self.rattle("build", *self.checked(flags), *tools, "-o", str(made))
+
     def program(self, flags):
         made, tools = self.over / self.name, ["--toolchain", f"{self.kit}/toolchain"]
         with tempfile.TemporaryDirectory() as room:
@@ -95,7 +108,7 @@ class Crate:
 
 
 def main():
-    if len(sys.argv) < 4 or sys.argv[2] not in ("check", "library", "program"):
+    if len(sys.argv) < 4 or sys.argv[2] not in ("check", "library", "program", "archive"):
         sys.exit(__doc__)
     built, verb, name, *flags = sys.argv[1:]
     sys.exit(getattr(Crate(pathlib.Path(built).resolve(), name), verb)(flags))

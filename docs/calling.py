@@ -46,10 +46,21 @@ CALLS = [
             "bytes",
             "RealSource::new",
             "RealSink::new",
+            "LoggedSource::new",
+            "LoggedSink::new",
+            "LoggedShelf::new",
         ],
     ),
-    ("Streams", "zf_stream", ["compress", "restore", "read_header"]),
+    ("Streams", "zf_stream", ["compress", "restore", "read_header", "most_bytes"]),
     ("Streams of narrow values", "zf_narrow", ["promote", "demote", "compress_narrow", "restore_narrow"]),
+    ("In memory that is lent", "zf_lent", ["compress_into", "restore_into", "compress_narrow_into", "restore_narrow_into"]),
+    ("Parts of a stream that is lent", "zf_part", ["read_block", "read_blocks", "read_window", "write_block"]),
+    (
+        "From C",
+        "zfpi_c",
+        ["zfpi_most", "zfpi_compress", "zfpi_restore", "zfpi_restore_narrow", "zfpi_header", "zfpi_version"]
+        + ["zfpi_read", "zfpi_read_block", "zfpi_read_blocks", "zfpi_write_block"],
+    ),
     ("A bound of the error", "zf_bound", ["bound"]),
     ("Where codes lie", "zf_index", ["build", "span"]),
     (

@@ -16,7 +16,7 @@ PROGRAM is the built program, by default crates/zfpi/out/zfpi. Outside the gate;
 - whether a lent slice that is kept across a call is refused (docs/lent.py), where there is `rt`.
 
 A block, or a page, behind a line `<!-- needs: WORD.. -->` is left out where a program or a module of Python
-of such a name is lacking; the last line says how many commands that were. A block behind `<!-- not run: WHY
+of such a name is lacking, or the library (`libzfpi`); the last line says how many commands that were. A block behind `<!-- not run: WHY
 -->` is not run.
 """
 
@@ -35,6 +35,8 @@ import claims
 TOP = pathlib.Path(__file__).resolve().parent.parent
 # the Python of the system, for which Debian's packages are
 PYTHON = "/usr/bin/python3"
+# the library, where capi/build.sh or install.sh has built it
+LIBRARY = pathlib.Path(os.environ.get("ZFPI_LIBRARY", TOP / "crates/zfpi_c/out/libzfpi.so.1"))
 BLOCK = re.compile(r"((?:^<!-- [^\n]* -->\n\n?)*)^```([a-z]*)\n(.*?)^```$", re.M | re.S)
 
 
@@ -93,7 +95,9 @@ def tables(text):
 
 
 def has(word, known):
-    """Whether there is a program or a module of Python of this name."""
+    """Whether there is a program or a module of Python of this name; `libzfpi` is the library."""
+    if word == "libzfpi":
+        return LIBRARY.exists()
     if shutil.which(word, path=known["PATH"]):
         return True
     return subprocess.run([PYTHON, "-c", f"import {word}"], capture_output=True, check=False).returncode == 0
@@ -199,6 +203,8 @@ def surroundings(folder, program):
         **os.environ,
         "PATH": f"{folder}:{os.environ['PATH']}",
         "ZFPI": str(program),
+        "ZFPI_LIBRARY": str(LIBRARY),
+        "PYTHONPATH": str(TOP / "python"),
         "LC_ALL": "C",
         "PYTHONDONTWRITEBYTECODE": "1",
     }

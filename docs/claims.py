@@ -32,8 +32,8 @@ OUTSIDE = set(
     "antt arrayvec bool circular_buffer cmp core dask distributed flock i32 i64 io itoa items lz4 memchr"
     " numpy od perf rand_core rand_xoshiro rt sha256sum std std_alloc thiserror u16 u32 u64 u8 xargs zfp zstd"
     " AllocError Copy Display Iterator Option Result Send Sync Vec match mod".split()
-    # a name that DECISIONS sets aside
-    + ["RunTwoWay"]
+    # names of the library for C, of its outside, and one that DECISIONS sets aside
+    + ["libzfpi", "malloc", "help", "HDF5_PLUGIN_PATH", "ZFPI_LIBRARY", "RunTwoWay"]
 )
 # capital words that stand for what a user writes, and letters for numbers
 STANDS_FOR = re.compile(r"[A-Z]{1,10}$|[a-z]$|[0-9a-f]{16}$")
@@ -52,7 +52,7 @@ def clause_names(lines):
         if text in ("{", "{}") or text.endswith("{}"):
             break
         names.update(re.findall(r"(?:requires|ensures\*?) (\w+) \{", text))
-        if re.match(r"(pub )?fn ", text) and line is not lines[0]:
+        if re.match(r'(pub )?(extern "C" )?fn ', text) and line is not lines[0]:
             break
         if text.endswith(";") and not text.startswith("//"):
             break
@@ -66,7 +66,7 @@ def functions():
         crate = source.relative_to(CRATES).parts[0]
         lines = source.read_text().splitlines()
         for number, line in enumerate(lines):
-            head = re.match(r"\s*(?:pub(?:\(crate\))? )?(?:unsafe )?fn (\w+)", line)
+            head = re.match(r'\s*(?:pub(?:\(crate\))? )?(?:unsafe )?(?:extern "C" )?fn (\w+)', line)
             if head:
                 found.setdefault((crate, head.group(1)), set()).update(clause_names(lines[number:]))
             member = re.match(r"\s*(?:pub )?ghost (\w+)", line)
@@ -105,7 +105,7 @@ def declared():
         names.update(re.findall(r"\b(?:record|data) (\w+)", text))
         names |= {source.stem, source.parent.name}
     names |= {edit.stem for edit in sources("*/must-fail/*.edit")}
-    for script in [*TOP.glob("examples/*.py"), *TOP.glob("bench/*.py"), *TOP.glob("check/*.py")]:
+    for script in [*TOP.glob("examples/*.py"), *TOP.glob("bench/*.py"), *TOP.glob("check/*.py"), *TOP.glob("python/zfpi/*.py")]:
         names |= {script.stem, *re.findall(r"^def (\w+)", script.read_text(), re.M)}
     return names
 

@@ -19,12 +19,10 @@ TESTS = re.compile(r"\n*^#\[cfg\(test\)\]\nmod (\w+)(?:;\n| \{\n.*?^\}\n)", re.M
 
 
 def crates_below():
-    """Of each crate those that it stands on."""
+    """Of each crate those that it stands on, and its line: `NAME: DEP DEP ..`, or `NAME staticlib: DEP ..`."""
     lines = (TOP / "crates.txt").read_text().splitlines()
-    return {
-        name.strip(): below.split()
-        for name, _, below in (line.partition(":") for line in lines if ":" in line and line[0] != "#")
-    }
+    lines = {line.split()[0].rstrip(":"): line for line in lines if ":" in line and line[0] != "#"}
+    return {name: line.partition(":")[2].split() for name, line in lines.items()}, lines
 
 
 def needed(names, below):
@@ -51,15 +49,20 @@ def leave_out_tests(crate):
 
 
 def main():
+    if len(sys.argv) < 3:
+        sys.exit(__doc__)
     folder, *names = sys.argv[1:]
-    below = crates_below()
+    below, said = crates_below()
+    unknown = [name for name in names if name not in below]
+    if unknown:
+        sys.exit(f"no crate of this repository: {' '.join(unknown)}")
     for name in needed(names, below):
         there = pathlib.Path(folder) / "crates" / name
         if not there.exists():
             shutil.copytree(TOP / "crates" / name, there, ignore=shutil.ignore_patterns("out", "must-fail"))
             leave_out_tests(there)
             with open(pathlib.Path(folder) / "crates.txt", "a") as lines:
-                lines.write(f"{name}: {' '.join(below[name])}\n")
+                lines.write(f"{said[name]}\n")
             print(name)
 
 

@@ -1,0 +1,63 @@
+//! A sink over bytes that are lent.
+
+ghost use Rattle.std.specs.Prelude.{◌≡◌, ℕ, ◌<◌, ◌≤◌, ◌-◌, ◌^◌, ◌++◌, List, [], Some, length, take, drop, min, IfOk};
+ghost use Rattle.zf_dev.specs.Logs.{noted};
+ghost use Rattle.zf_lent.specs.Over.{over};
+
+use crate::begun::Begun;
+use std::marker::PhantomData;
+use zf_dev::{Failed, Log, Sink};
+
+/// Writes into bytes that are lent, from the first one on. It never fails: what there is no room for is
+/// counted, and lost.
+#[derive(Drop)]
+pub(crate) struct SliceSink<'a, K: Begun> {
+    room: &'a mut [u8],
+    /// How many bytes were written. It stands still at the last value of a `u64`.
+    pub(crate) len: u64,
+    written: Log,
+    begun: PhantomData<K>,
+    ghost count: { len ≡ min (length (noted written)) (2 ^ 64 - 1) },
+    ghost lies: { room.now ≡ over (noted written) K.bytes },
+}
+
+impl<'a, K: Begun> SliceSink<'a, K> {
+    /// Writes into these.
+    pub(crate) fn new(room: &'a mut [u8]) -> SliceSink<'a, K>
+        requires { K.bytes ≡ room.old }
+        ensures written { noted result.written ≡ [] }
+        ensures same { result.room.ghost_name ≡ room.entry.ghost_name }
+    {
+        SliceSink {
+            room,
+            len: 0,
+            written: Log::new(),
+            begun: PhantomData,
+        }
+    }
+}
+
+impl<'a, K: Begun> Sink for SliceSink<'a, K> {
+    ghost use base.Fml.{GName};
+
+    ghost Kept = { GName };
+
+    ghost contents = { λ s. Some (noted s.written) };
+
+    ghost faults = { λ _. 0 };
+
+    ghost kept = { λ s. s.room.ghost_name };
+
+    fn write(&mut self, bytes: &[u8]) -> Result<usize, Failed> {
+        let at = self.len.min(self.room.len() as u64) as usize;
+        let count = bytes.len().min(self.room.len() - at);
+        self.room[at..at + count].copy_from_slice(&bytes[..count]);
+        self.len = self.len.saturating_add(bytes.len() as u64);
+        self.written.note(&[], bytes);
+        Ok(bytes.len())
+    }
+
+    fn flush(&mut self) -> Result<(), Failed> {
+        Ok(())
+    }
+}

@@ -1,0 +1,7 @@
+-- What the contracts of zf_part cite.
+--     Blocks    blocks of a stream: what their values are, and what a write leaves
+--     Readings  what blocks of a stream are read by
+--     Windows   what the values of a window of a stream are
+pub mod Blocks
+pub mod Readings
+pub mod Windows

@@ -1,0 +1,99 @@
+//! Blocks of a stream.
+
+ghost use Rattle.std.specs.Prelude.{◌≡◌, ◌<◌, ◌*◌, ◌^◌, All, map, length, IfErr, OnOk};
+ghost use Rattle.zf_spec.specs.Grid.{blocks};
+ghost use Rattle.zf_base.specs.Widths.{width_of};
+ghost use Rattle.zf_header.specs.HeaderBits.{IsRate};
+ghost use Rattle.zf_parse.specs.Parsing.{parse};
+ghost use Rattle.zf_parse.specs.ReadStreams.{IsFault};
+ghost use Rattle.zf_index.specs.Files.{HasHeader, stream_fault};
+ghost use Rattle.zf_part.specs.Blocks.{IsBlockOf, AreBlocksOf, IsWritten};
+
+use crate::put::put_run;
+use crate::reading::{begin, read};
+use std::alloc::Global;
+use zf_base::{Lane, block_len};
+use zf_bits::BitWriter;
+use zf_block::Scratch;
+use zf_header::{Header, Mode};
+use zf_index::{IndexFault, Verbatim};
+
+/// Reads block `b` of a stream that begins with the header `h`. `block` gets `4^d` values, x fastest; those
+/// that do not exist mean nothing.
+///
+/// At a rate no code but this one is looked at. Else all codes are walked over. The stream is not copied.
+pub fn read_block<T: Lane>(
+    alloc: Global,
+    h: &Header,
+    stream: &[u8],
+    b: u64,
+    block: &mut [T],
+) -> Result<(), IndexFault>
+    requires header { HasHeader stream.now h.now }
+    requires same_type { T.width ≡ width_of h.now.ty }
+    requires in_array { b < blocks h.now.shape }
+    requires whole { length block.old ≡ 4 ^ length h.now.shape }
+    ensures block { OnOk result (IsBlockOf stream.now h.now b (map T.value block.new)) }
+    ensures fault { IfErr result (λ e. IsFault (parse stream.now) (stream_fault e)) }
+{
+    let mut reading = begin::<T>(alloc, h, stream)?;
+    read(&mut reading, h, stream, b, block);
+    Ok(())
+}
+
+/// Reads the blocks of a list, in its order, one behind the other, as `read_block` each. Where there is no
+/// rate all codes are walked over once.
+pub fn read_blocks<T: Lane>(
+    alloc: Global,
+    h: &Header,
+    stream: &[u8],
+    list: &[u64],
+    values: &mut [T],
+) -> Result<(), IndexFault>
+    requires header { HasHeader stream.now h.now }
+    requires same_type { T.width ≡ width_of h.now.ty }
+    requires in_array { All (λ b. b < blocks h.now.shape) list.now }
+    requires whole { length values.old ≡ length list.now * 4 ^ length h.now.shape }
+    ensures blocks { OnOk result (AreBlocksOf stream.now h.now list.now (map T.value values.new)) }
+    ensures fault { IfErr result (λ e. IsFault (parse stream.now) (stream_fault e)) }
+{
+    let mut reading = begin::<T>(alloc, h, stream)?;
+    let size = block_len(h.shape.dims());
+    for k in 0..list.len() {
+        let at = k * size;
+        read(&mut reading, h, stream, list[k], &mut values[at..at + size]);
+    }
+    Ok(())
+}
+
+/// Makes the code of block `b` of a stream at a rate that of these values, x fastest; those that do not exist
+/// are not looked at. All other bits stay.
+pub fn write_block<T: Lane>(
+    alloc: Global,
+    h: &Header,
+    stream: &mut [u8],
+    b: u64,
+    block: &[T],
+) -> Result<(), IndexFault>
+    requires header { HasHeader stream.old h.now }
+    requires rate { IsRate h.now.mode }
+    requires same_type { T.width ≡ width_of h.now.ty }
+    requires in_array { b < blocks h.now.shape }
+    requires whole { length block.now ≡ 4 ^ length h.now.shape }
+    ensures block { OnOk result (IsWritten stream.old stream.new h.now b (map T.value block.now)) }
+    ensures fault { IfErr result (λ e. IsFault (parse stream.old) (stream_fault e)) }
+    ensures stays { IfErr result (λ e. stream.new ≡ stream.old) }
+{
+    let Mode::Rate(bits) = h.mode else {
+        unreachable!()
+    };
+    let index = Verbatim::build(alloc, h, stream)?;
+    let d = h.shape.dims();
+    let mut room = Scratch::new(alloc, d)?;
+    let mut code = BitWriter::new(alloc);
+    code.reserve(u64::from(bits))?;
+    let e = h.shape.extent(b);
+    zf_block::encode_rate(d, &e, bits, block, &mut room, &mut code);
+    put_run(stream, index.span(b).at, code.words(), u64::from(bits));
+    Ok(())
+}
