@@ -52,6 +52,8 @@ NEVER_IGNORED = {
     "rename": ("EIO", "ENOSPC"),
     "fchmod": ("EPERM", "EIO"),
 }
+# What the system's pages begin with, of limits and of an output's place: without them no limit is known.
+PAGES = re.compile(r'read\(\d+, "(Limit  |pos:)')
 # After these it has to be tried again.
 AGAIN = ("read", "pread64", "write", "openat")
 LINES = {
@@ -138,7 +140,8 @@ class Faults:
             is_same = code == case.code and line == whole.ended.line and seen.files == whole.files
             return None if is_same and whole.ended.out.startswith(out) else "another ending"
         if seen == whole:
-            return "the error was ignored" if error in NEVER_IGNORED.get(call.name, ()) else None
+            matters = error in NEVER_IGNORED.get(call.name, ()) and not PAGES.match(call.text)
+            return "the error was ignored" if matters else None
         is_tidied_later = seen.ended == whole.ended and main_files(seen.files) == main_files(whole.files)
         if error == "EINTR" and call.name in AGAIN and not is_tidied_later:
             return "it was not tried again"

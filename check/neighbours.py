@@ -10,7 +10,6 @@ out where there is none. Users and groups are numbers that nobody has.
 import fcntl
 import os
 import shutil
-import signal
 import stat
 import subprocess
 import time
@@ -307,7 +306,6 @@ TRACED = (dead_saves, stuck_save, readable_meanwhile)
 
 def main():
     check = Check(__doc__)
-    signal.signal(signal.SIGPIPE, signal.SIG_DFL)
     parts = list(PARTS)
     if os.geteuid() == 0:
         parts += AS_ROOT
