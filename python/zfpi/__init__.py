@@ -16,6 +16,7 @@ beside this package, or where the system looks.
 """
 
 import ctypes
+import functools
 import io
 import mmap
 import operator
@@ -55,7 +56,7 @@ _CAUSES = {
     12: "type: the stream's values are int64",
     13: "part: the array has no such block or window",
 }
-_TYPES = {numpy.dtype(name): number for number, name in enumerate("<i4 <i8 i1 u1 <i2 <u2".split(), 1)}
+_TYPES = {order + name: number for number, name in enumerate("i4 i8 i1 u1 i2 u2".split(), 1) for order in "<>|"}
 _NARROW = (3, 4, 5, 6)
 _REVERSIBLE, _RATE, _PRECISION = 1, 2, 3
 _INSTEAD = {
@@ -107,8 +108,8 @@ def _check(status):
 
 
 def _number_of(dtype):
-    """The library's number of a type, or a `TypeError` that says what to do."""
-    number = _TYPES.get(dtype.newbyteorder("<"))
+    """The library's number of a type in either byte order, or a `TypeError` that says what to do."""
+    number = _TYPES.get(dtype.str)
     if number is None:
         raise TypeError(f"zfpi has no {dtype.name}: {_INSTEAD.get(dtype.kind, 'it takes integers of 8 to 64 bits')}")
     return number
@@ -132,12 +133,18 @@ def _mode_of(dims, reversible, rate, precision):
     return _REVERSIBLE, 0
 
 
+@functools.lru_cache(256)
+def _field(number, shape, reversible, rate, precision):
+    """The field of an array, which no call writes to."""
+    dims = len(shape)
+    if not 1 <= dims <= 4:
+        raise ValueError(f"an array of zfpi has one to four axes, and not {dims}")
+    sizes = [*shape[::-1], 0, 0, 0][:4]
+    return _Field(number, dims, *sizes, *_mode_of(dims, reversible, rate, precision))
+
+
 def _field_of(array, reversible, rate, precision):
-    number = _number_of(array.dtype)
-    if not 1 <= array.ndim <= 4:
-        raise ValueError(f"an array of zfpi has one to four axes, and not {array.ndim}")
-    sizes = [*array.shape[::-1], 0, 0, 0][:4]
-    return _Field(number, array.ndim, *sizes, *_mode_of(array.ndim, reversible, rate, precision))
+    return _field(_number_of(array.dtype), array.shape, reversible, rate, precision)
 
 
 def _bytes_of(stream):
@@ -158,7 +165,17 @@ def most_bytes(array, *, reversible=None, rate=None, precision=None):
 
 def _raw_of(array):
     """The array little-endian and contiguous: itself, where it is so already."""
+    if array.flags.c_contiguous and array.dtype.str[0] != ">":
+        return array
     return numpy.ascontiguousarray(array, dtype=array.dtype.newbyteorder("<"))
+
+
+def _place(array):
+    """Where the bytes of a contiguous array are, and how many."""
+    if array.flags.writeable and array.nbytes:
+        # a third of the time that array.ctypes takes
+        return ctypes.addressof(ctypes.c_char.from_buffer(array)), array.nbytes
+    return array.ctypes.data, array.nbytes
 
 
 def compress_into(array, out, *, reversible=None, rate=None, precision=None):
@@ -166,7 +183,7 @@ def compress_into(array, out, *, reversible=None, rate=None, precision=None):
     field, raw = _field_of(array, reversible, rate, precision), _raw_of(array)
     _check_writable(out)
     length = ctypes.c_uint64()
-    _check(_library.zfpi_compress(field, raw.ctypes.data, raw.nbytes, out.ctypes.data, out.nbytes, length))
+    _check(_library.zfpi_compress(field, *_place(raw), *_place(out), length))
     return length.value
 
 
@@ -178,15 +195,16 @@ def compress(array, *, reversible=None, rate=None, precision=None):
     return out[: compress_into(array, out, **mode)].tobytes()
 
 
-def _header(stream):
+def _header(place):
     found = _Info()
-    _check(_library.zfpi_header(stream.ctypes.data, stream.nbytes, found))
+    _check(_library.zfpi_header(*place, found))
     return found
 
 
 def info(stream):
     """What the header of a stream says: a dict of `dtype`, `shape` and the mode, `reversible`, `rate` or `precision`."""
-    field = _header(_bytes_of(stream)).field
+    data = _bytes_of(stream)
+    field = _header(_place(data)).field
     shape = (field.nx, field.ny, field.nz, field.nw)[: field.dims][::-1]
     mode = {
         _REVERSIBLE: {"reversible": True},
@@ -204,17 +222,17 @@ def _check_writable(out):
 def decompress_into(stream, out):
     """Writes the values of a stream to a contiguous little-endian array. Its type of 8 or 16 bits is that of the values."""
     number = _number_of(out.dtype)
-    if out.dtype != out.dtype.newbyteorder("<"):
+    if out.dtype.str[0] == ">":
         raise TypeError("the output is not little-endian")
     _check_writable(out)
     data, length = _bytes_of(stream), ctypes.c_uint64()
-    place = data.ctypes.data, data.nbytes, out.ctypes.data, out.nbytes, length
+    place = _place(data)
     if number in _NARROW:
-        _check(_library.zfpi_restore_narrow(number, *place))
-    elif _header(data).field.type != number:
+        _check(_library.zfpi_restore_narrow(number, *place, *_place(out), length))
+    elif _header(place).field.type != number:
         raise TypeError("the stream's values are of another type")
     else:
-        _check(_library.zfpi_restore(*place))
+        _check(_library.zfpi_restore(*place, *_place(out), length))
     return out
 
 
@@ -257,7 +275,7 @@ class _Opened:
         if out.size:
             data = self._stream
             window = _Axes(*first[::-1]), _Axes(*sizes[::-1])
-            _check(_library.zfpi_read(data.ctypes.data, data.nbytes, *window, out.ctypes.data, out.nbytes))
+            _check(_library.zfpi_read(*_place(data), *window, *_place(out)))
         return out.reshape(kept)[()]
 
 
