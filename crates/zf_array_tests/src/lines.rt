@@ -35,8 +35,9 @@ fn plain(alloc: Global, lines: u32, len: usize, zero: i64) -> Result<Vec<Vec<i64
     Ok(all)
 }
 
+// Whether the first blocks, all of them written, are the same in both.
 fn is_same(lines: &Lines<i64>, count: u32, all: &Vec<Vec<i64>>) -> bool
-    requires { length lines.now ≡ count }
+    requires { count ≤ lines.now.written }
 {
     for i in 0..count {
         let Some(block) = all.get(i as usize) else {
@@ -49,7 +50,7 @@ fn is_same(lines: &Lines<i64>, count: u32, all: &Vec<Vec<i64>>) -> bool
     true
 }
 
-// Writes one value to a whole block, or to a part of it, in both.
+// Writes one value to a whole block, or to a part of it, in both; the number of the block.
 fn write(
     lines: &mut Lines<i64>,
     all: &mut Vec<Vec<i64>>,
@@ -57,10 +58,12 @@ fn write(
     len: usize,
     numbers: &mut Numbers,
     value: i64,
-)
-    requires sized { HasSize lines.old count len }
+) -> u32
+    requires sized { HasSize lines.old.blocks count len }
     requires some { (0 < count) × (0 < len) }
-    ensures { HasSize lines.new count len }
+    ensures sized { HasSize lines.new.blocks count len }
+    ensures written { result < lines.new.written }
+    ensures within { result < count }
 {
     let i = numbers.below(count as usize);
     let a = numbers.below(len);
@@ -68,11 +71,14 @@ fn write(
     if let Some(block) = all.get_mut(i) {
         write_plain(block, a, n, value);
     }
+    let i = i as u32;
+    lines.write_to(i);
     if n == len {
-        write_whole(lines, count, len, i as u32, value);
+        write_whole(lines, count, len, i, value);
     } else {
-        write_part(lines, count, len, i as u32, a, n, value);
+        write_part(lines, count, len, i, a, n, value);
     }
+    i
 }
 
 // Makes so many values from a place on be one.
@@ -84,9 +90,10 @@ fn write_plain(block: &mut Vec<i64>, from: usize, count: usize, value: i64) {
 
 // Makes all values of a line be one.
 fn write_whole(lines: &mut Lines<i64>, count: u32, len: usize, i: u32, value: i64)
-    requires sized { HasSize lines.old count len }
-    requires line { i < count }
-    ensures { HasSize lines.new count len }
+    requires sized { HasSize lines.old.blocks count len }
+    requires line { (i < count) × (i < lines.old.written) }
+    ensures sized { HasSize lines.new.blocks count len }
+    ensures written { lines.new.written ≡ lines.old.written }
 {
     for place in lines.line_mut(i) {
         *place = value;
@@ -103,17 +110,19 @@ fn write_part(
     values: usize,
     value: i64,
 )
-    requires sized { HasSize lines.old count len }
-    requires line { i < count }
+    requires sized { HasSize lines.old.blocks count len }
+    requires line { (i < count) × (i < lines.old.written) }
     requires part { from + values ≤ len }
-    ensures { HasSize lines.new count len }
+    ensures sized { HasSize lines.new.blocks count len }
+    ensures written { lines.new.written ≡ lines.old.written }
 {
     for place in lines.part_mut(i, from, values) {
         *place = value;
     }
 }
 
-// Whether both are the same after each of a hundred writes.
+// Whether both are the same after each of a hundred writes: up to the block that was written to, and at the
+// end all.
 fn compare(alloc: Global, count: u32, len: usize) -> Result<bool, AllocError>
     requires { (0 < count) × (count ≤ 2 ^ 16) × (0 < len) × (len ≤ 2 ^ 8) }
 {
@@ -122,9 +131,11 @@ fn compare(alloc: Global, count: u32, len: usize) -> Result<bool, AllocError>
     let mut numbers = Numbers(count as u64);
     let mut same = true;
     for step in 0..100i64 {
-        write(&mut lines, &mut all, count, len, &mut numbers, step);
-        same &= is_same(&lines, count, &all);
+        let i = write(&mut lines, &mut all, count, len, &mut numbers, step);
+        same &= is_same(&lines, i + 1, &all);
     }
+    lines.write_to(count - 1);
+    same &= is_same(&lines, count, &all);
     drop(lines);
     drop(all);
     Ok(same)
@@ -145,7 +156,8 @@ fn as_vectors_over_random_writes(rt: HostRuntime) -> Result<(), Fail> {
 #[test]
 fn made_and_dropped_many_times(rt: HostRuntime) -> Result<(), Fail> {
     for round in 0..4096i64 {
-        let lines = Lines::new(rt.alloc(), 16, 64, round)?;
+        let mut lines = Lines::new(rt.alloc(), 16, 64, round)?;
+        lines.write_to(15);
         assert!(rt; lines.line(15) == [round; 64].as_slice());
         drop(lines);
     }
@@ -157,7 +169,8 @@ fn lines_of_every_size(rt: HostRuntime) -> Result<(), Fail> {
     for len in [0usize, 4, 16, 64, 256] {
         let none = Lines::new(rt.alloc(), 0, len, -1i32)?;
         drop(none);
-        let lines = Lines::new(rt.alloc(), 65536, len, -1i32)?;
+        let mut lines = Lines::new(rt.alloc(), 65536, len, -1i32)?;
+        lines.write_to(65535);
         assert!(rt; lines.line(65535).len() == len);
         drop(lines);
     }
@@ -183,7 +196,8 @@ fn first_number(text: &str) -> Option<u64> {
 fn dropped_lines_give_their_memory_back(rt: HostRuntime) -> Result<(), Fail> {
     let before = pages(&rt)?;
     for round in 0..512i64 {
-        let lines = Lines::new(rt.alloc(), 4096, 64, round)?;
+        let mut lines = Lines::new(rt.alloc(), 4096, 64, round)?;
+        lines.write_to(4095);
         assert!(rt; lines.line(4095).len() == 64);
         drop(lines);
     }

@@ -15,20 +15,20 @@ module _ (place : ℕ → List ℕ → ℕ → ℕ) (may_hold : ℕ → ℕ → 
   lt : l < length t.tags.items
   lt = (line_below place may_hold rule value t h j sound c b l to).0
 
-  pub whole : length (line_at t.lines l) ≡ h.block_len
+  pub whole : length (line_at t.lines.blocks l) ≡ h.block_len
   whole = sound.whole.size.1 l lt
 
-  here : (state_at place value (kept_of t) h j).values b ≡ existing_of h b (map value (line_at t.lines l))
+  here : (state_at place value (kept_of t) h j).values b ≡ existing_of h b (map value (line_at t.lines.blocks l))
   here = values_there place value h (kept_of t) j b l (sound.fits.own l b (names (tag_at t.tags.items l) b to.here)).0 to.here
 
   -- the value at a place that exists
-  pub gets : (p : ℕ) (line : List X) (r : X) → p < h.block_len → line ≡ line_at t.lines l → r ≡ get_or line p r
+  pub gets : (p : ℕ) (line : List X) (r : X) → p < h.block_len → line ≡ line_at t.lines.blocks l → r ≡ get_or line p r
       → OnTrue (f.exists b p) (value r ≡ get_or (values_by place value (kept_of t) h j b) p (pos 0))
   unfolding state_at
   gets p line r within is read = search (rules, OnTrue_from, whole, get_or-map, get_or-existing_of_exists, here)
 
   -- the whole block, for the state that the touch has made
-  pub shows : (s : State Code) (line : List X) → state_at place value (kept_of t) h j ≡ s → line ≡ line_at t.lines l → existing_of f b (map value line) ≡ s.values b
+  pub shows : (s : State Code) (line : List X) → state_at place value (kept_of t) h j ≡ s → line ≡ line_at t.lines.blocks l → existing_of f b (map value line) ≡ s.values b
   shows s line state is = search (rules, here)
 
   pub state_now : (s : State Code) → state_at place value (kept_of t) h j ≡ s → state_at place value (kept_of t) f j ≡ s
@@ -40,12 +40,12 @@ module _ (place : ℕ → List ℕ → ℕ → ℕ) (may_hold : ℕ → ℕ → 
   -- ---- block b is dirty, and its line is lent
 
   module _ (k : ℕ → Code) (dirty : tag_at t.tags.items l ≡ dirty_tag b) (state : state_at place value (kept_of t) h j ≡ soiled (touch_in f (state_at place value c f k) l b) b)
-      (row : List X) (is : row ≡ line_at t.lines l) where
+      (row : List X) (is : row ≡ line_at t.lines.blocks l) where
     abbrev touched : State Code
     touched = touch_in f (state_at place value c f k) l b
 
     abbrev pub ended : List X → Body X
-    ended w = record { lines = with_line t.lines l w; tags = t.tags; counts = t.counts }
+    ended w = record { lines = record t.lines { blocks = with_line t.lines.blocks l w }; tags = t.tags; counts = t.counts }
 
     -- the cache as it ends, with w written through the loan
     abbrev pub lent : List X → Kept X
@@ -62,9 +62,9 @@ module _ (place : ℕ → List ℕ → ℕ → ℕ) (may_hold : ℕ → ℕ → 
     unfolding soiled
     row_held = shows (soiled touched b) row state is
 
-    wrote : (w : List X) → IsSound place value (ended w) h j × (state_at place value (kept_of (ended w)) h j ≡ with_values (state_at place value (kept_of t) h j) b (existing_of h b (map value (over (line_at t.lines l) w))))
+    wrote : (w : List X) → IsSound place value (ended w) h j × (state_at place value (kept_of (ended w)) h j ≡ with_values (state_at place value (kept_of t) h j) b (existing_of h b (map value (over (line_at t.lines.blocks l) w))))
     wrote w =
-        writes_row place may_hold rule value t (ended w) h h j j refl sound l lt b (over (line_at t.lines l) w) (length-over (line_at t.lines l) w ∙ whole) dirty refl refl refl refl
+        writes_row place may_hold rule value t (ended w) h h j j refl sound l lt b (over (line_at t.lines.blocks l) w) (length-over (line_at t.lines.blocks l) w ∙ whole) dirty refl refl refl refl
 
     pub lent_state : (w : List X) → state_at place value (lent w) f j ≡ with_values (soiled touched b) b (existing_of f b (map value (over row w)))
     lent_state w =

@@ -56,30 +56,28 @@ module _ (place : ℕ → List ℕ → ℕ → ℕ) (line : Line) (told : IsTold
     pub flushes : FieldsStep (λ g u. flush g u) → CacheStep (λ g u. flush g u)
     flushes = steps (λ g u. flush g u) (λ g u. flush g u) refl
 
-  -- ---- loans. How a kind of cache says that it fits follows from how the parts do
+  -- ---- loans
 
-  module _ (may_hold : ℕ → ℕ → ℕ → Type 0) (rule : IsRule place may_hold) {Code : Type 0} (Fit : Kept X → Format Code → (ℕ → Code) → Type 0)
-      (fit_of : (d : Kept X) (g : Format Code) (i : ℕ → Code) → FitsAt place value d g i → Fit d g i)
+  module _ (may_hold : ℕ → ℕ → ℕ → Type 0) (rule : IsRule place may_hold) {Code : Type 0}
       (f h : Format Code) (j : ℕ → Code) (c : Kept X) (t : Body X) (b l : ℕ) (same : h ≡ f) (sound : IsSound place value t h j) (to : ComesTo place c (kept_of t) b l) where
-    pub stands : (s : State Code) → state_at place value (kept_of t) h j ≡ s → StandsForAt place line Fit value (kept_of t) f j s
+    pub stands : (s : State Code) → state_at place value (kept_of t) h j ≡ s → StandsForAt place value (kept_of t) f j s
     stands s state = search (rules, state_now, fits_now)
 
     module _ (k : ℕ → Code) (fits : FitsAt place value c f k) (dirty : tag_at t.tags.items l ≡ dirty_tag b)
         (state : state_at place value (kept_of t) h j ≡ soiled (touch_in f (state_at place value c f k) l b) b)
-        (row : List X) (is : row ≡ line_at t.lines l) where
+        (row : List X) (is : row ≡ line_at t.lines.blocks l) where
       touched : touch_in f (state_at place value c f k) l b ≡ touch_at line f (state_at place value c f k) b
       touched = touched_by c f k fits l b to.at
 
-      pub lent_is : (w : List X) → written_in c l b (over row w) (touch_in f (state_at place value c f k) l b).counts ≡ lent_block_at place line Fit value f k c b row w
+      pub lent_is : (w : List X) → written_in c l b (over row w) (touch_in f (state_at place value c f k) l b).counts ≡ lent_block_at place value line f k c b row w
       lent_is w = λ i. written_in c (to.at i) b (over row w) (touched i).counts
 
-      pub loans : LendsBlockAt place line Fit value f k j c b row
+      pub loans : LendsBlockAt place value line f k j c b row
       unfolding touch_for_writing_at
       loans = record {
         held = row_held place may_hold rule value f h j c t b l same sound to k dirty state row is ∙ ap (λ (u : State Code). u.values b) touched;
         written = λ w. record {
           state = search (rules, lent_is, lent_state, touched);
-          fits = fit_of (lent_block_at place line Fit value f k c b row w) f j
-              (subst (λ d. FitsAt place value d f j) (lent_is w) (lent_fits place may_hold rule value f h j c t b l same sound to k dirty state row is w));
+          fits = subst (λ d. FitsAt place value d f j) (lent_is w) (lent_fits place may_hold rule value f h j c t b l same sound to k dirty state row is w);
         };
       }

@@ -9,8 +9,8 @@ use Rattle.zf_cached.{specs.State.{Counts, State, is_block, risen}, proofs.State
 use Rattle.zf_cached.specs.Touch.{write_back, write_back_dirty, write_back_line, soiled, with_values}
 use Rattle.zf_cached.proofs.Caching.{is_block-some, write_back_line_by}
 use Rattle.zf_lines.specs.Rows.{line_at}
-use Rattle.zf_cache.specs.Kept.{IsIn, IsAway, tag_at, block_in, clean_tag, dirty_tag, dirty_of}
-use Rattle.zf_cache.{specs.Rules.{IsRule, one_line}, specs.Standing.{evicted}, specs.Steps.{taken_in}}
+use Rattle.zf_cache.specs.Kept.{IsIn, IsAway, tag_at, block_in, clean_tag, dirty_tag, dirty_of, one_line}
+use Rattle.zf_cache.{specs.Rules.{IsRule}, specs.Standing.{evicted}, specs.Steps.{taken_in}}
 use Rattle.zf_cache.proofs.Tags.{even, is_or_not, names, named, names-clean, names-dirty, is_block-other, dirty_of-some, dirty_of-none, tag-set_same, tag-set_other}
 
 -- ---- the definitions of write-back, case by case

@@ -6,8 +6,8 @@ use Rattle.zf_cached.{specs.State.{State}, specs.Touch.{write_back_line, with_va
 use Rattle.zf_cached.specs.Changes.{write_back_lines, flush, emptied, discard, relined}
 use Rattle.zf_cached.{proofs.States.{same_state}, proofs.Caching.{write_back_line_by}, specs.Placing.{IsDirect}}
 use Rattle.zf_lines.specs.Rows.{line_at, over_part, with_part}
-use Rattle.zf_cache.specs.Kept.{Kept, IsClean, IsDirty, IsEmpty, line_of, tag_at, block_in, dirty_tag}
-use Rattle.zf_cache.{specs.Rules.{one_line, one_line_rule}, specs.Loans.{StandsFor}}
+use Rattle.zf_cache.specs.Kept.{Kept, IsClean, IsDirty, IsEmpty, line_of, tag_at, block_in, dirty_tag, one_line}
+use Rattle.zf_cache.{specs.Rules.{one_line_rule}, specs.Loans.{StandsFor}}
 use Rattle.zf_cache.specs.Standing.{state_at, state_of, FitsAt, Fits}
 use Rattle.zf_cache.proofs.Stands.{standing_at, standing, Fit, undirty_values, writes, fits_written}
 use Rattle.zf_cache.proofs.Touches.{no_tag, state_stands, state_is, fit_of, fits_of, fits_empty, all_meant, discards, relines}

@@ -6,7 +6,7 @@ use Rattle.zf_base.{specs.Formats.{Format, meant}, proofs.Formats.{with_at-same,
 use Rattle.zf_cached.{specs.State.{Counts, State}, specs.Changes.{write_back_lines, emptied, flush, discard}}
 use Rattle.zf_cached.specs.Touch.{write_back, write_back_dirty, write_back_line, hit, miss}
 use Rattle.zf_cached.{proofs.States.{same_state}, proofs.Caching.{is_block-some}, proofs.Flushing.{write_back_lines-held}}
-use Rattle.zf_cache.{specs.Kept.{Kept, IsAway, tag_at, block_in}, specs.Rules.{one_line}}
+use Rattle.zf_cache.{specs.Kept.{Kept, IsAway, tag_at, block_in, one_line}}
 use Rattle.zf_cache.{specs.Standing.{state_at, state_of, FitsAt, evicted}, specs.Steps.{taken_in, touch_in}}
 use Rattle.zf_cache.proofs.Tags.{is_block-other}
 use Rattle.zf_cache.proofs.Stands.{standing_at, standing, soiled_in, Fit, write_back_dirty-false, write_back_dirty-true, undirty_values, vals-out, dirty-out}

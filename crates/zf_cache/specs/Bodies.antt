@@ -21,13 +21,18 @@ pub record AreLines (n : ℕ) : Type 0 where
 abbrev pub counts_of : Stats → Counts
 counts_of s = record { hits = s.hits; misses = s.misses; writes = s.writes }
 
+-- a line behind the first w is empty
+abbrev pub IsBlank : ℕ → List ℕ → Type 0
+IsBlank w tags = (l : ℕ) → w ≤ l → tag_at tags l ≡ 0
+
 module _ {X : Type 0} where
   abbrev pub kept_of : Body X → Kept X
-  kept_of c = record { lines = c.lines; tags = c.tags.items; counts = counts_of c.counts }
+  kept_of c = record { lines = c.lines.blocks; tags = c.tags.items; counts = counts_of c.counts }
 
-  -- a tag and a row of so many values for each line
+  -- a tag and a row of so many values for each line; the row of a line that is not empty is written
   pub record IsWhole (c : Body X) (len : ℕ) : Type 0 where
-    pub size : HasSize c.lines (length c.tags.items) len
+    pub size : HasSize c.lines.blocks (length c.tags.items) len
+    pub blank : IsBlank c.lines.written c.tags.items
     pub lines : AreLines (length c.tags.items)
 
   -- empty lines of so many values each, and counts of 0

@@ -52,25 +52,27 @@ abbrev pub dirty_of : ℕ → Option ℕ
 dirty_of tag = elim (tag % 2 == 1) [ true ↦ block_in tag | false ↦ None ]
 
 module _ {X : Type 0} where
-  -- the line of a block: its number modulo the number of lines
-  abbrev pub line_of : Kept X → ℕ → ℕ
-  line_of c b = b % length c.tags
-
   -- the line of block b, where `place n tags b` is that in a cache of n lines with these tags
   abbrev pub line_by : (ℕ → List ℕ → ℕ → ℕ) → Kept X → ℕ → ℕ
   line_by place c b = place (length c.tags) c.tags b
 
-  -- block b is in its line
-  abbrev pub Holds : Kept X → ℕ → Type 0
-  Holds c b = tag_at c.tags (line_of c b) / 2 ≡ b + 1
+  module _ (place : ℕ → List ℕ → ℕ → ℕ) where
+    -- block b is in its line
+    abbrev pub HoldsAt : Kept X → ℕ → Type 0
+    HoldsAt c b = tag_at c.tags (line_by place c b) / 2 ≡ b + 1
 
-  -- the tag of the line of block b is that of the dirty block b
-  abbrev pub IsDirty : Kept X → ℕ → Type 0
-  IsDirty c b = tag_at c.tags (line_of c b) ≡ dirty_tag b
+    -- the tag of the line of block b is that of the dirty block b
+    abbrev pub IsDirtyAt : Kept X → ℕ → Type 0
+    IsDirtyAt c b = tag_at c.tags (line_by place c b) ≡ dirty_tag b
 
-  -- block b is in its line and dirty
-  abbrev pub is_dirty : Kept X → ℕ → Bool
-  is_dirty c b = tag_at c.tags (line_of c b) == dirty_tag b
+    -- block b is in its line and dirty
+    abbrev pub is_dirty_at : Kept X → ℕ → Bool
+    is_dirty_at c b = tag_at c.tags (line_by place c b) == dirty_tag b
+
+    -- the line of block b has a row of values, as long as all rows are
+    pub record HasRowAt (c : Kept X) (b len : ℕ) : Type 0 where
+      pub there : line_by place c b < length c.lines
+      pub size : HasSize c.lines (length c.lines) len
 
   -- no line holds a dirty block
   abbrev pub IsClean : Kept X → Type 0
@@ -80,11 +82,6 @@ module _ {X : Type 0} where
   pub record OnlyLine (c d : Kept X) (l : ℕ) : Type 0 where
     pub lines : d.lines ≡ slice_set c.lines l (line_at d.lines l)
     pub tags : d.tags ≡ slice_set c.tags l (tag_at d.tags l)
-
-  -- the line of block b has a row of values, as long as all rows are
-  pub record HasRow (c : Kept X) (b len : ℕ) : Type 0 where
-    pub there : line_of c b < length c.lines
-    pub size : HasSize c.lines (length c.lines) len
 
   -- no block is in any of the n lines
   abbrev pub IsEmpty : Kept X → ℕ → Type 0
@@ -97,6 +94,24 @@ module _ {X : Type 0} where
     tags = slice_set c.tags l (dirty_tag b);
     counts = counts;
   }
+
+-- ---- where each block has one line: its number modulo the number of lines
+
+abbrev pub one_line : ℕ → List ℕ → ℕ → ℕ
+one_line n tags b = b % n
+
+module _ {X : Type 0} where
+  abbrev pub line_of : Kept X → ℕ → ℕ
+  line_of c b = line_by one_line c b
+
+  abbrev pub IsDirty : Kept X → ℕ → Type 0
+  IsDirty c b = IsDirtyAt one_line c b
+
+  abbrev pub is_dirty : Kept X → ℕ → Bool
+  is_dirty c b = is_dirty_at one_line c b
+
+  abbrev pub HasRow : Kept X → ℕ → ℕ → Type 0
+  HasRow c b len = HasRowAt one_line c b len
 
 abbrev pub counts_code : Coded Counts
 counts_code = code_by (ℕ × (ℕ × ℕ)) (coded× coded_ℕ (coded× coded_ℕ coded_ℕ))

@@ -1,9 +1,9 @@
 -- In which line a block is, or goes, as the tags tell it: what caches over the same parts differ in.
 --     `place n tags b` is the line of block b in a cache of n lines with these tags.
-use Rattle.std.specs.Prelude.{◌≡◌, ◌==◌, ℕ, ◌%◌, ◌<◌, List, refl}
+use Rattle.std.specs.Prelude.{◌≡◌, ◌==◌, ℕ, ◌<◌, List, refl}
 use Rattle.std.proofs.lemmas.Nat.{mod_below}
 use Rattle.zf_cached.specs.Placing.{Line, direct, IsDirect}
-use Rattle.zf_cache.specs.Kept.{IsIn, tag_at, block_in, dirty_tag}
+use Rattle.zf_cache.specs.Kept.{IsIn, tag_at, block_in, dirty_tag, one_line}
 
 -- the line of a block is one that may hold it; and where one that may does, and no other line does, it is that
 -- line
@@ -21,9 +21,7 @@ IsTold place line = (n : ℕ) (tags : List ℕ) (b : ℕ)
     → line n (λ l. block_in (tag_at tags l)) (λ a. tag_at tags (place n tags a) == dirty_tag a) b
     ≡ place n tags b
 
--- each block has one line: its number modulo the number of lines
-abbrev pub one_line : ℕ → List ℕ → ℕ → ℕ
-one_line n tags b = b % n
+-- ---- where each block has one line
 
 pub one_line_rule : IsRule one_line IsDirect
 one_line_rule = record {

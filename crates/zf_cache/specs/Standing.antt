@@ -6,8 +6,7 @@ use Rattle.zf_base.specs.Formats.{Format, existing_of, meant, with_at}
 use Rattle.zf_cached.specs.State.{State, is_block}
 use Rattle.zf_cached.specs.Touch.{write_back_line}
 use Rattle.zf_lines.specs.Rows.{line_at}
-use Rattle.zf_cache.specs.Kept.{Kept, tag_at, clean_tag, dirty_tag, block_in, line_by}
-use Rattle.zf_cache.specs.Rules.{one_line}
+use Rattle.zf_cache.specs.Kept.{Kept, tag_at, clean_tag, dirty_tag, block_in, line_by, one_line}
 
 module _ {X Code : Type 0} (value : X → ℤ) where
   -- the values in a line, as those of block b

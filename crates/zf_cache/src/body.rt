@@ -16,7 +16,8 @@ use std::alloc::{AllocError, Global};
 use zf_base::{Backing, Lane, Reading, Stats};
 use zf_lines::Lines;
 
-/// A row of values and a tag for each line, and the counts.
+/// A row of values and a tag for each line, and the counts. A row is written when a block first comes into
+/// its line: so a hit tests nothing, and lines that no block has come to take no memory.
 ///
 /// A tag is 0 for an empty line, `2 * b + 2` for the clean block `b`, and `2 * b + 3` for the dirty block
 /// `b`. In which line a block is, or goes, is told by a `Rule`.
@@ -146,8 +147,11 @@ impl<T: Lane> Body<T> {
         ensures step { StepsTo B.Reading (state_in R.place T.value) (IsSound R.place T.value)
             (λ f s. taken_in s l b) self.old back.old self.new back.new }
         ensures tags { self.new.tags.items ≡ slice_set self.old.tags.items l (clean_tag b) }
-        ensures lines { self.new.lines ≡ slice_set self.old.lines l (line_at self.new.lines l) }
+        ensures lines { self.new.lines.blocks
+            ≡ slice_set self.old.lines.blocks l (line_at self.new.lines.blocks l) }
+        ensures written { l < self.new.lines.written }
     {
+        self.lines.write_to(l);
         back.load(b, self.lines.line_mut(l));
         self.tags[l as usize] = 2 * b + 2;
         self.counts.misses = risen(self.counts.misses);
@@ -160,6 +164,7 @@ impl<T: Lane> Body<T> {
         ensures step { StepsTo B.Reading (state_in R.place T.value) (IsSound R.place T.value)
             (λ f s. touch_in f s result b) self.old back.old self.new back.new }
         ensures line { ComesTo R.place (kept_of self.old) (kept_of self.new) b result }
+        ensures written { result < self.new.lines.written }
     {
         let l = self.line_of::<R>(b);
         if self.tags[l as usize] / 2 == b + 1 {
@@ -178,6 +183,7 @@ impl<T: Lane> Body<T> {
         ensures step { StepsTo B.Reading (state_in R.place T.value) (IsSound R.place T.value)
             (λ f s. soiled (touch_in f s result b) b) self.old back.old self.new back.new }
         ensures line { ComesTo R.place (kept_of self.old) (kept_of self.new) b result }
+        ensures written { result < self.new.lines.written }
         ensures dirty { tag_at self.new.tags.items result ≡ dirty_tag b }
     {
         let l = self.touch::<R, B>(back, b);
@@ -194,6 +200,7 @@ impl<T: Lane> Body<T> {
             (λ f s. touch_in f s result b) self.old back.old self.new back.new }
         ensures clean { IsClean (kept_of self.new) }
         ensures line { ComesTo R.place (kept_of self.old) (kept_of self.new) b result }
+        ensures written { result < self.new.lines.written }
     {
         let l = self.line_of::<R>(b);
         if self.tags[l as usize] / 2 == b + 1 {

@@ -1,7 +1,8 @@
 //! In which line a block is, or goes, as the tags of the lines tell it.
 ghost use Rattle.std.specs.Prelude.{◌≡◌, ℕ, ◌<◌, ◌≤◌, ◌^◌, List, length};
 ghost use Rattle.zf_cache.specs.Bodies.{AreLines};
-ghost use Rattle.zf_cache.specs.Rules.{IsRule, IsTold, one_line, one_line_rule, one_line_told};
+ghost use Rattle.zf_cache.specs.Kept.{one_line};
+ghost use Rattle.zf_cache.specs.Rules.{IsRule, IsTold, one_line_rule, one_line_told};
 
 use zf_cached::placing::{Direct, Placing};
 

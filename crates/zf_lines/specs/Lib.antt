@@ -4,3 +4,4 @@ pub mod LinesLend
 pub mod Ownership
 pub mod Places
 pub mod Rows
+pub mod Seen

@@ -4,9 +4,7 @@
 --     Touch        a touch of a block
 --     Standing     the state that cache and backing stand for, and when they fit
 --     Runs         the run of a script
---     Loans        what a cache ends as, once a loan of a block has ended
 pub mod Placing
 pub mod Touch
 pub mod Standing
-pub mod Loans
 pub mod Runs

@@ -8,9 +8,19 @@ ghost use Rattle.zf_cached.specs.Changes.{discard, opened};
 ghost use Rattle.zf_cache.specs.Kept.{Kept, IsEmpty, IsIn, IsAway, tag_at, dirty_tag};
 ghost use Rattle.zf_cache.specs.Standing.{line_values};
 ghost use Rattle.zf_twoway.specs.Placing.{first_line, second_line};
-ghost use Rattle.zf_twoway.specs.Standing.{is_dirty, state_of, Fits};
+ghost use Rattle.zf_twoway.specs.Standing.{is_dirty, state_of, Fits, HasTwoLines};
 
 use zf_base::{Lane, Reading};
+
+/// A cache and a backing fit where each line that is not empty holds a block that has it as its first or its
+/// second line, and that the backing has, where no block is in two lines, and where a clean line has the
+/// values that the block's code means; and then alone.
+pub fn two_lines_fit<T: Lane, B: Reading<T>>()
+    ensures fits { (c : Kept T) (back : B) → HasTwoLines T.value c (B.format back) (B.codes back)
+        → Fits T.value c (B.format back) (B.codes back) }
+    ensures lines { (c : Kept T) (back : B) → Fits T.value c (B.format back) (B.codes back)
+        → HasTwoLines T.value c (B.format back) (B.codes back) }
+{}
 
 /// An empty cache fits every backing.
 pub fn empty_caches_fit<T: Lane, B: Reading<T>>()

@@ -15,7 +15,15 @@ pub fn three_blocks()
         ≡ codes "0\n0\n1\nhits 1 misses 3 writes 0\n" }
 {}
 
-/// What is saved after the first of these.
+/// Of two empty lines, and of two clean ones, the first is taken.
+pub fn first_of_two_alike()
+    ensures empty { twoway_text w32 64 (16 ∷ []) 2 (codes "get 8\nget 0\nget 8\nstats\n")
+        ≡ codes "0\n0\n0\nhits 0 misses 3 writes 0\n" }
+    ensures clean { twoway_text w32 64 (16 ∷ []) 2 (codes "get 0\nget 4\nget 8\nget 0\nstats\n")
+        ≡ codes "0\n0\n0\n0\nhits 0 misses 4 writes 0\n" }
+{}
+
+/// What is saved after the first run of `three_blocks`.
 pub fn saved_file()
     ensures { twoway_saved w32 64 (16 ∷ []) 2 (codes "set 0 1\nget 8\nget 0\nstats\n")
         ≡ 0x7a ∷ 0x66 ∷ 0x70 ∷ 0x05 ∷ 0xf0 ∷ 0 ∷ 0 ∷ 0 ∷ 0 ∷ 0 ∷ 0xf0 ∷ 3 ∷ replicate 36 0 }

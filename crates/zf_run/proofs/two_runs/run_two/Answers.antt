@@ -3,14 +3,14 @@ use Rattle.zf_header.specs.declared.header.Header.{Header}
 use Rattle.zf_cached.specs.Windows.{whole}
 use Rattle.zf_cache.{proofs.Steps.{empty_fits_at}, specs.Kept.{Kept}}
 use Rattle.zf_store.specs.Stored.{Stored, format_of, code_at}
-use Rattle.zf_twoway.{specs.Placing.{skewed}, proofs.Standing.{fits_of}}
+use Rattle.zf_twoway.specs.Placing.{skewed}
 use Rattle.zf_run.{specs.Ends.{RunsTwo}, proofs.Ending.{two_all, two_stopped}}
 use Rattle.zf_run.proofs.two_runs.run_two.Goals as goal
 
 pub run_lines-requires : goal.run_lines-requires
 run_lines-requires g c =
     let s = c.args.store.now in let k = c.args.cache.now in let value = g.T.Lane.value in
-    let sound = fits_of value k (format_of s) (code_at s) (empty_fits_at skewed value (format_of s) (code_at s) k (length k.tags) c.requires) in search rules
+    let sound = empty_fits_at skewed value (format_of s) (code_at s) k (length k.tags) c.requires in search rules
 
 pub returns-in-Ok-clause-runs : goal.returns-in-Ok-clause-runs
 returns-in-Ok-clause-runs g c =

@@ -1,14 +1,18 @@
-use Rattle.std.proofs.Common.{rules, ◌≡◌, refl, sym, ap, ◌∙◌, ℕ, map, length, set, Option, Some, None}
+use Rattle.std.proofs.Common.{rules, ◌≡◌, refl, sym, ap, ◌∙◌, ℕ, map, length, set, Option, Some, None, arith}
 use Rattle.std.{proofs.lemmas.List.{get_or_default}, specs.Vec.{with_item}}
 use Rattle.zf_base.specs.Formats.{with_at, encoded}
 use Rattle.zf_cache.{specs.declared.body.Body.{Body}, specs.Bodies.{IsSound, counts_of, kept_of}}
-use Rattle.zf_cache.{specs.Standing.{state_at, evicted}, specs.Kept.{dirty_of}}
-use Rattle.zf_cache.{proofs.Sound.{row_there, evicts, evicts_below}}
+use Rattle.zf_cache.{specs.Standing.{state_at, evicted}, specs.Kept.{dirty_of, tag_at}}
+use Rattle.zf_cache.{proofs.Sound.{row_there, evicts, evicts_below}, proofs.Tags.{dirty_of-some}}
 use Rattle.zf_cache.proofs.body.Body.evict.Goals.{in-Some, in_default}
 use Rattle.zf_cache.proofs.body.Body.evict.Goals as goal
 
 pub line-requires : goal.line-requires
-line-requires g c = search (rules, row_there)
+line-requires g c =
+    let a = c.args.self.now in
+    let tag = get_or_default a.tags.items c.args.l 0 c.index.result.now c.requires.line ∙ sym c.index.ensures in
+    let is = dirty_of-some (tag_at a.tags.items c.args.l) c.in-Some.b (ap dirty_of tag ∙ sym c.dirty_block.ensures ∙ c.in-Some.is) in
+    row_there a (g.B.Reading.format c.args.back.now).block_len c.requires.sound.whole c.args.l (omega (arith, is))
 
 pub store-requires : goal.store-requires
 store-requires g c =

@@ -14,7 +14,7 @@ returns g c =
     let h = g.B.Reading.format c.touch_for_writing-l.new.back in let j = g.B.Reading.codes c.touch_for_writing-l.new.back in
     let lt = line_below place g.R.Placing.may_hold g.met.R.Rule.rule value t h j e.step.fits (kept_of a) b l e.line in
     let row = c.line_mut.result.now in
-    let d : Body g.row.T.Denot = record { lines = with_line t.lines l (set row p v); tags = t.tags; counts = t.counts } in
+    let d : Body g.row.T.Denot = record { lines = record t.lines { blocks = with_line t.lines.blocks l (set row p v) }; tags = t.tags; counts = t.counts } in
     let touched = λ (m : ℕ). soiled (touch_in f (state_at place value (kept_of a) f k) m b) b in
     let at = line_by place (kept_of a) b in
     let state = e.step.state ∙ ap touched e.line.at in

@@ -14,5 +14,6 @@ returns g c =
     record {
       step = record { state = both.1 ∙ ap (λ s. soiled s b) e.step.state; fits = both.0; format = e.step.format; kept = e.step.kept };
       line = comes_soiling g.R.Rule.place (kept_of a) (kept_of t) b l (kept_of d) e.line lt refl refl;
+      written = c.touch-l.ensures.written;
       dirty = tag-set_same t.tags.items l (2 * b + 3) lt.0;
     }

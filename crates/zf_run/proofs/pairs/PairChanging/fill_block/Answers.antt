@@ -3,7 +3,8 @@ use Rattle.zf_base.specs.Formats.{Format, existing_of}
 use Rattle.zf_cached.{specs.Touch.{with_values}, specs.Steps.{changed}}
 use Rattle.zf_store.specs.Stored.{Frame, format_of, code_at}
 use Rattle.zf_twoway.{specs.Touch.{touch_for_writing}, specs.Standing.{state_of, Fits}}
-use Rattle.zf_twoway.specs.Loans.{lent_block}
+use Rattle.zf_cache.specs.Loans.{lent_block_at}
+use Rattle.zf_twoway.specs.Placing.{skewed, two_lines}
 use Rattle.zf_commands.specs.Sittings.{session}
 use Rattle.zf_run.specs.Pairs.{pair_state, two_setting_of}
 use Rattle.zf_run.proofs.Pairing.{two_blocks, two_below, format_two, changed_two, filled_two, same_pair}
@@ -18,7 +19,7 @@ returns g c =
     let same = c.block_mut.ensures.keeps.format in let lent = c.block_mut.ensures.loan in let row = c.block_mut.result.now in let ws = c.fill_line.new.line in
     let t = c.block_mut.new.back in let b = c.args.b in let head = ap (λ (q : Frame). q.header) c.block_mut.ensures.keeps.kept in
     let st = c.header-header.ensures.whole in let x = value c.args.v in
-    let e = lent_block value (format_of s) (code_at s) k b row ws in
+    let e = lent_block_at skewed value two_lines (format_of s) (code_at s) k b row ws in
     let u = touch_for_writing (format_of s) (pair_state value s k) b in record {
       does = ap (λ (f : Format (List Bool)). changed (two_setting_of w s.header) (session s.header.shape (pair_state value s k) c.args.self.now.window) b (λ values. existing_of f b (replicate f.block_len x)))
           (format_two w s st.same_type value k c.args.self.now.window)

@@ -3,7 +3,8 @@ use Rattle.zf_spec.specs.Numbers.{wrap}
 use Rattle.zf_base.specs.Formats.{Format}
 use Rattle.zf_cached.specs.Steps.{changed, changed_at}
 use Rattle.zf_store.specs.Stored.{Frame, format_of, code_at}
-use Rattle.zf_twoway.{specs.Standing.{state_of, Fits}, specs.Loans.{lent_block}}
+use Rattle.zf_cache.specs.Loans.{lent_block_at}
+use Rattle.zf_twoway.{specs.Standing.{state_of, Fits}, specs.Placing.{skewed, two_lines}}
 use Rattle.zf_commands.specs.Sittings.{session}
 use Rattle.zf_run.specs.Pairs.{pair_state, two_setting_of}
 use Rattle.zf_run.proofs.Pairing.{two_blocks, block_below, place_below, place_exists, block_there, place_there, changed_two, increase_two, same_pair}
@@ -20,7 +21,7 @@ returns g c =
     let is = c.header.ensures.value in
     let same = c.block_mut-line.ensures.keeps.format in let lent = c.block_mut-line.ensures.loan in let row = c.block_mut-line.result.now in let ws = set c.block_mut-line.result.now c.place-b.result.1 c.add.result in
     let t = c.block_mut-line.new.back in let head = ap (λ (q : Frame). q.header) c.block_mut-line.ensures.keeps.kept in
-    let e = lent_block value (format_of s) (code_at s) k b row ws in
+    let e = lent_block_at skewed value two_lines (format_of s) (code_at s) k b row ws in
     let change = λ (n : _) (values : List ℤ). set values n (wrap w (get_or values n (pos 0) +ℤ value c.args.v)) in
     let blocks = (two_blocks w g.row.D s st).0 in
     let below = subst (λ n. p < n) (sym blocks) (place_below w g.row.D s st c.header.result is c.args.p b p at) in record {
