@@ -1,6 +1,7 @@
 #!/usr/bin/env python3
 """A header and little behind it take no memory for values that the stream cannot hold, nor does a longer stream of a
-large shape, and lines of a cache none beyond the number of blocks.
+large shape, and lines of a cache none beyond the number of blocks. A long file that is no stream is refused by its
+first bytes.
 
     python3 check/headers.py [PROGRAM] [--seed N] [--quick]
 
@@ -11,10 +12,13 @@ from definition.codes import PRECISION, RATE
 from definition.header import Header, header_bits
 from definition.planes import bytes_of_bits
 from measure import Measure
-from shared import Check
+from shared import Check, error_line
 
 # kilobytes
 ROOM = 16 * 1024
+
+# The most bytes that a file may have.
+MAX_FILE = 1_200_000_000
 
 
 def header_of(words):
@@ -101,11 +105,27 @@ def lines_beyond(check):
         check.expect(ended.code == 0 and held <= 2 * ROOM, what, ended)
 
 
+def files_of_no_stream(check):
+    """A long file that is no stream, here a sparse one, is refused by its first bytes."""
+    measure = Measure(check)
+    if not measure.is_possible():
+        return
+    folder = check.folder()
+    with open(folder / "a", "wb") as file:
+        file.truncate(MAX_FILE)
+    for words in (["look", "a"], ["run", "a"], ["run", "a", "twoway", "4"], ["bound", "a", "9"]):
+        ended, held, seconds = measure.run(words, b"stats\n", folder)
+        what = f"{' '.join(words)} of {MAX_FILE} bytes: {held} KB, {seconds:.2f} s"
+        fits = held <= ROOM and seconds < 2
+        check.expect(fits and ended.code == 4 and ended.line == error_line("header: magic"), what, ended)
+
+
 def main():
     check = Check(__doc__)
     peaks(check)
     longer_peaks(check)
     lines_beyond(check)
+    files_of_no_stream(check)
     check.end()
 
 

@@ -1,16 +1,20 @@
 -- Lines one after the other, with the replies that are written.
-use Rattle.std.proofs.Common.{◌≡◌, ◌≢◌, refl, sym, ap, subst, ◌∙◌, ℕ, suc, ◌+◌, ◌≤◌, ◌<◌, Bool, true, false, ◌||◌, cond, eqb, List, [], ◌∷◌, ◌++◌, length, take, count_by, Option, Some, append_assoc, length-append, ne_eqb, eq-eqb, zero-add, arith, Result, OnErr, rules}
-use Rattle.std.{specs.List.{list_any}, specs.Option.{option_to_list}, proofs.lemmas.List.{append-nil}}
+use Rattle.std.proofs.Common.{◌≡◌, ◌≢◌, ℤ, refl, sym, ap, subst, ◌∙◌, ℕ, suc, ◌+◌, ◌≤◌, ◌<◌, Bool, true, false, ◌||◌, ◌&&◌, cond, eqb, List, [], ◌∷◌, ◌++◌, length, take, drop, count_by, Option, Some, None, append_assoc, length-append, ne_eqb, eq-eqb, zero-add, arith, Result, OnErr, rules}
+use Rattle.std.{specs.List.{list_any}, specs.Option.{option_to_list, option_map}, proofs.lemmas.List.{append-nil, length-take-le, take-append-drop}}
 use Rattle.std.{proofs.lemmas.Grind.{flat_map-append}, proofs.lemmas.List.Sums.{sum_by-append}}
 use Rattle.std.proofs.Math.Seq.{take-append_seam, take-append-add}
 use mir.Val.{bool_byte}
 use Rattle.zf_dev.{specs.Sink.{Appends, AppendsPart}, proofs.Appending.{Appends-none, Appends-append}}
-use Rattle.zf_cached.{specs.Replies.{Reply, reply_text}, specs.Steps.{Setting, Session}}
-use Rattle.zf_cached.specs.Runs.{lines_of, line_step, run_lines, replies_text}
+use Rattle.zf_cached.{specs.Commands.{Command}, specs.Acts.{Act}, specs.Views.{acted, answered}}
+use Rattle.zf_cached.specs.Kinds.{Kind, ReadCommand, WindowCommand, WriteCommand, ArrayCommand, ViewCommand, kind_of}
+use Rattle.zf_cached.specs.Replies.{Refusal, Reply, reply_text}
+use Rattle.zf_cached.specs.Steps.{Setting, Session, format_of, state_of_view, by_view, at_position, tests, refuses_split, first_refusal, refusal, done_of, done, step}
+use Rattle.zf_cached.specs.Runs.{lines_of, read_step, line_step, run_lines, replies_text}
+use Rattle.zf_cached.specs.Grammar.{read_line}
 use Rattle.zf_cached.proofs.Runs.{run_lines-append}
 use Rattle.zf_commands.specs.Steps.{LeadsTo, starves, is_starved, is_refusal}
 use Rattle.zf_commands.specs.Lines.{refuses, Replies, Breaks}
-use Rattle.zf_commands.specs.Runs.{number_if, starved_lines, AreStarved, AllRun, HasStopped}
+use Rattle.zf_commands.specs.Runs.{number_if, starved_lines, AreStarved, StopsAt, AllRun, HasStopped}
 
 -- a line's number is in a list
 abbrev listed : List ℕ → ℕ → Bool
@@ -260,3 +264,132 @@ starved-counted setting starved k (line ∷ lines) s =
       length-append (number_if (starves one.1) k) behind,
       starved-counted setting starved (suc k) lines one.0,
     )
+
+-- ---- no line behind the last one that was run is out of memory
+
+number-starves : (n : Option ℤ) → starves (option_map Reply.number n) ≡ false
+number-starves None = refl
+number-starves (Some n) = refl
+
+view-starves : {Code : Type 0} (setting : Setting Code) (s : Session Code) (i : ℕ) (act : Act) → starves (by_view setting s i act).1 ≡ false
+unfolding by_view
+view-starves setting s i act =
+    let t = acted setting.width (format_of setting s) (state_of_view s i) act in number-starves (answered t act)
+
+done_of-starves : {Code : Type 0} (setting : Setting Code) (s : Session Code) (k : Kind) → starves (done_of setting s k).1 ≡ false
+done_of-starves setting s (Kind.read (ReadCommand.get ps)) = refl
+done_of-starves setting s (Kind.read ReadCommand.sum) = refl
+done_of-starves setting s (Kind.read (ReadCommand.lines l)) = refl
+done_of-starves setting s (Kind.read ReadCommand.stats) = refl
+done_of-starves setting s (Kind.window (WindowCommand.view origin size step)) = refl
+done_of-starves setting s (Kind.window (WindowCommand.slice axis at)) = refl
+done_of-starves setting s (Kind.window (WindowCommand.get ps)) = refl
+done_of-starves setting s (Kind.window WindowCommand.sum) = refl
+done_of-starves setting s (Kind.write (WriteCommand.set ps v)) = refl
+done_of-starves setting s (Kind.write (WriteCommand.add ps v)) = refl
+done_of-starves setting s (Kind.write (WriteCommand.fill v)) = refl
+done_of-starves setting s (Kind.write WriteCommand.flush) = refl
+done_of-starves setting s (Kind.write WriteCommand.discard) = refl
+done_of-starves setting s (Kind.array (ArrayCommand.set ps v)) = refl
+done_of-starves setting s (Kind.array (ArrayCommand.resize ns)) = refl
+done_of-starves setting s (Kind.split n l) = refl
+done_of-starves setting s Kind.join = refl
+done_of-starves setting s (Kind.view i (ViewCommand.get ps)) = view-starves setting s i (at_position s Act.get ps)
+done_of-starves setting s (Kind.view i (ViewCommand.set ps v)) = view-starves setting s i (at_position s (λ b p. Act.set b p v) ps)
+done_of-starves setting s (Kind.view i (ViewCommand.add ps v)) = view-starves setting s i (at_position s (λ b p. Act.add b p v) ps)
+done_of-starves setting s (Kind.view i ViewCommand.flush) = view-starves setting s i Act.flush
+done_of-starves setting s (Kind.view i ViewCommand.discard) = view-starves setting s i Act.discard
+done_of-starves setting s (Kind.view i ViewCommand.stats) = refl
+
+done-starves : {Code : Type 0} (setting : Setting Code) (s : Session Code) (c : Command) → starves (done setting s c).1 ≡ false
+unfolding done
+done-starves setting s c = done_of-starves setting s (kind_of c)
+
+-- what has memory is not refused for want of it
+first_refusal-memory : (split size range value memory : Bool) → first_refusal split size range value (memory && false) ≢ Some Refusal.memory
+first_refusal-memory true _ _ _ _ = λ is. cc
+first_refusal-memory false true _ _ _ = λ is. cc
+first_refusal-memory false false true _ _ = λ is. cc
+first_refusal-memory false false false true _ = λ is. cc
+first_refusal-memory false false false false true = λ is. cc
+first_refusal-memory false false false false false = λ is. cc
+
+module _ {Code : Type 0} (setting : Setting Code) (s : Session Code) where
+  -- a command that is refused so, or is done
+  abbrev refusing : Command → Option Refusal → Session Code × Option Reply
+  refusing c why = elim why [ Some w ↦ (s, Some (Reply.refused w)) | None ↦ done setting s c ]
+
+  refused-starves : (c : Command) (why : Option Refusal) → why ≢ Some Refusal.memory → starves (refusing c why).1 ≡ false
+  refused-starves c None other = done-starves setting s c
+  refused-starves c (Some Refusal.word) other = refl
+  refused-starves c (Some Refusal.split) other = refl
+  refused-starves c (Some Refusal.size) other = refl
+  refused-starves c (Some Refusal.range) other = refl
+  refused-starves c (Some Refusal.value) other = refl
+  refused-starves c (Some Refusal.memory) other = absurd (other refl)
+
+  step-starves : (c : Command) → starves (step setting s c false).1 ≡ false
+  unfolding step refusal
+  step-starves c = let t = tests setting s c in refused-starves c (refusal setting s c false) (first_refusal-memory (refuses_split s c) t.size t.range t.value t.memory)
+
+  -- a command that is allowed, or not
+  abbrev allowing : Command → Bool → Session Code × Option Reply
+  allowing c allowed = elim allowed [ true ↦ step setting s c false | false ↦ (s, Some (Reply.refused Refusal.word)) ]
+
+  allowed-starves : (c : Command) (allowed : Bool) → starves (allowing c allowed).1 ≡ false
+  allowed-starves c true = step-starves c
+  allowed-starves c false = refl
+
+  read_step-starves : (c : Option Command) → starves (read_step setting s c false).1 ≡ false
+  unfolding read_step
+  read_step-starves None = refl
+  read_step-starves (Some c) = allowed-starves c (setting.allows c)
+
+  line_step-starves : (line : List ℕ) → starves (line_step setting s line false).1 ≡ false
+  unfolding line_step
+  line_step-starves [] = refl
+  line_step-starves (c ∷ cs) = read_step-starves (read_line (length s.shape) (c ∷ cs))
+
+-- lines that have memory do not answer that they are out of it
+starved_lines-none : {Code : Type 0} (setting : Setting Code) (starved : List ℕ) (k : ℕ) (lines : List (List ℕ)) (s : Session Code)
+    → ((n : ℕ) → k ≤ n → listed starved n ≡ false) → starved_lines setting starved k lines s ≡ []
+unfolding starved_lines
+starved_lines-none setting starved k [] s none = refl
+starved_lines-none setting starved k (line ∷ lines) s none =
+    let one = line_step setting s line (listed starved k) in
+    let own : starves one.1 ≡ false = ap (λ t. starves (line_step setting s line t).1) (none k (omega arith)) ∙ line_step-starves setting s line in
+    ap (λ t. number_if t k ++ starved_lines setting starved (suc k) lines one.0) own ∙ starved_lines-none setting starved (suc k) lines one.0 (λ n le. none n (omega (arith, le)))
+
+-- those that do are among the lines that are run
+starved_lines-within : {Code : Type 0} (setting : Setting Code) (starved : List ℕ) (k : ℕ) (lines : List (List ℕ)) (s : Session Code) (n : ℕ)
+    → k + length lines ≤ n → listed (starved_lines setting starved k lines s) n ≡ false
+unfolding starved_lines
+starved_lines-within setting starved k [] s n behind = refl
+starved_lines-within setting starved k (line ∷ lines) s n behind =
+    let one = line_step setting s line (listed starved k) in
+    let own = number_if (starves one.1) k in
+    let rest = starved_lines setting starved (suc k) lines one.0 in
+    let rest_within : listed rest n ≡ false = starved_lines-within setting starved (suc k) lines one.0 n (omega (arith, behind)) in
+    listed-append own rest n ∙ ap (λ b. listed own n || b) rest_within ∙ or_false (listed own n) ∙ own_within (starves one.1)
+  where
+    own_within : (t : Bool) → listed (number_if t k) n ≡ false
+    own_within true = ap (λ b. b || false) (ne_eqb k n (λ e. omega (arith, e, behind)))
+    own_within false = refl
+
+-- where a reply was the last one, the lines that were out of memory are just those, of the whole script, that say so
+pub stopped-starved : {Code : Type 0} (setting : Setting Code) (starved script : List ℕ) (start now : Session Code) (old new : Option (List ℕ))
+    → StopsAt setting starved script start now old new → AreStarved setting starved (lines_of script) start
+stopped-starved setting lacking script start now old new at_line =
+    let all = lines_of script in
+    let k = at_line.at + 1 in
+    let first = take k all in
+    let behind = drop k all in
+    let count : length first ≡ k = length-take-le k all (omega (arith, at_line.below)) in
+    let after = (run_lines setting lacking 0 first start).0 in
+    let within : (n : ℕ) → k ≤ n → listed lacking n ≡ false = λ n le. ap (λ ns. listed ns n) at_line.starved_are ∙ starved_lines-within setting lacking 0 first start n (omega (arith, count, le)) in
+    let none : starved_lines setting lacking (0 + length first) behind after ≡ [] = starved_lines-none setting lacking (0 + length first) behind after (λ n le. within n (omega (arith, count, le))) in
+    at_line.starved_are
+    ∙ sym (append-nil (starved_lines setting lacking 0 first start))
+    ∙ ap (λ (ns : List ℕ). starved_lines setting lacking 0 first start ++ ns) (sym none)
+    ∙ sym (starved_lines-append setting lacking 0 first behind start)
+    ∙ ap (λ ls. starved_lines setting lacking 0 ls start) (take-append-drop k all)

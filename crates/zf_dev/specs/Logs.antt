@@ -51,6 +51,10 @@ sink_taken s = noted s.log
 abbrev pub shelf_below : {F : Type 0} → LoggedShelf F → F
 shelf_below s = s.shelf
 
+-- the names whose first bytes were looked at
+abbrev pub shelf_looked : {F : Type 0} → LoggedShelf F → List Entry
+shelf_looked s = s.looked.entries
+
 -- the names that were asked for; of the files that came, the names and the bytes
 abbrev pub shelf_asked : {F : Type 0} → LoggedShelf F → List Entry
 shelf_asked s = s.asked.entries
@@ -75,18 +79,28 @@ abbrev pub file_of_save : List ℕ → List ℕ → Bool → List Entry
 file_of_save name bytes true = (name, bytes) ∷ []
 file_of_save name bytes false = []
 
--- one load of this name was noted, with the file that came, and no save
+-- one look at the first bytes of this name was noted, and no load and no save
+pub record NotesFront {F : Type 0} (old : LoggedShelf F) (name : List ℕ) (new : LoggedShelf F) : Type 0 where
+  pub looked : shelf_looked new ≡ shelf_looked old ++ (name, []) ∷ []
+  pub asked : shelf_asked new ≡ shelf_asked old
+  pub loaded : shelf_loaded new ≡ shelf_loaded old
+  pub begun : shelf_begun new ≡ shelf_begun old
+  pub saved : shelf_saved new ≡ shelf_saved old
+
+-- one load of this name was noted, with the file that came, and no look and no save
 pub record NotesLoad {F : Type 0} (old : LoggedShelf F) (name : List ℕ) (answer : Result (List ℕ) LoadError)
     (new : LoggedShelf F) : Type 0 where
   pub asked : shelf_asked new ≡ shelf_asked old ++ (name, []) ∷ []
   pub loaded : shelf_loaded new ≡ shelf_loaded old ++ file_of_load name answer
   pub begun : shelf_begun new ≡ shelf_begun old
   pub saved : shelf_saved new ≡ shelf_saved old
+  pub looked : shelf_looked new ≡ shelf_looked old
 
--- one save of these bytes under this name was noted, and no load
+-- one save of these bytes under this name was noted, and no look and no load
 pub record NotesSave {F : Type 0} (old : LoggedShelf F) (name bytes : List ℕ) (ok : Bool)
     (new : LoggedShelf F) : Type 0 where
   pub begun : shelf_begun new ≡ shelf_begun old ++ (name, bytes) ∷ []
   pub saved : shelf_saved new ≡ shelf_saved old ++ file_of_save name bytes ok
   pub asked : shelf_asked new ≡ shelf_asked old
   pub loaded : shelf_loaded new ≡ shelf_loaded old
+  pub looked : shelf_looked new ≡ shelf_looked old

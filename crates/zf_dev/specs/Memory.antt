@@ -4,7 +4,7 @@ use Rattle.std.specs.Prelude.{◌≡◌, ℕ, zero, suc, min, Bool, List, ◌++�
 use Rattle.std.specs.Option.{option_map}
 use Rattle.std.specs.BTreeMap.{get_by_text}
 use Rattle.zf_dev.specs.Faults.{next_count}
-use Rattle.zf_dev.specs.Shelf.{Files, KeepsFiles, AnswersFile, SavesWhole}
+use Rattle.zf_dev.specs.Shelf.{AnswersFront, Files, KeepsFiles, AnswersFile, SavesWhole}
 use Rattle.zf_dev.specs.declared.faults.LoadError.{LoadError}
 use Rattle.zf_dev.specs.declared.mem_shelf.MemShelf.{MemShelf}
 
@@ -120,6 +120,12 @@ CountsFault before now = Counts before now (next_count (shelf_faults before)) (s
 abbrev pub CountsStarved : MemShelf → MemShelf → Type 0
 CountsStarved before now = Counts before now (next_count (shelf_faults before))
     (next_count (shelf_starved before))
+
+-- a look at the first bytes of this name, which is not counted among the calls, and never fails
+pub record Fronts (before : MemShelf) (name : List ℕ) (count : ℕ) (answer : Result (List ℕ) LoadError)
+    (now : MemShelf) : Type 0 where
+  pub same : now ≡ before
+  pub answered : AnswersFront (Some (shelf_files before)) name count answer
 
 -- a load of this name, which answered its file or an error: one more call is counted, and no file changes
 pub record Loads (before : MemShelf) (name : List ℕ) (answer : Result (List ℕ) LoadError) (now : MemShelf)

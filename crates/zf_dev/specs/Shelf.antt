@@ -1,5 +1,5 @@
 -- What a shelf holds: files by name, `Some` where the shelf exposes them, and it then goes on exposing them.
-use Rattle.std.specs.Prelude.{◌≡◌, ◌≢◌, ℕ, ◌<◌, List, length, Bool, true, false, Option, Some, None, Result, Ok, Err, Vec, vec_items}
+use Rattle.std.specs.Prelude.{◌≡◌, ◌≢◌, ℕ, ◌<◌, ◌≤◌, List, length, take, Bool, true, false, Option, Some, None, Result, Ok, Err, Vec, vec_items}
 use Rattle.zf_dev.specs.declared.faults.LoadError.{LoadError}
 use Rattle.zf_dev.specs.declared.faults.LoadError.TheVariants.{Missing, Long, Failed, Memory}
 
@@ -16,6 +16,12 @@ HasFile (Some files) name bytes = files name ≡ Some bytes
 abbrev pub LacksFile : Option Files → List ℕ → Type 0
 LacksFile None name = Unit {0}
 LacksFile (Some files) name = files name ≡ None
+
+-- the file of this name has at most `max` bytes, and begins with these: `count` bytes, or all where it has fewer
+abbrev pub HasFront : Option Files → List ℕ → ℕ → ℕ → List ℕ → Type 0
+HasFront None name max count bytes = Unit {0}
+HasFront (Some files) name max count bytes =
+    (file : List ℕ) × (files name ≡ Some file) × (length file ≤ max) × (bytes ≡ take count file)
 
 -- the file of this name has more bytes than these
 abbrev pub HasLongFile : Option Files → List ℕ → ℕ → Type 0
@@ -55,6 +61,11 @@ loaded (Err e) = Err e
 abbrev pub AnswersFile : Option Files → List ℕ → Result (List ℕ) LoadError → Type 0
 AnswersFile known name (Ok bytes) = HasFile known name bytes
 AnswersFile known name (Err e) = Unit {0}
+
+-- what a look at the first bytes answered is what the file of this name begins with
+abbrev pub AnswersFront : Option Files → List ℕ → ℕ → Result (List ℕ) LoadError → Type 0
+AnswersFront known name count (Ok bytes) = (max : ℕ) × HasFront known name max count bytes
+AnswersFront known name count (Err e) = Unit {0}
 
 -- a save that was well made these bytes the file of this name, and one that was not changed no file
 abbrev pub SavesWhole : Option Files → Option Files → List ℕ → List ℕ → Bool → Type 0

@@ -2,31 +2,22 @@
 //! and how they fail; those in memory, and those over the real things.
 #![tactic(auto)]
 
-mod access;
-mod beside;
 mod buffer;
-mod claims;
 mod faults;
-mod limits;
 mod log;
 mod logged;
 mod mem_shelf;
 mod memory;
-mod names;
-mod place;
 mod real;
 mod real_shelf;
 mod retrying;
 mod shelf;
 mod sink;
 mod source;
-mod stack;
-mod sum;
 mod until_end;
 mod whole;
 
 pub use faults::{Failed, LoadError, TakeError};
-pub use limits::WithinLimits;
 pub use log::Log;
 pub use logged::{LoggedShelf, LoggedSink, LoggedSource};
 pub use mem_shelf::MemShelf;

@@ -118,10 +118,11 @@ impl<O: Sink> Sink for LoggedSink<O> {
     }
 }
 
-/// Another shelf, and its loads and saves: each that was begun, and each that was answered well.
+/// Another shelf, and its looks, loads and saves: each that was begun, and each that was answered well.
 #[derive(Drop)]
 pub struct LoggedShelf<F> {
     shelf: F,
+    looked: Log,
     asked: Log,
     loaded: Log,
     begun: Log,
@@ -129,10 +130,11 @@ pub struct LoggedShelf<F> {
 }
 
 impl<F> LoggedShelf<F> {
-    ghost use Rattle.zf_dev.specs.Logs.{shelf_below, shelf_asked, shelf_loaded, shelf_begun, shelf_saved};
+    ghost use Rattle.zf_dev.specs.Logs.{shelf_below, shelf_looked, shelf_asked, shelf_loaded, shelf_begun, shelf_saved};
 
     pub fn new(shelf: F) -> LoggedShelf<F>
         ensures below { shelf_below result ≡ shelf }
+        ensures looked { shelf_looked result ≡ [] }
         ensures asked { shelf_asked result ≡ [] }
         ensures loaded { shelf_loaded result ≡ [] }
         ensures begun { shelf_begun result ≡ [] }
@@ -140,6 +142,7 @@ impl<F> LoggedShelf<F> {
     {
         LoggedShelf {
             shelf,
+            looked: Log::new(),
             asked: Log::new(),
             loaded: Log::new(),
             begun: Log::new(),
@@ -156,11 +159,14 @@ impl<F> LoggedShelf<F> {
 }
 
 impl<F: Shelf> Shelf for LoggedShelf<F> {
-    ghost use Rattle.zf_dev.specs.Logs.{shelf_below, NotesLoad, NotesSave};
+    ghost use Rattle.zf_dev.specs.Logs.{shelf_below, NotesFront, NotesLoad, NotesSave};
 
     ghost files = { λ s. F.files (shelf_below s) };
 
     ghost faults = { λ s. F.faults (shelf_below s) };
+
+    ghost fronts = { λ old name count answer new. NotesFront old name new
+        × F.fronts (shelf_below old) name count answer (shelf_below new) };
 
     ghost loads = { λ old name answer new. NotesLoad old name answer new
         × F.loads (shelf_below old) name answer (shelf_below new) };
@@ -171,6 +177,17 @@ impl<F: Shelf> Shelf for LoggedShelf<F> {
     ghost never_fails = { λ s. F.never_fails (shelf_below s) };
 
     ghost always_saves = { λ s. F.always_saves (shelf_below s) };
+
+    fn front(
+        &mut self,
+        alloc: Global,
+        name: &str,
+        max: u64,
+        count: usize,
+    ) -> Result<Vec<u8>, LoadError> {
+        self.looked.note(name.as_bytes(), &[]);
+        self.shelf.front(alloc, name, max, count)
+    }
 
     fn load(&mut self, alloc: Global, name: &str, max: u64) -> Result<Vec<u8>, LoadError> {
         self.asked.note(name.as_bytes(), &[]);

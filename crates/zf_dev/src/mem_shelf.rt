@@ -1,10 +1,10 @@
 //! A shelf in memory: what a test puts in the place of the files of the current folder.
 
-ghost use Rattle.std.specs.Prelude.{◌≡◌, ◌≢◌, ℕ, ◌<◌, ◌≤◌, ◌↔◌, List, [], length, None, Some, Err, is_ok, IsErr, IfOk, IfErr, IfSome, IfNone, OnOk, OnErr, Contains};
+ghost use Rattle.std.specs.Prelude.{◌≡◌, ◌≢◌, ℕ, ◌<◌, ◌≤◌, ◌↔◌, List, [], length, None, Some, Err, is_ok, IsErr, IfOk, IfErr, IfSome, IfNone, OnOk, OnErr, Contains, take};
 ghost use Rattle.zf_dev.specs.declared.faults.LoadError.TheVariants as loading;
 ghost use Rattle.zf_dev.specs.Faults.{HasCause, next_count};
-ghost use Rattle.zf_dev.specs.Memory.{shelf_files, shelf_fail, shelf_call, shelf_faults, shelf_starved, CountsCall, CountsFault, CountsStarved, Loads, Saves};
-ghost use Rattle.zf_dev.specs.Shelf.{HasFile, ExplainsLoad, KeepsFiles, KeepsOthers, SavesFile, loaded};
+ghost use Rattle.zf_dev.specs.Memory.{shelf_files, shelf_fail, shelf_call, shelf_faults, shelf_starved, CountsCall, CountsFault, CountsStarved, Fronts, Loads, Saves};
+ghost use Rattle.zf_dev.specs.Shelf.{HasFile, HasFront, ExplainsLoad, KeepsFiles, KeepsOthers, SavesFile, loaded};
 
 use crate::faults::raise;
 use crate::memory::is_failing;
@@ -92,6 +92,8 @@ impl Shelf for MemShelf {
 
     ghost faults = { λ s. shelf_faults s };
 
+    ghost fronts = { λ old name count answer new. Fronts old name count answer new };
+
     ghost loads = { λ old name answer new. Loads old name answer new };
 
     ghost saves = { λ old name bytes ok new. Saves old name bytes ok new };
@@ -100,6 +102,20 @@ impl Shelf for MemShelf {
 
     // A save may be out of memory.
     ghost always_saves = { λ _. ⊥ };
+
+    // It has no number, and fails only where there is no memory.
+    fn front(
+        &mut self,
+        alloc: Global,
+        name: &str,
+        max: u64,
+        count: usize,
+    ) -> Result<Vec<u8>, LoadError> {
+        let Some(file) = self.file(name) else {
+            return Err(LoadError::Missing);
+        };
+        front_of(alloc, file, max, count)
+    }
 
     fn load(&mut self, alloc: Global, name: &str, max: u64) -> Result<Vec<u8>, LoadError>
         ensures fails { (result ≡ Err loading.Failed) ↔ Contains (shelf_fail self.old) (shelf_call self.old) }
@@ -168,6 +184,23 @@ fn copied(alloc: Global, file: &[u8], max: u64) -> Result<Vec<u8>, LoadError>
         return Err(LoadError::Long);
     }
     match Vec::from_slice(alloc, file) {
+        Ok(bytes) => Ok(bytes),
+        Err(_) => Err(LoadError::Memory),
+    }
+}
+
+// The first bytes of a file, where it has at most `max`.
+fn front_of(alloc: Global, file: &[u8], max: u64, count: usize) -> Result<Vec<u8>, LoadError>
+    ensures ok { IfOk result (λ bytes. (bytes.items ≡ take count file.now) × (length file.now ≤ max)) }
+    ensures bound { IfOk result (λ bytes. length bytes.items ≤ count) }
+    ensures long { result ≡ Err loading.Long → max < length file.now }
+    ensures found { result ≢ Err loading.Missing }
+    ensures whole { result ≢ Err loading.Failed }
+{
+    if file.len() as u64 > max {
+        return Err(LoadError::Long);
+    }
+    match Vec::from_slice(alloc, &file[..count.min(file.len())]) {
         Ok(bytes) => Ok(bytes),
         Err(_) => Err(LoadError::Memory),
     }

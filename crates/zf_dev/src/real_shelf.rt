@@ -1,14 +1,13 @@
 //! A shelf over the files of the current folder. What the files hold is outside the program, so nothing is
 //! told of it.
 
-ghost use Rattle.std.specs.Prelude.{◌≡◌, ◌≢◌, ◌≤◌, ◌⊎◌, length, None, IfOk};
+ghost use Rattle.std.specs.Prelude.{◌≡◌, ◌≢◌, ◌≤◌, ◌⊎◌, length, [], None, IfOk};
 ghost use Rattle.std.specs.IoError.{error_kind};
 ghost use Rattle.zf_dev.specs.declared.faults.LoadError.TheVariants as loading;
 ghost use Rattle.zf_dev.specs.Faults.{next_count};
 ghost use Rattle.zf_dev.specs.Real.{shelf_faults, count_of_load, count_of_save};
 
 use crate::faults::raise;
-use crate::place::Place;
 use crate::{Failed, LoadError, Shelf};
 use std::alloc::Global;
 use std::fs::{File, Files};
@@ -16,6 +15,7 @@ use std::io;
 use std::io::{ErrorKind, Read};
 use std::random::RandomSource;
 use std::rt::{Clock, LibcRuntime};
+use zf_place::Place;
 
 /// The files of the current folder as a shelf.
 ///
@@ -57,7 +57,9 @@ impl<R: Files<File = File> + Clock + RandomSource> Shelf for RealShelf<R> {
 
     ghost faults = { λ s. shelf_faults s };
 
-    // A load or a save raises the count once where it fails, and else not.
+    // A look, a load or a save raises the count once where it fails, and else not.
+    ghost fronts = { λ old name count answer new. shelf_faults new ≡ count_of_load answer (shelf_faults old) };
+
     ghost loads = { λ old name answer new. shelf_faults new ≡ count_of_load answer (shelf_faults old) };
 
     ghost saves = { λ old name bytes ok new. shelf_faults new ≡ count_of_save ok (shelf_faults old) };
@@ -65,6 +67,19 @@ impl<R: Files<File = File> + Clock + RandomSource> Shelf for RealShelf<R> {
     ghost never_fails = { λ _. ⊥ };
 
     ghost always_saves = { λ _. ⊥ };
+
+    fn front(
+        &mut self,
+        alloc: Global,
+        name: &str,
+        max: u64,
+        count: usize,
+    ) -> Result<Vec<u8>, LoadError> {
+        match read_front(alloc, &self.system, name, max, count) {
+            Ok(bytes) => Ok(bytes),
+            Err(error) => Err(counted(error, &mut self.faults)),
+        }
+    }
 
     fn load(&mut self, alloc: Global, name: &str, max: u64) -> Result<Vec<u8>, LoadError> {
         match read_file(alloc, &self.system, name, max, &mut self.place) {
@@ -159,10 +174,7 @@ fn read_whole(alloc: Global, file: &File, len: u64, max: u64) -> Result<Vec<u8>,
     }
     // Room for one byte more, so that the end is found without more room.
     let room = usize::try_from(len).map_err(|_| LoadError::Memory)?;
-    let mut bytes = match Vec::with_capacity(alloc, room.saturating_add(1)) {
-        Ok(bytes) => bytes,
-        Err(_) => return Err(LoadError::Memory),
-    };
+    let mut bytes = with_room(alloc, room.saturating_add(1))?;
     // A file that grows meanwhile may be too long then.
     file.take(max.saturating_add(1))
         .read_to_end(&mut bytes)
@@ -170,6 +182,49 @@ fn read_whole(alloc: Global, file: &File, len: u64, max: u64) -> Result<Vec<u8>,
     if bytes.len() as u64 > max {
         return Err(LoadError::Long);
     }
+    Ok(bytes)
+}
+
+// No byte, and room for so many.
+fn with_room(alloc: Global, room: usize) -> Result<Vec<u8>, LoadError>
+    ensures { IfOk result (λ bytes. bytes.items ≡ []) }
+{
+    match Vec::with_capacity(alloc, room) {
+        Ok(bytes) => Ok(bytes),
+        Err(_) => Err(LoadError::Memory),
+    }
+}
+
+// The first bytes of the file of this name, where it has at most `max`. No place is remembered for a save.
+fn read_front<R: Files<File = File> + RandomSource>(
+    alloc: Global,
+    system: &R,
+    name: &str,
+    max: u64,
+    count: usize,
+) -> Result<Vec<u8>, LoadError>
+    ensures bound { IfOk result (λ bytes. length bytes.items ≤ count) }
+{
+    let place = Place::new(alloc, system, name).map_err(load_error)?;
+    match place.open(system).map_err(load_error)? {
+        Some(file) => front_of(alloc, &file, max, count),
+        None => Err(LoadError::Missing),
+    }
+}
+
+// The first bytes of a file, where it has at most `max`.
+fn front_of(alloc: Global, file: &File, max: u64, count: usize) -> Result<Vec<u8>, LoadError>
+    ensures bound { IfOk result (λ bytes. length bytes.items ≤ count) }
+{
+    if file.metadata().map_err(load_error)?.len() > max {
+        return Err(LoadError::Long);
+    }
+    // Room for one byte more, so that the end is found without more room.
+    let mut bytes = with_room(alloc, count.saturating_add(1))?;
+    file.take(count as u64)
+        .read_to_end(&mut bytes)
+        .map_err(load_error)?;
+    bytes.truncate(count);
     Ok(bytes)
 }
 

@@ -7,19 +7,27 @@ use std::fs;
 use std::test::Fail;
 use zf_dev::{Failed, LoadError, MemShelf, MemSource, RealShelf, Shelf, TakeError, take_all};
 
-// A call of a shelf, and its answer: a file is loaded that has so many bytes at most, or bytes are saved.
+// A call of a shelf, and its answer: the first three bytes are looked at of a file that has so many at most, or it
+// is loaded, or bytes are saved.
 enum Step {
+    Front(&'static str, u64, Result<&'static [u8], LoadError>),
     Load(&'static str, u64, Result<&'static [u8], LoadError>),
     Save(&'static str, &'static [u8], Result<(), Failed>),
+}
+
+// Whether this is the answer.
+fn is_answer(answer: &Result<&'static [u8], LoadError>, seen: Result<Vec<u8>, LoadError>) -> bool {
+    match seen {
+        Ok(bytes) => *answer == Ok(bytes.as_slice()),
+        Err(e) => *answer == Err(e),
+    }
 }
 
 // Whether a call has its answer.
 fn is_answered<S: Shelf>(alloc: Global, shelf: &mut S, step: &Step) -> bool {
     match step {
-        Step::Load(name, max, answer) => match shelf.load(alloc, name, *max) {
-            Ok(bytes) => *answer == Ok(bytes.as_slice()),
-            Err(e) => *answer == Err(e),
-        },
+        Step::Front(name, max, answer) => is_answer(answer, shelf.front(alloc, name, *max, 3)),
+        Step::Load(name, max, answer) => is_answer(answer, shelf.load(alloc, name, *max)),
         Step::Save(name, bytes, answer) => shelf.save(name, bytes) == *answer,
     }
 }
@@ -50,7 +58,12 @@ static IN_MEMORY: [(&[Step], &str, Option<&[u8]>); 4] = [
     ),
     (
         &[
+            // It is no call with a number.
+            Step::Front("a", 5, Ok(b"fir")),
+            Step::Front("a", 4, Err(LoadError::Long)),
+            Step::Front("b", 9, Err(LoadError::Missing)),
             Step::Save("b", b"", Ok(())),
+            Step::Front("b", 0, Ok(b"")),
             Step::Save("a", b"third", Ok(())),
         ],
         "a",
@@ -93,12 +106,15 @@ fn out_of_memory_is_told_apart(rt: HostRuntime) -> Result<(), Fail> {
 }
 
 // In a folder of its own, which can be removed where nothing is left in it.
-static SAVED: [Step; 7] = [
+static SAVED: [Step; 10] = [
+    Step::Front("shelf-a/a", 9, Err(LoadError::Missing)),
     Step::Load("shelf-a/a", 9, Err(LoadError::Missing)),
     Step::Save("shelf-a/a", b"first", Ok(())),
     Step::Load("shelf-a/a", 5, Ok(b"first")),
     Step::Load("shelf-a/a", 4, Err(LoadError::Long)),
     Step::Load("shelf-a/a", u64::MAX, Ok(b"first")),
+    Step::Front("shelf-a/a", 5, Ok(b"fir")),
+    Step::Front("shelf-a/a", 4, Err(LoadError::Long)),
     Step::Save("shelf-a/a", b"next", Ok(())),
     Step::Load("shelf-a/a", 9, Ok(b"next")),
 ];
@@ -119,18 +135,19 @@ fn a_real_shelf_loads_and_saves_files(rt: HostRuntime) -> Result<(), Fail> {
 static NO_FILES: [(&[Step], u64); 2] = [
     (
         &[
+            Step::Front("shelf-c", 9, Err(LoadError::Failed)),
             Step::Load("shelf-c", 9, Err(LoadError::Failed)),
             Step::Load("a\0b", 9, Err(LoadError::Failed)),
             Step::Load("shelf-c/none/a", 9, Err(LoadError::Missing)),
         ],
-        2,
+        3,
     ),
     (
         &[
             Step::Save("shelf-c", b"new", Err(Failed)),
             Step::Save("none/a", b"new", Err(Failed)),
         ],
-        4,
+        5,
     ),
 ];
 

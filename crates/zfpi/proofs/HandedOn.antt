@@ -14,7 +14,7 @@ use Rattle.zfpi.specs.declared.command.Command.TheVariants.{New, Run, Look, Boun
 use Rattle.zfpi.{specs.Faults.{load_status}, specs.Opened.{array_in, opened}, specs.Answer.{meaning, OfUsed}}
 use Rattle.zfpi.{specs.Certified.{certified_status}, specs.World.{Seen, seen, counts}}
 use Rattle.zfpi.{proofs.Ends.{IsPossible}, specs.Sending.{IsDone, EndsSent, HandsOn}}
-use Rattle.zfpi.{specs.Steps.{IsShelfless}, specs.Calls.{Streams, Fulfils}}
+use Rattle.zfpi.{specs.Steps.{IsShelfless}, specs.Fetching.{Fetches}, specs.Calls.{Streams, Fulfils}}
 use Rattle.zfpi.specs.Headline.{IsSent, Writes, Saves, Behaves, HasCauses, IsIdle, StopsAtEnd, Sends}
 use Rattle.zfpi.{specs.Statuses.{is_work_done}, specs.Steps.{Told}}
 use Rattle.zfpi.{proofs.Stepping.{Steps-none, Told-stays, untold}, proofs.Loading.{ComesFirst}}
@@ -143,7 +143,7 @@ module _ (c : Command) (status ended : Status) (unsaved : IsSentAfter c) where
         behaves = behaves (F.files shelf);
         causes = HasCauses-sent _ _ _ _ _ s.causes sends;
         stops = StopsAtEnd-sent _ _ s.stops sends;
-        steps = Steps-none F.loads F.saves F.faults c _ _ _ ended shelf unloaded unchanged shelfless (told_sent _ _ _ _ s.told sends);
+        steps = Steps-none (Fetches F.fronts F.loads) F.saves F.faults c _ _ _ ended shelf unloaded unchanged shelfless (told_sent _ _ _ _ s.told sends);
         sure_shelf = λ sure. (shelfless.no_load, sure);
         sure_saves = λ sure. (shelfless.no_save, sure);
         sent = λ flushed. IsSent-sent _ _ _ _ _ (behaves None) s.causes.writing.0 sends;

@@ -15,6 +15,7 @@ pub mod Making
 mod Sampling
 mod Opening
 mod Loading
+mod Fetching
 mod HandedOn
 mod Scripting
 mod TwoWays

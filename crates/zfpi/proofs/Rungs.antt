@@ -17,14 +17,14 @@ use Rattle.zf_run.specs.declared.end.RunEnd.TheVariants as ends
 use Rattle.zfpi.{specs.declared.status.Status.{Status}, specs.declared.command.Access.{Access}}
 use Rattle.zfpi.specs.declared.status.Status.TheVariants.{Header as NoHeader, NotRate, ReadFault, WriteFault, LoadFault, SaveFault}
 use Rattle.zfpi.{specs.declared.command.Access.TheVariants.{Run, Look}, specs.Faults.{take_status}}
-use Rattle.zfpi.{specs.World.{seen}, specs.Answer.{meaning}, specs.Opened.{opened}, specs.Scripts.{reads_script, sees_script, lines_status, AreStarved, OnWholeScript}}
+use Rattle.zfpi.{specs.World.{seen}, specs.Answer.{meaning}, specs.Opened.{opened}, specs.Scripts.{reads_script, sees_script, lines_status, AreStarved, OnScript}}
 use Rattle.zfpi.specs.Accesses.{command_on, admits, reading_of, answers_of, file_of, named}
 use Rattle.zfpi.{specs.Subjects.{Subject, Ran}, specs.Loaded.{HoldsFile, StandsFor, RefusesFile, IsRefused}}
 use Rattle.zfpi.{specs.Sending.{HandsOn}, specs.Statuses.{is_work_done}, specs.Steps.{Gave, Makes, Saving, IsLoaded}, specs.Headline.{Behaves, IsSent}}
 use Rattle.zfpi.{specs.Rungs.{WorksOn, Answers, Closes}, proofs.Stepping.{SavesOnce-none, SavesOnce-take, SavesOnce-by}}
 use Rattle.zfpi.proofs.Opening.{array_in-header, stream_in-header, array_in-no_rate}
 use Rattle.zfpi.proofs.Causes.{HasCauses-refused, HasCauses-untaken, HasCauses-wrote, reads_take}
-use Rattle.zfpi.proofs.Stopping.{StopsAtEnd-same, StopsAtEnd-used, StopsAtEnd-unseen}
+use Rattle.zfpi.proofs.Stopping.{StopsAtEnd-same, StopsAtEnd-unseen}
 use Rattle.zfpi.proofs.Loading.{ComesFirst, world_with, found_with, opened-held, Behaves-starved, Behaves-refused}
 use Rattle.zfpi.proofs.Scripting.{text_is, status_is as stated_so, by_lines, by_end, IsScripted-on, loads-on, Behaves-untaken, Behaves-closed, Behaves-cut_script}
 use Rattle.zfpi.proofs.HandedOn.{Appends-stays, Behaves-stays, cut_sent, IsSent-later, IsSent-cut}
@@ -63,9 +63,9 @@ no_save_taken : (e : TakeError) → take_status e ≢ SaveFault
 no_save_taken taking.Long = λ same. cc
 no_save_taken e = λ same. cc
 
--- what holds where a whole script was run
-on_whole : (status : Status) {P : Type 0} → P → OnWholeScript status P
-on_whole status p = search rules
+-- what holds where lines of a script were run
+on_script : (status : Status) {P : Type 0} → P → OnScript status P
+on_script status p = search rules
 
 -- ---- the rungs
 
@@ -139,7 +139,7 @@ module _ {B C : Type 0} {O : Sink B} {F : Shelf C} (access : Access) (name : Lis
         behaves = λ known src rest holds files_kept takes at_end most.
             Behaves-stays c WriteFault (seen src (O.contents out) known) rest (O.contents mid) (O.contents out_now) (F.files shelf) sent.stays
             (Behaves-cut_script c name (reading_of access) (answers_of access) (file_of access) is known (F.files shelf) file stands.said holds stands.opened files_kept script ran.starved most src rest takes at_end
-            s.setting s.start (stands.replies ran.starved script) ran.last (O.contents out) (O.contents mid) ran.how);
+            s.setting s.start (stands.replies ran.starved script) (stands.starved ran.starved script) ran.last (O.contents out) (O.contents mid) ran.how);
         causes = λ src. HasCauses-wrote c WriteFault src (O.faults out) (O.faults out_now) is.writes_replies (omega (arith, kept, sent.kept)) (λ same. cc) (λ same. omega (arith, rose, sent.kept));
         read = is.reads_script_by WriteFault;
         saw = is.sees_script_by WriteFault;
@@ -193,7 +193,7 @@ module _ {B C : Type 0} {O : Sink B} {F : Shelf C} (access : Access) (name : Lis
                 loaded = subst (λ b. IsLoaded b (Ok file) (w.files (meaning c).name)) (sym (loads-on access name)) (found_with None (meaning c).name file tt);
                 input = refl;
                 starved = starved;
-                starved_are = is.starved_are w starved end (on_whole end starved_are);
+                starved_are = is.starved_are w starved end (on_script end starved_are);
                 stated = stated work;
                 written = Appends-stays (O.contents out) (O.contents mid) (O.contents out_now) ((meaning c).text w starved script) written closes.stays;
                 to_save = sym (is.saved w starved said opens);

@@ -10,11 +10,11 @@ use Rattle.zf_dev.specs.declared.faults.TakeError.TheVariants as taking
 use Rattle.zf_parse.specs.Parsing.{Said}
 use Rattle.zf_cached.{specs.Replies.{reply_text}, specs.Steps.{Setting, Session}}
 use Rattle.zf_cached.{specs.Runs.{lines_of, run_lines, replies_text}, proofs.Runs.{run_lines-append}}
-use Rattle.zf_commands.{specs.Steps.{is_refusal}, specs.Runs.{StopsAt}}
+use Rattle.zf_commands.{specs.Steps.{is_refusal}, specs.Runs.{starved_lines, StopsAt}, proofs.Folding.{stopped-starved}}
 use Rattle.zfpi.{specs.declared.status.Status.{Status}, specs.declared.command.Access.{Access}}
 use Rattle.zfpi.{specs.Faults.{take_status}, specs.declared.command.Command.{Command}, specs.Opened.{opened}}
 use Rattle.zfpi.{specs.Loaded.{HoldsFile}, specs.World.{World, ExposesInput, IsExposed, seen}}
-use Rattle.zfpi.specs.Scripts.{Answering, lines_status, script_status, script_text, reads_script, sees_script, AreStarved, OnWholeScript, TakesScript, IsRunnable}
+use Rattle.zfpi.specs.Scripts.{Answering, lines_status, script_status, script_text, reads_script, sees_script, AreStarved, OnScript, TakesScript, IsRunnable}
 use Rattle.zfpi.specs.Accesses.{command_on, reading_of, answers_of, file_of, named}
 use Rattle.zfpi.{proofs.HandedOn.{Appends-stays}, specs.Answer.{meaning, cut_draft, MayFail, OfUsed}}
 use Rattle.zfpi.specs.Headline.{IsOfCommand, Writes, Saves, Behaves}
@@ -40,7 +40,7 @@ pub record IsScripted (c : Command) (name : List ℕ) (reading : List ℕ → Re
   pub status : (w : World) (starved : List ℕ) → (meaning c).status w starved ≡ script_status answers (opened reading (w.files name)) starved w.input
   pub text : (w : World) (starved taken : List ℕ) → (meaning c).text w starved taken ≡ script_text answers (opened reading (w.files name)) starved w.input
   pub draft : (w : World) (starved : List ℕ) (status : Status) (taken : List ℕ) → (meaning c).draft status ((meaning c).text w starved taken) ≡ cut_draft status ((meaning c).text w starved taken)
-  pub starved_are : (w : World) (starved : List ℕ) (status : Status) → OnWholeScript status (AreStarved answers (opened reading (w.files name)) starved w.input) → (meaning c).starved_are status w starved
+  pub starved_are : (w : World) (starved : List ℕ) (status : Status) → OnScript status (AreStarved answers (opened reading (w.files name)) starved w.input) → (meaning c).starved_are status w starved
   pub extent : (status : Status) (input taken : List ℕ) → TakesScript status input taken → (meaning c).extent status input taken
   pub saved : (w : World) (starved : List ℕ) (said : Said) → opened reading (w.files name) ≡ Ok said → (meaning c).saved w starved ≡ named name (filed said starved w.input)
   pub saving : (said : Said) (starved script : List ℕ) → is_some (named name (filed said starved script)) ≡ (meaning c).saves
@@ -89,7 +89,7 @@ module _ (c : Command) (name : List ℕ) (reading : List ℕ → Result Said Sta
   saved_is starved script = is.saved (world_with known bytes script) starved said is_open
 
   -- no line was run, and nothing was written
-  unread : (status : Status) (src src_now out : Option (List ℕ)) (input taken : List ℕ) → IsOfCommand status → ExposesInput src input → OnWholeScript status (AreStarved answers (opened reading (files_with known bytes name)) [] input)
+  unread : (status : Status) (src src_now out : Option (List ℕ)) (input taken : List ℕ) → IsOfCommand status → ExposesInput src input → OnScript status (AreStarved answers (opened reading (files_with known bytes name)) [] input)
       → (status ≡ (meaning c).status (world_with known bytes input) []) ⊎ MayFail status c (world_with known bytes input) → Takes src src_now taken → TakesScript status input taken
       → ((text : List ℕ) → Writes status text (cut_draft status text) out out) → Unsaved status → Behaves c status (seen src out known) (seen src_now out mid)
   unread status src src_now out input taken ends exposed starved_are stated takes extent written un =
@@ -120,7 +120,7 @@ module _ (c : Command) (name : List ℕ) (reading : List ℕ → Result Said Sta
 
     -- it was run, and it ended so
     ran_so : (status : Status) (out out_now : Option (List ℕ)) (shelf : Option Files) → IsOfCommand status
-        → OnWholeScript status (AreStarved answers (opened reading (files_with known bytes name)) starved script) → TakesScript status script script
+        → OnScript status (AreStarved answers (opened reading (files_with known bytes name)) starved script) → TakesScript status script script
         → (status ≡ (meaning c).status (world_with known bytes script) starved) ⊎ MayFail status c (world_with known bytes script)
         → Writes status ((meaning c).text (world_with known bytes script) starved script) ((meaning c).draft status ((meaning c).text (world_with known bytes script) starved script)) out out_now
         → Saves ((meaning c).saved (world_with known bytes script) starved) status known shelf
@@ -139,15 +139,18 @@ module _ (c : Command) (name : List ℕ) (reading : List ℕ → Result Said Sta
       saved = saved;
     }
 
+    -- the lines that were out of memory are those that say so, as the file is opened
+    open_starved : starved ≡ (answers said starved script).1 → AreStarved answers (opened reading (files_with known bytes name)) starved script
+    open_starved starved_are = subst (λ file. AreStarved answers file starved script) (sym is_open) starved_are
+
     -- all its lines were run, and it ended so
-    Behaves-whole : (status : Status) (out out_now : Option (List ℕ)) (shelf : Option Files) → IsOfCommand status → ((P : Type 0) → P → OnWholeScript status P) → TakesScript status script script
+    Behaves-whole : (status : Status) (out out_now : Option (List ℕ)) (shelf : Option Files) → IsOfCommand status → ((P : Type 0) → P → OnScript status P) → TakesScript status script script
         → ((text draft : List ℕ) → Appends out out_now text → Writes status text draft out out_now) → (status ≡ (meaning c).status (world_with known bytes script) starved) ⊎ MayFail status c (world_with known bytes script)
         → starved ≡ (answers said starved script).1 → Appends out out_now (replies_text (answers said starved script).0) → Saves ((meaning c).saved (world_with known bytes script) starved) status known shelf
         → Behaves c status (seen src out known) (seen rest out_now shelf)
-    Behaves-whole status out out_now shelf ends on_whole extent writes stated starved_are written saved =
-        let open_starved = on_whole _ (subst (λ file. AreStarved answers file starved script) (sym is_open) starved_are) in
+    Behaves-whole status out out_now shelf ends on_script extent writes stated starved_are written saved =
         let text = subst (Appends out out_now) (text_is starved script script) written in
-        ran_so status out out_now shelf ends open_starved extent stated (writes _ _ text) saved
+        ran_so status out out_now shelf ends (on_script _ (open_starved starved_are)) extent stated (writes _ _ text) saved
 
     -- so many lines were refused, or none
     Behaves-lines : (n : ℕ) (out out_now : Option (List ℕ)) (shelf : Option Files) → n ≡ count_by is_refusal (answers said starved script).0 → starved ≡ (answers said starved script).1
@@ -158,13 +161,13 @@ module _ (c : Command) (name : List ℕ) (reading : List ℕ → Result Said Sta
         Behaves-whole (statuses.Lines (suc n)) out out_now shelf tt (λ P p. p) refl (λ text draft all. all) (inl (ap lines_status refused ∙ status_is starved script most)) starved_are written saved
 
     -- all its lines were run, and the replies were written but not handed on
-    Behaves-unsent : (out out_now : Option (List ℕ)) (shelf : Option Files) → Appends out out_now (replies_text (answers said starved script).0) → Saves ((meaning c).saved (world_with known bytes script) starved) statuses.WriteFault known shelf
-        → Behaves c statuses.WriteFault (seen src out known) (seen rest out_now shelf)
-    Behaves-unsent out out_now shelf written saved =
+    Behaves-unsent : (out out_now : Option (List ℕ)) (shelf : Option Files) → starved ≡ (answers said starved script).1 → Appends out out_now (replies_text (answers said starved script).0)
+        → Saves ((meaning c).saved (world_with known bytes script) starved) statuses.WriteFault known shelf → Behaves c statuses.WriteFault (seen src out known) (seen rest out_now shelf)
+    Behaves-unsent out out_now shelf starved_are written saved =
         let draft = text_is starved script script ∙ sym (is.draft (world_with known bytes script) starved statuses.WriteFault script) in
         let all = AppendsPrefix-all out out_now (replies_text (answers said starved script).0) written in
         let may = is.writes (world_with known bytes script) runnable in
-        ran_so statuses.WriteFault out out_now shelf tt tt refl (inr may) (subst (AppendsPrefix out out_now) draft all) saved
+        ran_so statuses.WriteFault out out_now shelf tt (open_starved starved_are) refl (inr may) (subst (AppendsPrefix out out_now) draft all) saved
 
     -- all its lines were run, the replies were handed on and a file was saved, if any, unless one of both failed
     pub Behaves-closed : {Unsent : Type 0} (n : ℕ) (end : Status) (out sent out_now : Option (List ℕ)) (shelf : Option Files) → n ≡ count_by is_refusal (answers said starved script).0 → starved ≡ (answers said starved script).1
@@ -177,7 +180,8 @@ module _ (c : Command) (name : List ℕ) (reading : List ℕ → Result Said Sta
         subst (λ f. Saves f status known shelf) (sym (saved_is starved script)) (Saves-kept file status known mid shelf kept saves) in search (rules, by_end, Behaves-lines, Behaves-whole, world_with, runnable, Behaves-unsent)
 
     -- a reply was not written whole
-    module _ {Code : Type 0} (setting : Setting Code) (start : Session Code) (same : (run_lines setting starved 0 (lines_of script) start).1 ≡ (answers said starved script).0) where
+    module _ {Code : Type 0} (setting : Setting Code) (start : Session Code) (same : (run_lines setting starved 0 (lines_of script) start).1 ≡ (answers said starved script).0)
+        (starved_same : starved_lines setting starved 0 (lines_of script) start ≡ (answers said starved script).1) where
       -- the text of the first lines is a prefix of the text of all
       prefix_of_text : (n : ℕ) → (more : List ℕ) × (replies_text (answers said starved script).0 ≡ replies_text (run_lines setting starved 0 (take n (lines_of script)) start).1 ++ more)
       prefix_of_text n =
@@ -206,4 +210,4 @@ module _ (c : Command) (name : List ℕ) (reading : List ℕ → Result Said Sta
           let kept = Saves-unsaved ((meaning c).saved (world_with known bytes script) starved) statuses.WriteFault known mid tt kept in
           let draft = whole ∙ sym (is.draft (world_with known bytes script) starved statuses.WriteFault script) in
           let more = subst (AppendsPrefix out out_now) draft (AppendsPrefix-more out out_now (first ++ reply) prefix.0 part) in
-          ran_so statuses.WriteFault out out_now mid tt tt refl (inr (is.writes (world_with known bytes script) runnable)) more kept
+          ran_so statuses.WriteFault out out_now mid tt (open_starved (stopped-starved setting starved script start now out out_now stops ∙ starved_same)) refl (inr (is.writes (world_with known bytes script) runnable)) more kept

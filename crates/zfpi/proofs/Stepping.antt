@@ -1,15 +1,14 @@
 -- The steps of a call on the shelf, and what is told of them.
 use Rattle.std.proofs.Common.{rules, ◌≡◌, ◌≢◌, ℕ, ◌≤◌, ◌&&◌, Bool, true, false, List, Option, Some, None, Result, Ok, Err, ◌⊎◌, inl, inr, refl, ap, sym, subst, ◌∙◌, [], arith}
 use Rattle.std.proofs.lemmas.Bool.{true≢false}
-use Rattle.zf_dev.{specs.Faults.{IsQuiet, HasCause}, specs.Shelf.{Files}, specs.declared.faults.LoadError.{LoadError}}
+use Rattle.zf_dev.{specs.Faults.{IsQuiet, HasCause}, specs.Shelf.{Files}}
 use Rattle.zf_dev.{specs.Source.{Gives}, proofs.Giving.{Gives-none}, specs.Sink.{Appends}, proofs.Appending.{Appends-none}}
 use Rattle.zf_dev.specs.declared.source.Source.{Ghosts as Source}
 use Rattle.zf_dev.specs.declared.faults.TakeError.{TakeError}
-use Rattle.zf_dev.specs.declared.faults.LoadError.TheVariants as loading
 use Rattle.zf_dev.specs.declared.faults.TakeError.TheVariants as taking
 use Rattle.zfpi.{specs.declared.status.Status.{Status}, specs.declared.command.Command.{Command}}
 use Rattle.zfpi.{specs.declared.status.Status.TheVariants.{Done, LoadFault, SaveFault, WriteFault}, specs.Answer.{meaning, MayFail}}
-use Rattle.zfpi.{specs.Faults.{load_status, take_status}, specs.Sending.{IsDone, EndsSent}}
+use Rattle.zfpi.{specs.Faults.{take_status}, specs.Sending.{IsDone, EndsSent}}
 use Rattle.zf_base.specs.declared.lane.Ty.{Ty}
 use Rattle.zf_store.specs.Stored.{file_of, zeros}
 use Rattle.zfpi.{specs.World.{World, seen}, specs.declared.command.Command.TheVariants.{New}}
@@ -40,11 +39,11 @@ module _ {F : Type 0} (step : F → F → Type 0) (faults : F → ℕ) where
 -- ---- what is told
 
 -- the source gave what is told in other words
-Told-by : {c : Command} {answer : Result (List ℕ) LoadError} {given also : List ℕ → Type 0} {out out_now : Option (List ℕ)} {status : Status} {file : Option (List ℕ × List ℕ)} → ((bytes : List ℕ) → given bytes → also bytes) → Told c answer given out out_now status file → Told c answer also out out_now status file
+Told-by : {c : Command} {answer : Result (List ℕ) Status} {given also : List ℕ → Type 0} {out out_now : Option (List ℕ)} {status : Status} {file : Option (List ℕ × List ℕ)} → ((bytes : List ℕ) → given bytes → also bytes) → Told c answer given out out_now status file → Told c answer also out out_now status file
 Told-by more t = record { world = t.world; loaded = t.loaded; input = more t.world.input t.input; starved = t.starved; starved_are = t.starved_are; stated = t.stated; written = t.written; to_save = t.to_save }
 
 -- what was written stays what it was
-pub Told-stays : {c : Command} {answer : Result (List ℕ) LoadError} {given : List ℕ → Type 0} {out mid out_now : Option (List ℕ)} {status : Status} {file : Option (List ℕ × List ℕ)} → ((text : List ℕ) → Appends out mid text → Appends out out_now text) → Told c answer given out mid status file → Told c answer given out out_now status file
+pub Told-stays : {c : Command} {answer : Result (List ℕ) Status} {given : List ℕ → Type 0} {out mid out_now : Option (List ℕ)} {status : Status} {file : Option (List ℕ × List ℕ)} → ((text : List ℕ) → Appends out mid text → Appends out out_now text) → Told c answer given out mid status file → Told c answer given out out_now status file
 Told-stays stays t = record { world = t.world; loaded = t.loaded; input = t.input; starved = t.starved; starved_are = t.starved_are; stated = t.stated; written = stays _ t.written; to_save = t.to_save }
 
 -- work that was done writes all
@@ -56,7 +55,7 @@ may_save : (status : Status) (c : Command) (w : World) → is_work_done status �
 may_save status c w work may = search rules
 
 -- what a command did over a source that is at its end tells this, where it writes the same whatever it read
-pub Told-behaves : (c : Command) (answer : Result (List ℕ) LoadError) (given : List ℕ → Type 0) (out out_now : Option (List ℕ)) (status : Status) {known now : Option Files} → is_work_done status ≡ true → (b : Behaves c status (seen (Some []) out known) (seen (Some []) out_now now))
+pub Told-behaves : (c : Command) (answer : Result (List ℕ) Status) (given : List ℕ → Type 0) (out out_now : Option (List ℕ)) (status : Status) {known now : Option Files} → is_work_done status ≡ true → (b : Behaves c status (seen (Some []) out known) (seen (Some []) out_now now))
     → ((w : World) (starved taken : List ℕ) → (meaning c).text w starved taken ≡ (meaning c).text w starved w.input) → given [] → IsLoaded (meaning c).loads answer (b.world.files (meaning c).name) → Told c answer given out out_now status ((meaning c).saved b.world b.starved)
 Told-behaves c answer given out out_now status work b same none loaded = record {
   world = b.world;
@@ -94,7 +93,7 @@ module _ {A : Type 0} (S : Source A) (c : Command) where
 
 -- ---- at most one save, behind a load
 
-module _ {F : Type 0} (saves : F → List ℕ → List ℕ → Bool → F → Type 0) (faults : F → ℕ) (c : Command) (answer : Result (List ℕ) LoadError) where
+module _ {F : Type 0} (saves : F → List ℕ → List ℕ → Bool → F → Type 0) (faults : F → ℕ) (c : Command) (answer : Result (List ℕ) Status) where
   -- what the source gave is told in other words
   pub SavesOnce-by : (given also : List ℕ → Type 0) (out out_now : Option (List ℕ)) (status : Status) (before now : F) → ((bytes : List ℕ) → given bytes → also bytes) → SavesOnce saves faults c answer given out out_now status before now → SavesOnce saves faults c answer also out out_now status before now
   SavesOnce-by given also out out_now status before now more once = record { file = once.file; told = λ work. Told-by more (once.told work); save = once.save }
@@ -122,21 +121,13 @@ module _ {F : Type 0} (saves : F → List ℕ → List ℕ → Bool → F → Ty
 
 -- ---- the steps of a call
 
-no_failure : (e : LoadError) → load_status e ≡ LoadFault → e ≡ loading.Failed
-no_failure loading.Failed is = refl
-no_failure e is = absurd (cc)
+-- the status of an answer
+abbrev status_or : Status → Result (List ℕ) Status → Status
+status_or e (Err f) = f
+status_or e (Ok bytes) = e
 
--- the error of an answer
-abbrev error_or : LoadError → Result (List ℕ) LoadError → LoadError
-error_or e (Err f) = f
-error_or e (Ok bytes) = e
-
-no_work : (e : LoadError) → is_work_done (load_status e) ≡ false
-no_work loading.Missing = refl
-no_work e = refl
-
-module _ {F : Type 0} (loads : F → List ℕ → Result (List ℕ) LoadError → F → Type 0) (saves : F → List ℕ → List ℕ → Bool → F → Type 0) (faults : F → ℕ) (c : Command) (given : List ℕ → Type 0) (out out_now : Option (List ℕ)) where
-  abbrev step_of : Result (List ℕ) LoadError → F → F → Type 0
+module _ {F : Type 0} (loads : F → List ℕ → Result (List ℕ) Status → F → Type 0) (saves : F → List ℕ → List ℕ → Bool → F → Type 0) (faults : F → ℕ) (c : Command) (given : List ℕ → Type 0) (out out_now : Option (List ℕ)) where
+  abbrev step_of : Result (List ℕ) Status → F → F → Type 0
   step_of answer b n = loads b (meaning c).name answer n
 
   -- where the count did not rise there was no fault of the shelf
@@ -176,13 +167,13 @@ module _ {F : Type 0} (loads : F → List ℕ → Result (List ℕ) LoadError �
   }
 
   -- a load that was not
-  pub Steps-unloaded : (name : List ℕ) (e : LoadError) (before now : F) → (meaning c).loads ≡ true → (meaning c).name ≡ name → loads before name (Err e) now → HasCause (e ≡ loading.Failed) (faults before) (faults now) → Steps loads saves faults c given out out_now (load_status e) before now
-  Steps-unloaded name e before now loading named step cause = record {
+  pub Steps-unloaded : (name : List ℕ) (status : Status) (before now : F) → (meaning c).loads ≡ true → (meaning c).name ≡ name → loads before name (Err status) now → HasCause (status ≡ LoadFault) (faults before) (faults now) → is_work_done status ≡ false → Steps loads saves faults c given out out_now status before now
+  Steps-unloaded name status before now loading named step cause undone = record {
     loaded = now;
-    answer = Err e;
-    load = subst (λ b. Makes b (step_of (Err e)) faults (load_status e ≡ LoadFault) before now) (sym loading) (subst (λ n. loads before n (Err e) now) (sym named) step, (cause.0, λ is. cause.1 (no_failure e is)));
-    unloaded = λ f is. ap (λ r. load_status (error_or e r)) is;
-    once = SavesOnce-none saves faults c (Err e) given out out_now (load_status e) now (no_work e);
+    answer = Err status;
+    load = subst (λ b. Makes b (step_of (Err status)) faults (status ≡ LoadFault) before now) (sym loading) (subst (λ n. loads before n (Err status) now) (sym named) step, cause);
+    unloaded = λ why is. let same : status ≡ why = ap (status_or status) is in (same, ap is_work_done (sym same) ∙ undone);
+    once = SavesOnce-none saves faults c (Err status) given out out_now status now undone;
   }
 
   -- the same steps once what was written was handed on or not, of a command that saves nothing
@@ -200,7 +191,7 @@ module _ {F : Type 0} (loads : F → List ℕ → Result (List ℕ) LoadError �
       loaded = steps.loaded;
       answer = steps.answer;
       load = Makes-other (step_of steps.answer) faults (meaning c).loads (status ≡ LoadFault) (WriteFault ≡ LoadFault) before steps.loaded (λ is. absurd (cc)) steps.load;
-      unloaded = λ e is. absurd (not_done e (subst IsDone (steps.unloaded e is) cut.1));
+      unloaded = λ why is. let because = steps.unloaded why is in absurd (not_done why because.1 (subst IsDone because.0 cut.1));
       once = record {
         file = None;
         told = untold WriteFault refl;
@@ -212,17 +203,17 @@ module _ {F : Type 0} (loads : F → List ℕ → Result (List ℕ) LoadError �
     })
   ]
     where
-      not_done : (e : LoadError) → IsDone (load_status e) → ⊥
-      not_done e done = search rules
+      not_done : (why : Status) → is_work_done why ≡ false → IsDone why → ⊥
+      not_done why undone done = search rules
 
-module _ {F : Type 0} {loads : F → List ℕ → Result (List ℕ) LoadError → F → Type 0} {saves : F → List ℕ → List ℕ → Bool → F → Type 0} {faults : F → ℕ} {c : Command} where
+module _ {F : Type 0} {loads : F → List ℕ → Result (List ℕ) Status → F → Type 0} {saves : F → List ℕ → List ℕ → Bool → F → Type 0} {faults : F → ℕ} {c : Command} where
   -- what the source gave is told in other words
   pub Steps-by : (given also : List ℕ → Type 0) {out out_now : Option (List ℕ)} {status : Status} {before now : F} → ((bytes : List ℕ) → given bytes → also bytes) → Steps loads saves faults c given out out_now status before now → Steps loads saves faults c also out out_now status before now
   Steps-by given also more steps =
       record { loaded = steps.loaded; answer = steps.answer; load = steps.load; unloaded = steps.unloaded; once = SavesOnce-by saves faults c steps.answer given also _ _ _ _ _ more steps.once }
 
 -- a file of zeros was saved, or not
-module _ {F : Type 0} (loads : F → List ℕ → Result (List ℕ) LoadError → F → Type 0) (saves : F → List ℕ → List ℕ → Bool → F → Type 0) (faults : F → ℕ) (name : List ℕ) (ty : Ty) (ns : List ℕ) (b : ℕ) where
+module _ {F : Type 0} (loads : F → List ℕ → Result (List ℕ) Status → F → Type 0) (saves : F → List ℕ → List ℕ → Bool → F → Type 0) (faults : F → ℕ) (name : List ℕ) (ty : Ty) (ns : List ℕ) (b : ℕ) where
   pub Steps-new : (out : Option (List ℕ)) (status : Status) (before now : F) (bytes : List ℕ) → bytes ≡ file_of (zeros ty ns b) → is_work_done status ≡ true → (status ≡ Done) ⊎ (status ≡ SaveFault) → status ≢ LoadFault → saves before name bytes (is_saved status) now → HasCause (status ≡ SaveFault) (faults before) (faults now)
       → Steps loads saves faults (New name ty ns b) (λ bytes. bytes ≡ []) out out status before now
   Steps-new out status before now bytes is work ends no_load step cause = Steps-unshelved loads saves faults (New name ty ns b) (λ bytes. bytes ≡ []) out out status before now refl no_load (record {

@@ -19,7 +19,7 @@ use Rattle.zfpi.specs.World.{World}
 use Rattle.zfpi.specs.Words.{IsLines, IsCaching}
 use Rattle.zfpi.specs.Info.{header_bytes, TakesHeader, info_text}
 use Rattle.zfpi.specs.Opened.{array_in, stream_in, opened}
-use Rattle.zfpi.specs.Scripts.{Answering, TakesScript, reads_script, sees_script, OnWholeScript, IsRunnable, run_answers, run_file, look_answers, script_status, script_text, saved_of, AreStarved}
+use Rattle.zfpi.specs.Scripts.{Answering, TakesScript, reads_script, sees_script, OnScript, IsRunnable, run_answers, run_file, look_answers, script_status, script_text, saved_of, AreStarved}
 use Rattle.zfpi.specs.Certified.{certified_text, certified_status}
 use Rattle.zfpi.specs.Sample.{sample_text}
 
@@ -108,7 +108,7 @@ streaming = record plain { draft = compress_draft; extent = TakesStream; reads =
 abbrev pub scripting : Answering → (World → Result Said Status) → Meaning
 scripting answers file = record plain {
   status = λ w starved. script_status answers (file w) starved w.input;
-  starved_are = λ status w starved. OnWholeScript status (AreStarved answers (file w) starved w.input);
+  starved_are = λ status w starved. OnScript status (AreStarved answers (file w) starved w.input);
   text = λ w starved taken. script_text answers (file w) starved w.input;
   extent = TakesScript;
   reads = reads_script;

@@ -13,6 +13,7 @@ use Rattle.zfpi.specs.Statuses.{is_work_done}
 use Rattle.zfpi.specs.World.{seen, counts}
 use Rattle.zfpi.specs.Answer.{meaning}
 use Rattle.zfpi.specs.Steps.{Gave, Told, Steps, IsShelfless}
+use Rattle.zfpi.specs.Fetching.{Fetches}
 use Rattle.zfpi.specs.Loaded.{HoldsFile}
 use Rattle.zfpi.specs.Headline.{OfCommand, OnUsage, RefusesWords, Behaves, HasCauses, StopsAtEnd, IsSent}
 
@@ -37,7 +38,7 @@ pub record Fulfils {A B C : Type 0} (S : Source A) (O : Sink B) (F : Shelf C) (c
   pub causes : HasCauses c status (counts (S.faults src) (O.faults out))
       (counts (S.faults src_now) (O.faults out_now)) (S.never_fails src) (S.never_fails src_now)
   pub stops : StopsAtEnd ((meaning c).reads status) ((meaning c).sees_end status) (S.ends_seen src) (S.ends_seen src_now)
-  pub steps : Steps F.loads F.saves F.faults c (Gave S c src src_now)
+  pub steps : Steps (Fetches F.fronts F.loads) F.saves F.faults c (Gave S c src src_now)
       (O.contents out) (O.contents out_now) status shelf shelf_now
   pub sure_shelf : F.never_fails shelf → (status ≢ LoadFault) × F.never_fails shelf_now
   pub sure_saves : F.always_saves shelf → (status ≢ SaveFault) × F.always_saves shelf_now

@@ -12,6 +12,7 @@
 --     Certified   the line that `bound` writes
 --     Answer      what a command is: one record a command
 --     Steps       the loads and saves of a call, one after another
+--     Fetching    how a command gets the bytes of a stream's file
 --     Accesses    what a script does with a file by its access
 --     Subjects    what a script works on, and how a run over it ends
 --     Loaded      what a command has loaded, and what it is opened as
@@ -32,6 +33,7 @@ pub mod Scripts
 pub mod Certified
 pub mod Answer
 pub mod Steps
+pub mod Fetching
 pub mod Accesses
 pub mod Subjects
 pub mod Loaded

@@ -149,12 +149,13 @@ sees_script statuses.WriteFault = true
 sees_script statuses.SaveFault = true
 sees_script status = false
 
--- this holds where the whole of a script was run
-abbrev pub OnWholeScript : Status → Type 0 → Type 0
-OnWholeScript statuses.Done P = P
-OnWholeScript (statuses.Lines n) P = P
-OnWholeScript statuses.SaveFault P = P
-OnWholeScript status P = Unit {0}
+-- this holds where lines of a script were run: all of them, or those up to the reply that was not written whole
+abbrev pub OnScript : Status → Type 0 → Type 0
+OnScript statuses.Done P = P
+OnScript (statuses.Lines n) P = P
+OnScript statuses.WriteFault P = P
+OnScript statuses.SaveFault P = P
+OnScript status P = Unit {0}
 
 -- the file is opened so, and the input a script
 abbrev pub IsRunnable : Result Said Status → World → Type 0

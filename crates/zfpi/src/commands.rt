@@ -3,6 +3,7 @@
 pub mod bound;
 pub mod compress;
 pub mod compress_narrow;
+pub mod fetching;
 pub mod info;
 pub mod kinds;
 pub mod line;

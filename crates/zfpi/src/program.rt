@@ -5,6 +5,7 @@ ghost use Rattle.zf_dev.specs.Faults.{IsQuiet};
 ghost use Rattle.zfpi.specs.Statuses.{error_line};
 ghost use Rattle.zfpi.specs.World.{seen, counts};
 ghost use Rattle.zfpi.specs.Answer.{meaning};
+ghost use Rattle.zfpi.specs.Fetching.{Fetches};
 ghost use Rattle.zfpi.specs.Steps.{Gave, Steps};
 ghost use Rattle.zfpi.specs.Calls.{Fulfils, HeedsWords};
 ghost use Rattle.zfpi.specs.Headline.{OfCommand, OnUsage, RefusesWords, Behaves, HasCauses, StopsAtEnd, IsSent, AreQuiet, IsComplete, GivesBack, Sends};
@@ -51,7 +52,7 @@ pub fn zfpi<S: Source, O: Sink, E: Sink, F: Shelf>(
     // Also over devices that expose nothing: what was loaded, given, answered, written and saved is told of
     // one world.
     ensures steps { OfCommand (map string_bytes words.now)
-        (λ c. Steps F.loads F.saves F.faults c (Gave S.Source c src.old src.new)
+        (λ c. Steps (Fetches F.fronts F.loads) F.saves F.faults c (Gave S.Source c src.old src.new)
         (O.contents out.old) (O.contents out.new) result shelf.old shelf.new) }
     ensures sure_shelf { F.never_fails shelf.old → (result ≢ Status.LoadFault) × F.never_fails shelf.new }
     ensures sure_saves { F.always_saves shelf.old → (result ≢ Status.SaveFault) × F.always_saves shelf.new }

@@ -8,10 +8,12 @@ ghost use Rattle.zf_parse.specs.ReadStreams.{IsFault};
 ghost use Rattle.zf_bound.specs.Bounds.{IsGood, certified_of};
 ghost use Rattle.zfpi.specs.declared.command.Command.TheVariants.{Bound};
 ghost use Rattle.zfpi.specs.World.{seen, counts};
+ghost use Rattle.zfpi.specs.Fetching.{Fetches};
 ghost use Rattle.zfpi.specs.Steps.{Steps};
 ghost use Rattle.zfpi.specs.Calls.{Certifies};
 ghost use Rattle.zfpi.specs.Headline.{Behaves, HasCauses};
 
+use crate::commands::fetching::fetch;
 use crate::commands::line::bound_line;
 use crate::status::Status;
 use crate::words::name::Name;
@@ -19,7 +21,7 @@ use std::alloc::Global;
 use zf_base::Ty;
 use zf_bound::Certified;
 use zf_dev::{Shelf, Sink, write_all};
-use zf_header::{Header, MAX_FILE, Mode, mode_number};
+use zf_header::{Header, Mode, mode_number};
 use zf_index::IndexFault;
 
 /// Loads the file of this name, which is a stream of a fixed rate, and writes a line that says how far its
@@ -36,14 +38,14 @@ pub fn bound<O: Sink, F: Shelf>(
         (seen src (O.contents out.new) (F.files shelf.new)) }
     ensures causes { (src : ℕ) → HasCauses (Bound name.now most) result
         (counts src (O.faults out.old)) (counts src (O.faults out.new)) (Unit {0}) (Unit {0}) }
-    ensures steps { Steps F.loads F.saves F.faults (Bound name.now most) (λ bytes. bytes ≡ [])
-        (O.contents out.old) (O.contents out.new) result shelf.old shelf.new }
+    ensures steps { Steps (Fetches F.fronts F.loads) F.saves F.faults (Bound name.now most)
+        (λ bytes. bytes ≡ []) (O.contents out.old) (O.contents out.new) result shelf.old shelf.new }
     ensures sure_shelf { F.never_fails shelf.old → (result ≢ Status.LoadFault) × F.never_fails shelf.new }
     ensures sure_saves { F.always_saves shelf.old → (result ≢ Status.SaveFault) × F.always_saves shelf.new }
 {
-    match shelf.load(alloc, name.as_str(), MAX_FILE) {
+    match fetch(alloc, name, shelf) {
         Ok(file) => bound_file(alloc, name, most, &file, out),
-        Err(error) => Status::from(error),
+        Err(status) => status,
     }
 }
 

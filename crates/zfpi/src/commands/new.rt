@@ -7,6 +7,7 @@ ghost use Rattle.zf_store.specs.Stored.{file_of, zeros};
 ghost use Rattle.zfpi.specs.declared.command.Command.TheVariants.{New};
 ghost use Rattle.zfpi.specs.World.{seen, counts};
 ghost use Rattle.zfpi.specs.Answer.{meaning};
+ghost use Rattle.zfpi.specs.Fetching.{Fetches};
 ghost use Rattle.zfpi.specs.Steps.{Steps};
 ghost use Rattle.zfpi.specs.Headline.{Behaves, HasCauses};
 
@@ -34,8 +35,8 @@ pub fn new<F: Shelf>(
         (seen src out (F.files shelf.old)) (seen src out (F.files shelf.new)) }
     ensures causes { (src out : ℕ) → HasCauses (New name.now ty shape bits) result
         (counts src out) (counts src out) (Unit {0}) (Unit {0}) }
-    ensures steps { (out : Option (List ℕ)) → Steps F.loads F.saves F.faults (New name.now ty shape bits)
-        (λ bytes. bytes ≡ []) out out result shelf.old shelf.new }
+    ensures steps { (out : Option (List ℕ)) → Steps (Fetches F.fronts F.loads) F.saves F.faults
+        (New name.now ty shape bits) (λ bytes. bytes ≡ []) out out result shelf.old shelf.new }
     ensures sure_shelf { F.never_fails shelf.old → (result ≢ Status.LoadFault) × F.never_fails shelf.new }
     ensures sure_saves { F.always_saves shelf.old → (result ≢ Status.SaveFault) × F.always_saves shelf.new }
 {

@@ -10,6 +10,7 @@ ghost use Rattle.zfpi.specs.Rungs.{WorksOn, Answers};
 ghost use Rattle.zfpi.specs.Calls.{Fulfils};
 
 use crate::command::Access;
+use crate::commands::fetching::fetch;
 use crate::commands::scripts::MAX_SCRIPT;
 use crate::commands::sending::send;
 use crate::commands::target::{Loaded, Target};
@@ -18,7 +19,7 @@ use crate::words::name::Name;
 use std::alloc::Global;
 use zf_base::{Lane, Ty};
 use zf_dev::{Shelf, Sink, Source, take_all};
-use zf_header::{MAX_FILE, Mode, mode_number};
+use zf_header::{Mode, mode_number};
 use zf_run::RunEnd;
 
 /// Loads the file of this name, reads a script to its end, does with the file by this access what it says,
@@ -36,9 +37,9 @@ pub fn script<S: Source, O: Sink, F: Shelf>(
     ensures { Fulfils S.Source O.Sink F.Shelf (command_on access name.now) result src.old src.new
         out.old out.new shelf.old shelf.new }
 {
-    match shelf.load(alloc, name.as_str(), MAX_FILE) {
+    match fetch(alloc, name, shelf) {
         Ok(file) => on_file(alloc, name, access, file, src, out, shelf),
-        Err(error) => Status::from(error),
+        Err(status) => status,
     }
 }
 

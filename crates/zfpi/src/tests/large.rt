@@ -125,6 +125,8 @@ impl Shelf for Overlong {
 
     ghost faults = { λ s. 0 };
 
+    ghost fronts = { λ old name count answer new. Unit {0} };
+
     ghost loads = { λ old name answer new. Unit {0} };
 
     ghost saves = { λ old name bytes ok new. Unit {0} };
@@ -132,6 +134,16 @@ impl Shelf for Overlong {
     ghost never_fails = { λ s. Unit {0} };
 
     ghost always_saves = { λ s. Unit {0} };
+
+    fn front(
+        &mut self,
+        _alloc: Global,
+        _name: &str,
+        _max: u64,
+        _count: usize,
+    ) -> Result<Vec<u8>, LoadError> {
+        Err(LoadError::Long)
+    }
 
     fn load(&mut self, _alloc: Global, _name: &str, _max: u64) -> Result<Vec<u8>, LoadError> {
         Err(LoadError::Long)

@@ -1,4 +1,5 @@
 use Rattle.std.proofs.Common.{◌≡◌, [], Some, None, Ok, refl}
+use Rattle.zfpi.specs.Fetching.{Fetches}
 use Rattle.zfpi.specs.Steps.{Gave}
 use Rattle.zfpi.specs.declared.command.Command.TheVariants.{Compress, CompressNarrow, Restore, RestoreNarrow, Info, New, Bound, Sample}
 use Rattle.zfpi.{proofs.Causes.{HasCauses-sure}, proofs.Stopping.{StopsAtEnd-same}}
@@ -40,7 +41,7 @@ returns-in-Bound g c =
       behaves = behaves;
       causes = HasCauses-sent bound _ _ tt _ _ _ _ _ (HasCauses-sure _ _ _ _ (c.bound.ensures.causes _)) sends;
       stops = StopsAtEnd-same _ _ _;
-      steps = Steps-by (λ bytes. bytes ≡ []) _ (λ bytes is. Gave-none g.S.Source bound _ bytes refl is) (Steps-sent g.F.Shelf.loads g.F.Shelf.saves g.F.Shelf.faults bound _ _ _ _ _ _ _ _ refl sends.ends (λ text written. Appends-stays _ _ _ text written sends.stays) c.bound.ensures.steps);
+      steps = Steps-by (λ bytes. bytes ≡ []) _ (λ bytes is. Gave-none g.S.Source bound _ bytes refl is) (Steps-sent (Fetches g.F.Shelf.fronts g.F.Shelf.loads) g.F.Shelf.saves g.F.Shelf.faults bound _ _ _ _ _ _ _ _ refl sends.ends (λ text written. Appends-stays _ _ _ text written sends.stays) c.bound.ensures.steps);
       sure_shelf = λ sure. let loaded = c.bound.ensures.sure_shelf sure in (unloaded_sent _ _ loaded.0 sends, loaded.1);
       sure_saves = λ sure. let saved = c.bound.ensures.sure_saves sure in (unsaved_sent _ _ saved.0 sends, saved.1);
       sent = λ flushed. IsSent-sent bound _ _ tt _ _ _ _ _ behaves (c.bound.ensures.causes 0).writing.0 sends;

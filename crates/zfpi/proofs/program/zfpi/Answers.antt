@@ -1,4 +1,5 @@
 use Rattle.std.proofs.Common.{rules, map, string_bytes}
+use Rattle.zfpi.specs.Fetching.{Fetches}
 use Rattle.zfpi.{proofs.Stepping.{Steps-quiet}, proofs.Promises.{IsComplete-quiet, GivesBack-behaves}}
 use Rattle.zfpi.proofs.program.zfpi.Goals as goal
 
@@ -20,7 +21,7 @@ returns g c =
       complete = λ quiet d spelled.
           let done = fulfils d spelled in
           IsComplete-quiet d status _ _ _ _ _ _ done.behaves done.causes quiet.src quiet.out
-          (Steps-quiet g.F.Shelf.loads g.F.Shelf.saves g.F.Shelf.faults d _ _ _ status c.args.shelf.now c.answer-status.new.shelf done.steps quiet.shelf);
+          (Steps-quiet (Fetches g.F.Shelf.fronts g.F.Shelf.loads) g.F.Shelf.saves g.F.Shelf.faults d _ _ _ status c.args.shelf.now c.answer-status.new.shelf done.steps quiet.shelf);
       message = search rules;
       message_sent = search rules;
     }

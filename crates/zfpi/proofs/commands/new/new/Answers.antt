@@ -1,4 +1,5 @@
 use Rattle.std.proofs.Common.{[], Ok, inl, inr, refl, ◌∙◌}
+use Rattle.zfpi.specs.Fetching.{Fetches}
 use Rattle.zfpi.specs.declared.status.Status.TheVariants.{Done, LoadFault, SaveFault, Memory}
 use Rattle.zfpi.{proofs.Statuses.{differ}, proofs.Making.{Behaves-saved, Behaves-unsaved, Behaves-starved}}
 use Rattle.zfpi.specs.declared.command.Command.TheVariants.{New}
@@ -20,14 +21,14 @@ returns-clause-behaves g c = λ src out. Behaves-starved c.args.name.now c.args.
 
 pub returns-in-Ok-save-clause-steps : goal.returns-in-Ok-save-clause-steps
 returns-in-Ok-save-clause-steps g c = λ out.
-    Steps-new g.F.Shelf.loads g.F.Shelf.saves g.F.Shelf.faults c.args.name.now c.args.ty c.args.shape c.args.bits out Done _ _ c.deref.result.now (c.deref.ensures.value ∙ c.in-Ok.ensures) refl (inl refl) (differ Done LoadFault refl) (rw c.as_str.ensures at c.in-Ok-save.ensures.step) (c.save.ensures.cause.0, λ is. absurd (differ Done SaveFault refl is))
+    Steps-new (Fetches g.F.Shelf.fronts g.F.Shelf.loads) g.F.Shelf.saves g.F.Shelf.faults c.args.name.now c.args.ty c.args.shape c.args.bits out Done _ _ c.deref.result.now (c.deref.ensures.value ∙ c.in-Ok.ensures) refl (inl refl) (differ Done LoadFault refl) (rw c.as_str.ensures at c.in-Ok-save.ensures.step) (c.save.ensures.cause.0, λ is. absurd (differ Done SaveFault refl is))
 
 pub returns-in-Ok-clause-steps : goal.returns-in-Ok-clause-steps
 returns-in-Ok-clause-steps g c = λ out.
-    Steps-new g.F.Shelf.loads g.F.Shelf.saves g.F.Shelf.faults c.args.name.now c.args.ty c.args.shape c.args.bits out SaveFault _ _ c.deref.result.now (c.deref.ensures.value ∙ c.in-Ok.ensures) refl (inr refl) (differ SaveFault LoadFault refl) (rw c.as_str.ensures at c.in-Err-save.ensures.step) (c.in-Err-save.ensures.cause.0, λ is. c.in-Err-save.ensures.cause.1 refl)
+    Steps-new (Fetches g.F.Shelf.fronts g.F.Shelf.loads) g.F.Shelf.saves g.F.Shelf.faults c.args.name.now c.args.ty c.args.shape c.args.bits out SaveFault _ _ c.deref.result.now (c.deref.ensures.value ∙ c.in-Ok.ensures) refl (inr refl) (differ SaveFault LoadFault refl) (rw c.as_str.ensures at c.in-Err-save.ensures.step) (c.in-Err-save.ensures.cause.0, λ is. c.in-Err-save.ensures.cause.1 refl)
 
 pub returns-clause-steps : goal.returns-clause-steps
 returns-clause-steps g c = λ out.
     let command = New c.args.name.now c.args.ty c.args.shape c.args.bits in
     let none = SavesOnce-none g.F.Shelf.saves g.F.Shelf.faults command (Ok []) _ out out Memory c.args.shelf.now refl in
-    Steps-unshelved g.F.Shelf.loads g.F.Shelf.saves g.F.Shelf.faults command _ out out Memory _ _ refl (differ Memory LoadFault refl) none
+    Steps-unshelved (Fetches g.F.Shelf.fronts g.F.Shelf.loads) g.F.Shelf.saves g.F.Shelf.faults command _ out out Memory _ _ refl (differ Memory LoadFault refl) none

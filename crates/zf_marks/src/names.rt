@@ -1,23 +1,23 @@
 //! The digits with which the names end that saves draw.
 
 /// How many digits a number has.
-pub(crate) const DIGITS: usize = 16;
+pub const DIGITS: usize = 16;
 
 /// Writes the last digits of a name anew, as those of a number.
-pub(crate) fn put_number(name: &mut String, value: u64) {
+pub fn put_number(name: &mut String, value: u64) {
     take_number(name);
     add_number(name, value);
 }
 
 /// Takes the last digits of a name away.
-pub(crate) fn take_number(name: &mut String) {
+pub fn take_number(name: &mut String) {
     for _ in 0..DIGITS {
         name.pop();
     }
 }
 
 /// Writes the digits of a number behind a name, from which as many were taken, so that no memory is asked for.
-pub(crate) fn add_number(name: &mut String, value: u64) {
+pub fn add_number(name: &mut String, value: u64) {
     for at in 0..16u32 {
         let digit = (value >> (60 - 4 * at)) % 16;
         let _ = name.push(char::from_digit(digit as u32, 16).unwrap_or('0'));
@@ -25,7 +25,7 @@ pub(crate) fn add_number(name: &mut String, value: u64) {
 }
 
 /// The number with which a name ends that is this stem and a number.
-pub(crate) fn number_behind(stem: &str, name: &[u8]) -> Option<u64> {
+pub fn number_behind(stem: &str, name: &[u8]) -> Option<u64> {
     let digits = name.strip_prefix(stem.as_bytes())?;
     if digits.len() != DIGITS {
         return None;

@@ -3,13 +3,13 @@
 
 ghost use Rattle.std.specs.Prelude.{◌≡◌, ◌≤◌, ◌<◌, length};
 
-use crate::names::{number_behind, put_number};
 use std::alloc::Global;
 use std::fs::{File, Files, OpenOptions, TryLockError};
 use std::io::{ErrorKind, Read};
 use std::os::unix::fs::{FileExt, MetadataExt, OpenOptionsExt};
 use std::random::RandomSource;
 use std::{fs, io};
+use zf_marks::{number_behind, put_number};
 
 // How often another name is drawn, where one is taken.
 const MOST_NAMES: u32 = 16;

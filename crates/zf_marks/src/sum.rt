@@ -8,14 +8,14 @@ const SECOND: u64 = 0xC2B2_AE3D_27D4_EB4F;
 /// What bytes add up to, in two ways. Other bytes have another sum, but for one case among so many that only who
 /// looks for it finds it.
 #[derive(Clone, Copy, PartialEq, Eq)]
-pub(crate) struct Sum {
+pub struct Sum {
     first: u64,
     second: u64,
 }
 
 impl Sum {
     /// The sum of no bytes.
-    pub(crate) fn new() -> Sum {
+    pub fn new() -> Sum {
         Sum {
             first: FIRST,
             second: SECOND,
@@ -24,7 +24,7 @@ impl Sum {
 
     /// The sum with these bytes behind. Pieces of words of eight bytes, but for the last one, add up as they do
     /// together.
-    pub(crate) fn with(self, bytes: &[u8]) -> Sum {
+    pub fn with(self, bytes: &[u8]) -> Sum {
         let (words, rest) = bytes.as_chunks::<8>();
         let mut sum = self;
         for word in words {

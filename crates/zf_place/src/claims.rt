@@ -9,12 +9,12 @@
 ghost use Rattle.std.specs.Prelude.{◌≡◌, ◌≤◌, ◌<◌, length};
 
 use crate::beside::open_to_lock;
-use crate::names::{DIGITS, add_number, number_behind, put_number, take_number};
 use std::alloc::Global;
 use std::fs::{File, Files, Metadata, OpenOptions};
 use std::io::{ErrorKind, Write};
 use std::os::unix::fs::{FileExt, MetadataExt, OpenOptionsExt};
 use std::{fs, io};
+use zf_marks::{DIGITS, add_number, number_behind, put_number, take_number};
 
 // More bytes than a claim has that is a file: a name in a folder, and what bars it.
 const MOST: usize = 300;

@@ -1,4 +1,4 @@
-use Rattle.zf_dev.proofs.place.holds.Given as goal
+use Rattle.zf_place.proofs.place.holds.Given as goal
 
 abbrev pub invariant-loop-piece : goal.invariant-loop-piece
 invariant-loop-piece l =

@@ -1,14 +1,10 @@
 //! Where a file lies, what was seen there, and how another one is put in its place.
 
-ghost use Rattle.std.specs.Prelude.{◌≡◌, ◌↔◌, ◌⊎◌, IsTrue};
-ghost use Rattle.zf_dev.specs.declared.place.Seen.TheVariants as seeing;
-
 use crate::access::copy_access;
 use crate::beside::{Beside, has_name};
 use crate::claims::{Claim, Claims};
 use crate::limits::{caller, most_bytes};
 use crate::stack::grow;
-use crate::sum::Sum;
 use std::alloc::Global;
 use std::fs::{File, Files, Metadata};
 use std::io::{ErrorKind, Write};
@@ -18,6 +14,7 @@ use std::random::RandomSource;
 use std::rt::Clock;
 use std::time::Duration;
 use std::{fs, io};
+use zf_marks::{Seen, Sum};
 
 // The most bytes that are compared at once.
 const PIECE: usize = 4096;
@@ -45,64 +42,9 @@ const MOST_LINKS: u32 = 40;
 // The bit of a folder in which files are renamed by owners alone.
 const STICKY: u32 = 0o1000;
 
-/// What tells a file from each other one, and from what it was. The first time is that of its bytes, which can be
-/// put back; the second one is that of its last change of any kind, which can't.
-#[derive(Clone, Copy, PartialEq, Eq)]
-pub(crate) struct Mark {
-    device: u64,
-    number: u64,
-    len: u64,
-    written: i64,
-    changed: i64,
-}
-
-impl Mark {
-    // Whether this is the same file with as many bytes as that one, of the same time.
-    fn is_of_same_bytes(self, other: Mark) -> bool
-        ensures { IsTrue result ↔ ((self.device ≡ other.device) × (self.number ≡ other.number)
-            × (self.len ≡ other.len) × (self.written ≡ other.written)) }
-    {
-        let changed = other.changed;
-        Mark { changed, ..self } == other
-    }
-}
-
-// A time in nanoseconds.
-fn nanos_of(seconds: i64, nanos: i64) -> i64 {
-    seconds.wrapping_mul(1_000_000_000).wrapping_add(nanos)
-}
-
-/// What lay at a name when it was loaded or saved last.
-#[derive(Clone, Copy, PartialEq, Eq)]
-pub(crate) enum Seen {
-    /// It was neither loaded nor saved.
-    Unasked,
-    Nothing,
-    File(Mark),
-}
-
-impl Seen {
-    pub(crate) fn file(found: &Metadata) -> Seen {
-        Seen::File(Mark {
-            device: found.dev(),
-            number: found.ino(),
-            len: found.len(),
-            written: nanos_of(found.mtime(), found.mtime_nsec()),
-            changed: nanos_of(found.ctime(), found.ctime_nsec()),
-        })
-    }
-
-    // Whether a new file may take the place of what is found there.
-    fn allows(self, found: Seen) -> bool
-        ensures { IsTrue result ↔ ((self ≡ seeing.Unasked) ⊎ (self ≡ found)) }
-    {
-        self == Seen::Unasked || self == found
-    }
-}
-
 /// A file's name, and where it leads. All text that a save needs is made with it.
 #[derive(Drop)]
-pub(crate) struct Place {
+pub struct Place {
     alloc: Global,
     name: String,
     path: String,
@@ -120,7 +62,7 @@ pub(crate) struct Place {
 
 impl Place {
     /// Where this name leads. A link is followed, and one that leads nowhere is an error.
-    pub(crate) fn new<R: Files + RandomSource>(
+    pub fn new<R: Files + RandomSource>(
         alloc: Global,
         system: &R,
         name: &str,
@@ -148,18 +90,18 @@ impl Place {
         })
     }
 
-    pub(crate) fn is_of(&self, name: &str) -> bool {
+    pub fn is_of(&self, name: &str) -> bool {
         self.name.as_str() == name
     }
 
     /// Remembers that nothing lies there.
-    pub(crate) fn see_nothing(&mut self) {
+    pub fn see_nothing(&mut self) {
         self.seen = Seen::Nothing;
         self.kept = None;
     }
 
     /// Remembers that a file with these bytes lies there.
-    pub(crate) fn see_file(&mut self, found: &Metadata, file: File, bytes: &[u8]) {
+    pub fn see_file(&mut self, found: &Metadata, file: File, bytes: &[u8]) {
         self.seen = Seen::file(found);
         self.kept = Some(file);
         self.sum = Sum::new().with(bytes);
@@ -190,7 +132,7 @@ impl Place {
     }
 
     /// The file that lies there, if one does. What is no plain file is not opened.
-    pub(crate) fn open<R: Files<File = File>>(&self, system: &R) -> io::Result<Option<File>> {
+    pub fn open<R: Files<File = File>>(&self, system: &R) -> io::Result<Option<File>> {
         if self.look(system)? == Seen::Nothing {
             return Ok(None);
         }
@@ -204,7 +146,7 @@ impl Place {
     /// Makes `bytes` the file that lies there, where they are not what was seen last. Where another file lies
     /// there than was seen, it stays, and that is an error. After each error but one of the last step, which
     /// brings the folder to the disk, all is as it was.
-    pub(crate) fn replace<R: Files<File = File> + Clock + RandomSource>(
+    pub fn replace<R: Files<File = File> + Clock + RandomSource>(
         &mut self,
         system: &R,
         bytes: &[u8],

@@ -1,0 +1,1 @@
+-- No lemma of its own is needed.

@@ -1,0 +1,1 @@
+-- What the contracts of zf_marks cite: nothing but its own types.
