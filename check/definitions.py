@@ -4,6 +4,8 @@
     python3 check/definitions.py [PROGRAM] [--seed N] [--quick]
 
 Of each call: its exit code, what it writes, its error line, and each file of its folder afterwards.
+Most arrays have at most some hundred values. Those of large.py have up to 6,000 blocks, in each type, mode
+and number of dimensions, for which numpy is needed, and its long scripts run on files of up to 200 KB.
 """
 
 import math
@@ -11,6 +13,7 @@ import math
 from calls import Calls, shape_word
 from definition.commands import WIDTHS, answer
 from definition.streams import NARROW
+from large import Large
 from shared import Check, files_of, put_files
 
 CASES, QUICK_CASES = 8000, 400
@@ -107,7 +110,8 @@ class Definitions:
             *[self.words] * 2,
             self.sample,
         )
-        while self.check.passed + self.check.failed < cases:
+        begun = self.check.passed + self.check.failed
+        while self.check.passed + self.check.failed < begun + cases:
             self.random.choice(kinds)()
 
 
@@ -118,6 +122,9 @@ def main():
     made = check.run(["compress", "int32", "2", "reversible"], bytes(8)).out
     definitions.compare(["look", "a"], too_long, {"a": made})
     definitions.compare(["look", "a"], too_long[1:], {"a": made})
+    large = Large(check)
+    large.arrays()
+    large.long_scripts()
     definitions.all(QUICK_CASES if check.quick else CASES)
     if not check.quick:
         missing = (CODES | REFUSALS) - definitions.reached

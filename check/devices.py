@@ -11,12 +11,15 @@ leaves out the saves of large files.
 import contextlib
 import os
 import pathlib
+import pty
 import resource
 import shutil
 import signal
 import stat
 import subprocess
+import threading
 import time
+import tty
 
 from definition.commands import answer
 from shared import Check, error_line
@@ -34,6 +37,11 @@ LEFT_OVER = {
     ".a.zfpi-ffffffffffffffff": b"",
 }
 MOST_FILE_BYTES = 1_200_000_000
+# What goes through a command where its first pieces are not all of it.
+MUCH = 204_800
+LONGER = "input is longer than the shape"
+# How often what lasts some milliseconds is looked for.
+MOST_TRIES = 20
 SAVE_FAULT, LOAD_FAULT = (12, "save fault"), (12, "load fault")
 READ_FAULT, WRITE_FAULT = (10, "read fault"), (11, "write fault")
 GOOD = (0, "")
@@ -164,6 +172,77 @@ def outputs(devices):
     devices.check.expect((run.returncode, run.stderr) == (22, b""), "words that are no UTF-8", run)
 
 
+def large_inputs(devices):
+    """Inputs that fail behind their first 4 KiB and 64 KiB: what came before is not taken for all of them."""
+    try:
+        for end in pty.openpty():
+            os.close(end)
+    except OSError:
+        devices.check.skip("inputs that fail behind 4 KiB and 64 KiB (no terminal can be made)")
+        return
+    raw = os.urandom(MUCH)
+    stream = devices.check.run(f"compress int32 {MUCH // 4} reversible".split(), raw).out
+    gets = b"get 0\n" * 60_000
+    calls = ((f"compress int32 {MUCH // 4} reversible", raw), ("restore", stream), ("look a", gets))
+    calls += (("run a", b"set 0 7\n" + gets), ("compress int32 1024 reversible", raw))
+    devices.put("a", ARRAY)
+    for words, data in calls:
+        for count in (1, 4095, 4097, 65_535, 65_537, 150_001):
+            failing_input(devices, f"the input fails behind {count} bytes", words, data[:count])
+    devices.has("the input fails", "a", ARRAY)
+    devices.nothing_beside("the input fails")
+
+
+def failing_input(devices, shows, words, data):
+    """Runs the program on a terminal's far end, which gives these bytes and then an error."""
+    source, near = pty.openpty()
+    tty.setraw(near)
+    run = devices.start(words, stdin=source, stdout=subprocess.PIPE)
+    os.close(source)
+    drain = threading.Thread(target=finish_into, args=(run, ending := []))
+    drain.start()
+    with contextlib.suppress(OSError):
+        left = data
+        while left:
+            left = left[os.write(near, left[:4000]) :]
+    os.close(near)
+    drain.join()
+    written, told = ending[0]
+    # An input that was longer than the shape is refused before it fails.
+    wanted = [READ_FAULT] if len(data) <= 4096 or "1024" not in words else [READ_FAULT, (3, LONGER)]
+    seen = (run.returncode, told)
+    is_wanted = seen in [(code, error_line(line)) for code, line in wanted]
+    is_nothing = written == b"" or not words.startswith(("look", "run"))
+    devices.check.expect(is_wanted and is_nothing, f"{shows}: {words}", *seen, len(written))
+
+
+def finish_into(run, ending):
+    ending.append(finished(run, None))
+
+
+def large_outputs(devices):
+    """Outputs that fill up behind their first 4 KiB and 64 KiB."""
+    raw, limit = os.urandom(MUCH), {"restore_signals": False}
+    stream = devices.check.run(f"compress int32 {MUCH // 4} reversible".split(), raw).out
+    array = devices.check.run(f"compress int32 {MUCH // 4} rate 160".split(), raw).out
+    script = b"set 0 7\n" + b"".join(b"get %d\n" % (k * 3 % (MUCH // 4)) for k in range(30_000))
+    file = devices.put("o", b"")
+    calls = ((f"compress int32 {MUCH // 4} reversible", raw), ("restore", stream))
+    for words, data in calls + (("run a", script), ("look a", script[8:])):
+        devices.put("a", array)
+        whole = devices.check.run(words.split(), data, devices.folder).out
+        devices.put("a", array)
+        devices.check.expect(len(whole) > MUCH * 9 // 10, f"{words} writes {len(whole)} bytes")
+        for most in (4096, 5000, 65_536, 70_000, 131_072, 150_000):
+            shows = f"an output of {most} bytes"
+            with file.open("wb") as out:
+                limit["preexec_fn"] = limit_of_files(most)
+                devices.ends(shows, words, WRITE_FAULT, data, stdout=out, **limit)
+            devices.has(f"{shows}: {words}", "o", whole[:most])
+            devices.has(f"{shows}: {words}", "a", array)
+    devices.nothing_beside("large outputs")
+
+
 def broken_pipe(devices):
     """A reader that leaves: the run ends at once, by its status or by the system's signal."""
     reader, writer = os.pipe()
@@ -203,6 +282,30 @@ def names(devices):
     devices.folder.chmod(0o777)
     devices.has(shows, "a", ARRAY)
     devices.check.expect(not (devices.folder / "n").exists(), shows)
+
+
+def folders_not_to_be_read(devices):
+    """In a folder that may be written and not read a save fails, and nothing else does; in one that may not
+    be entered nothing is found."""
+    devices.put("a", ARRAY)
+    shows = "a folder that may not be read"
+    devices.folder.chmod(0o311)
+    devices.ends(shows, "look a", GOOD, LOOK, out=b"0\n")
+    devices.ends(shows, "bound a 9", GOOD)
+    devices.ends(shows, "run a", GOOD, b"get 0\n", out=b"0\n")
+    devices.ends(shows, "run a", SAVE_FAULT, SCRIPT, out=b"7\n")
+    devices.ends(shows, "new a int32 8 64", GOOD, out=b"")
+    devices.ends(shows, "new a int32 16 64", SAVE_FAULT, out=b"")
+    devices.ends(shows, "new n int32 8 64", SAVE_FAULT, out=b"")
+    devices.folder.chmod(0o666)
+    shows = "a folder that may not be entered"
+    devices.ends(shows, "look a", LOAD_FAULT, LOOK, out=b"")
+    devices.ends(shows, "run a", LOAD_FAULT, SCRIPT, out=b"")
+    devices.ends(shows, "new a int32 16 64", SAVE_FAULT, out=b"")
+    devices.folder.chmod(0o777)
+    devices.has(shows, "a", ARRAY)
+    devices.check.expect(not (devices.folder / "n").exists(), shows)
+    devices.nothing_beside("folders that may not be read")
 
 
 def kinds_of_file(devices):
@@ -299,7 +402,7 @@ def two_at_once(devices):
 
 
 def touched_in_place(devices):
-    """What was written into the file is found, also where its time was put back; another mode is no change."""
+    """What was written into the file is found, also where its time was put back; a new mode is no change."""
     file = devices.put("a", ARRAY)
     other, was = answer(["run", "a"], CHANGE, {"a": ARRAY}).files["a"], file.stat()
 
@@ -310,7 +413,8 @@ def touched_in_place(devices):
     meanwhile(devices, "written in place", b"set 0 4096\n", SAVE_FAULT, write_in_place)
     devices.has("written in place", "a", other)
     meanwhile(devices, "another mode", b"set 0 4096\n", GOOD, lambda: file.chmod(0o640))
-    meanwhile(devices, "a second name", b"set 0 2048\n", GOOD, lambda: os.link(file, devices.folder / "second"))
+    second = devices.folder / "second"
+    meanwhile(devices, "a second name", b"set 0 2048\n", GOOD, lambda: os.link(file, second))
     devices.ends("a second name", "look a", GOOD, LOOK, out=b"2048\n")
     devices.nothing_beside("touched in place")
 
@@ -328,10 +432,10 @@ def limit_of_files(most):
 
 def outputs_within_limits(devices):
     """An output beyond the limit of a file's length is a write fault, and one that is no file has none."""
-    raw = os.urandom(4 * 32768)
-    stream = devices.check.run("compress int32 32768 reversible".split(), raw).out
+    raw = os.urandom(MUCH)
+    stream = devices.check.run(f"compress int32 {MUCH // 4} reversible".split(), raw).out
     file = devices.put("o", b"")
-    for most in (0, 1, 5000, 65536, len(raw) - 1, len(raw)):
+    for most in (0, 1, 5000, 65536, 150_000, len(raw) - 1, len(raw)):
         limited = {"preexec_fn": limit_of_files(most), "restore_signals": False}
         shows, ending = f"files of {most} bytes", GOOD if most == len(raw) else WRITE_FAULT
         with file.open("wb") as out:
@@ -362,9 +466,11 @@ def little_address_space(devices):
         written, told = finished(run, SCRIPT)
         # Below some size the system's loader does not come to the program, and ends with 127 or by a signal.
         unstarted = written == b"" and not told.startswith(b"zfpi") and run.returncode != 0
-        good = (run.returncode, written) == (0, b"7\n") or run.returncode in (12, 20) and told.startswith(b"zfpi")
+        is_refused = run.returncode in (12, 20) and told.startswith(b"zfpi")
+        good = (run.returncode, written) == (0, b"7\n") or is_refused
         same = run.returncode == 0 or old.read_bytes() == whole
-        devices.check.expect((good or unstarted) and same, f"address space of {most} KiB", run.returncode, told)
+        what = f"address space of {most} KiB"
+        devices.check.expect((good or unstarted) and same, what, run.returncode, told)
         if run.returncode == 0:
             devices.put("a", whole)
 
@@ -379,6 +485,11 @@ def full_places(devices):
     devices.ends("no larger files", "run a", SAVE_FAULT, b"resize 16384\nset 0 1\n", **limited)
     devices.has("no larger files", "a", ARRAY)
     devices.nothing_beside("no larger files")
+    limited = {"preexec_fn": limit_of_files(150_000), "restore_signals": False}
+    devices.ends("no much larger files", "new a int32 131072 64", SAVE_FAULT, **limited)
+    devices.ends("no much larger files", "run a", SAVE_FAULT, b"resize 131072\nset 0 1\n", **limited)
+    devices.has("no much larger files", "a", ARRAY)
+    devices.nothing_beside("no much larger files")
     disk = devices.check.folder("disk")
     mounted = ["mount", "-t", "tmpfs", "-o", "size=64k,mode=0777", "none", str(disk)]
     if not shutil.which("mount") or subprocess.run(mounted, capture_output=True, check=False).returncode != 0:
@@ -405,6 +516,22 @@ def on_disk(devices, disk):
     devices.ends("a disk that is only read", "run a", SAVE_FAULT, b"fill 9999\n", folder=disk)
     devices.ends("a disk that is only read", "run a", GOOD, b"get 0\n", out=b"0\n", folder=disk)
     devices.check.expect((disk / "a").read_bytes() == old, "a disk that is only read")
+    subprocess.run(["mount", "-o", "remount,rw", str(disk)], check=True)
+    (disk / "most").unlink()
+    outputs_on_disk(devices, disk)
+
+
+def outputs_on_disk(devices, disk):
+    """An output of 200 KB on a disk with room for less: what was written stays, and the fault is told."""
+    raw = os.urandom(MUCH)
+    stream = devices.check.run(f"compress int32 {MUCH // 4} reversible".split(), raw).out
+    for words, data in (("restore", stream), (f"compress int32 {MUCH // 4} reversible", raw)):
+        with (disk / "out").open("wb") as out:
+            devices.ends("an output on a full disk", words, WRITE_FAULT, data, stdout=out)
+        written, whole = (disk / "out").read_bytes(), raw if words == "restore" else stream
+        same = whole.startswith(written) and len(written) > 16_384
+        devices.check.expect(same, "what was written on a full disk", len(written))
+        (disk / "out").unlink()
 
 
 def long_files(devices):
@@ -444,6 +571,25 @@ def killed(devices, words, data, old):
     return cut
 
 
+def modes_meanwhile(devices):
+    """Until it has the mode of the old file, the new one is nobody else's to read or to write."""
+    file = devices.put("a", bytes(64), 0o600)
+    modes = set()
+    for _ in range(MOST_TRIES):
+        file.write_bytes(b"old")
+        run = devices.start("new a int32 524288 512", stdin=subprocess.DEVNULL)
+        while run.poll() is None:
+            for entry in devices.folder.glob(".a.zfpi-*"):
+                with contextlib.suppress(OSError):
+                    modes.add(oct(stat.S_IMODE(entry.stat().st_mode)))
+        finished(run, None)
+        if modes:
+            break
+    devices.check.expect(modes == {"0o600"}, "the mode of a new file while it is written", modes)
+    mode = stat.S_IMODE(file.stat().st_mode)
+    devices.check.expect(mode == 0o600, "its mode at the end", oct(mode))
+
+
 def large_saves(devices):
     """Saves of large files that are killed midway leave the old file, and the next save is not hindered."""
     large = "new a int32 16777216 800"
@@ -461,14 +607,18 @@ PARTS = (
     inputs,
     closed_where_nothing_is_read,
     what_info_leaves,
+    large_inputs,
     outputs,
+    large_outputs,
     broken_pipe,
     names,
+    folders_not_to_be_read,
     kinds_of_file,
     owners,
     links,
     two_at_once,
     touched_in_place,
+    modes_meanwhile,
     outputs_within_limits,
     little_address_space,
     full_places,

@@ -8,14 +8,18 @@ of the device; of reading, writing, bringing to the disk and renaming it does ma
 new file stands whole, the new one exactly where the code is 0 or 1, and nothing is left beside.
 There is one exception, which README names: the disk's error when the folder is brought to it, the
 last step of a save. A save that is killed leaves the old or the new file and at most a file beside
-it, which the next save takes away, and a claim, which hinders no save.
+it, which nobody else may read, which the next save takes away, and a claim, which hinders no save.
+Some calls move 200 KB each way; of these quick tries the errors of reading, writing, bringing to the
+disk and renaming alone.
 """
 
+import random
 import re
 import shutil
+import stat
 from typing import NamedTuple
 
-from cases import COMMANDS, Case
+from cases import COMMANDS, SCRIPT, Case
 from shared import Check, error_line, files_of, put_files
 
 # Of `brk` none: the C library does not expect one, since the system's call has none.
@@ -65,6 +69,10 @@ LINES = {
 LEFT_OVER = re.compile(r"\.a\.zfpi(-[0-9a-f]{16}|@[0-9a-f]{32})")
 # The calls that look for what was left over and take it away, and that take away what a save made.
 TIDIES = ("openat", "statx", "flock", "unlink", "getdents64", "pread64")
+# An old file has this mode: nobody else may read what it holds, nor what is to be in its place.
+MODE = 0o600
+# The calls that quick lets fail where much is moved.
+MOVES = ("read", "write", "fsync", "rename")
 # The program's first own call: it has not looked at its words before.
 BEGINS = "rt_sigaction(SIGPIPE"
 
@@ -83,10 +91,11 @@ class Call(NamedTuple):
 
 
 class Seen(NamedTuple):
-    """How a run ended, and the files behind it."""
+    """How a run ended, the files behind it, and those of them that others may read or write."""
 
     ended: tuple
     files: dict
+    shown: tuple = ()
 
 
 class Faults:
@@ -95,11 +104,20 @@ class Faults:
 
     def run(self, case, inject=None, keep=False):
         """Runs a case under strace. With `keep` its folder stays as the last run has left it."""
+        folder = self.check.room / "work"
         if not keep:
             put_files(self.check.folder(), case.files)
-        folder = self.check.room / "work"
+            for name in case.files:
+                (folder / name).chmod(MODE)
         before = ["strace", "-o", str(self.log)] + (["-e", f"inject={inject}"] if inject else [])
-        return Seen(self.check.run(case.words, case.data, folder, before), files_of(folder))
+        # The input is a file, of which each read gives what it is asked for.
+        source = self.check.room / "input"
+        source.write_bytes(case.data)
+        with source.open("rb") as data:
+            ended = self.check.run(case.words, folder=folder, before=before, stdin=data)
+        modes = {it.name: it.lstat().st_mode for it in folder.iterdir()}
+        shown = sorted(name for name, mode in modes.items() if stat.S_ISREG(mode) and mode & 0o077)
+        return Seen(ended, files_of(folder), tuple(shown))
 
     def calls(self):
         """The calls of the last run from the program's own first one on."""
@@ -114,17 +132,20 @@ class Faults:
                     calls.append(Call(name, counts[name], text))
         return calls
 
-    def tries(self, case):
-        """Makes each call of a case fail, and, where it saves, kills it at each."""
+    def tries(self, case, names=ERRORS):
+        """Makes each call of these names fail, and, where the case saves, kills it at each."""
         whole = self.run(case)
-        calls = self.calls()
+        calls = [call for call in self.calls() if names is ERRORS or call.name in names]
         is_good = whole.ended.code == case.code and calls
         self.check.expect(is_good, f"{case.name}: ends with {case.code}", *whole)
+        is_kept = "a" not in case.files or not whole.shown
+        self.check.expect(is_kept, f"{case.name}: nobody else may read it", whole.shown)
         for call in calls:
             for error in ERRORS.get(call.name, ()):
                 seen = self.run(case, f"{call.name}:error={error}:when={call.number}")
                 why = self.wrong(case, whole, call, error, seen)
-                self.check.expect(why is None, f"{case.name}: {error} at {call.text}: {why}", seen.ended)
+                what = f"{case.name}: {error} at {call.text[:80]}: {why}"
+                self.check.expect(why is None, what, seen.ended)
             if case.saves() and call.name != "exit_group":
                 self.kill(case, whole, call)
 
@@ -135,7 +156,7 @@ class Faults:
             is_same = (seen.ended.code, seen.files) == (whole.ended.code, whole.files)
             return None if is_same else "another ending"
         if call.name == "write" and call.file() == 1 and case.code > 1:
-            # What was refused is refused still: its output is worth nothing, and a fault of it changes no status.
+            # What was refused is refused still: its output is worth nothing, and a fault changes no status.
             code, out, line = seen.ended
             is_same = code == case.code and line == whole.ended.line and seen.files == whole.files
             return None if is_same and whole.ended.out.startswith(out) else "another ending"
@@ -176,6 +197,8 @@ class Faults:
             seen.ended,
             sorted(seen.files),
         )
+        is_hidden = "a" not in case.files or not seen.shown
+        self.check.expect(is_hidden, f"{case.name}: killed at {call.text}: who may read it", seen.shown)
         again = self.run(case, keep=True)
         # A run that finds its change in the file writes nothing, and so leaves what is beside.
         is_same = main_files(again.files) == main_files(whole.files) and again.ended == whole.ended
@@ -183,16 +206,20 @@ class Faults:
         self.check.expect(is_same and is_clean, f"{case.name}: again, after a kill at {call.text}", *again)
 
     def order(self, case):
-        """Whether a save writes, syncs, renames or links, and syncs the folder, in this order."""
-        self.run(case)
+        """Whether a save writes all, syncs, renames or links, and syncs the folder, in this order."""
+        seen = self.run(case)
         names = ("openat", "write", "fsync", "rename", "link")
         texts = [call.text for call in self.calls() if call.name in names]
         new = next((opened(text) for text in texts if "O_CREAT" in text and ".a.zfpi-" in text), None)
         folders = [opened(text) for text in texts if text.startswith('openat(AT_FDCWD, ".",')]
-        folder = f"({'|'.join(folders)})"
-        sync, rename = r"fsync\({}\) += 0", r"(rename|link)\(.*\) += 0"
-        at = -1
-        for step in (rf"write\({new}, ", sync.format(new), rename, sync.format(folder)):
+        write, sync = re.compile(rf"write\({new}, .* = (\d+)$"), r"fsync\({}\) += 0"
+        writes = [at for at, text in enumerate(texts) if write.match(text)]
+        count = sum(int(write.match(texts[at])[1]) for at in writes)
+        self.check.expect(count == len(seen.files["a"]), f"{case.name}: what is written", count)
+        # The sync counts that comes behind the last write.
+        at = max(writes, default=-1)
+        steps = (sync.format(new), r"(rename|link)\(.*\) += 0", sync.format(f"({'|'.join(folders)})"))
+        for step in steps:
             at = next((i for i in range(at + 1, len(texts)) if re.match(step, texts[i])), None)
             if at is None:
                 break
@@ -209,16 +236,37 @@ def main_files(files):
     return {name: data for name, data in files.items() if not LEFT_OVER.fullmatch(name)}
 
 
+def large_cases(check):
+    """Calls that move 200 KB each way. Their first block is zeros."""
+    rng, side = random.Random(check.seed), 224
+    values = [0 if k % side < 4 and k < 4 * side else rng.randrange(-(2**31), 2**31) for k in range(side**2)]
+    raw = b"".join(value.to_bytes(4, "little", signed=True) for value in values)
+    shape = f"int32 {side}x{side}"
+    stream = check.run(f"compress {shape} reversible".split(), raw).out
+    array = check.run(f"compress {shape} rate 512".split(), raw).out
+    gets = b"".join(b"get %d,%d\n" % (k % side, k * 7 % side) for k in range(18_000))
+    return [
+        Case("compress much", f"compress {shape} reversible".split(), raw),
+        Case("restore much", ["restore"], stream),
+        Case("new, much", f"new a {shape} 512".split()),
+        Case("new over an old file, much", f"new a {shape} 512".split(), files={"a": array[:999]}),
+        Case("run, much", ["run", "a"], SCRIPT[:-4] + gets, {"a": array}),
+        Case("look, much", ["look", "s"], gets, {"s": stream}),
+        Case("bound, much", ["bound", "a", "9"], files={"a": array}),
+    ]
+
+
 def main():
     check = Check(__doc__)
     faults = Faults(check)
     if shutil.which("strace") is None or faults.run(Case("none", ["frob"])).ended.code != 2:
         check.skip("all of it, since there is no strace, or it may not trace here")
         check.end()
-    for case in COMMANDS:
+    large = large_cases(check)
+    for case in COMMANDS + large:
         if case.saves() and not case.name.endswith("changes nothing"):
             faults.order(case)
-        faults.tries(case)
+        faults.tries(case, MOVES if check.quick and case in large else ERRORS)
     check.end()
 
 

@@ -66,12 +66,13 @@ class Check:
         """Runs the program on these words and this input. `before` are words of a program that runs it."""
         how.setdefault("cwd", folder or self.room)
         how |= {"input": data} if "stdin" not in how else {}
+        how = {"stdout": subprocess.PIPE, "stderr": subprocess.PIPE} | how
         command = [*before, self.program, *words]
         try:
-            ran = subprocess.run(command, capture_output=True, timeout=SECONDS, check=False, **how)
+            ran = subprocess.run(command, timeout=SECONDS, check=False, **how)
         except subprocess.TimeoutExpired as late:
             return Ended(None, late.stdout or b"", late.stderr or b"")
-        return Ended(ran.returncode, ran.stdout, ran.stderr)
+        return Ended(ran.returncode, ran.stdout or b"", ran.stderr or b"")
 
     def end(self):
         """Says the counts, and ends the check."""

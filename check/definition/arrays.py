@@ -1,7 +1,9 @@
-"""Codes of blocks, and caches of blocks over them (ARRAYS, sections 1 to 4, 8 and 9)."""
+"""Codes of blocks, and caches of blocks over them (SCRIPTS, sections 1 to 4, 8 and 10)."""
 
 from definition.blocks import block_count, extents, only_existing
 from definition.codes import rate_code, read_rate
+from definition.header import header_bits
+from definition.planes import bits_of_number, number_of_bits
 
 
 def power_of_two_from(number):
@@ -48,6 +50,25 @@ class Codes:
     def store(self, block, values):
         header = self.header
         self.codes[block] = rate_code(values, extents(header.shape, block), header.width, header.number)
+
+
+class CodesOfFile:
+    """The codes in a file of a fixed rate, by number, each of which is taken out where it is asked for."""
+
+    def __init__(self, header, file):
+        self.begin, self.length = len(header_bits(header)), header.number
+        self.bits, self.bytes = int.from_bytes(file, "little"), len(file)
+
+    def __getitem__(self, block):
+        code = self.bits >> self.begin + block * self.length & (1 << self.length) - 1
+        return bits_of_number(code, self.length)
+
+    def __setitem__(self, block, code):
+        changed = number_of_bits(self[block]) ^ number_of_bits(code)
+        self.bits ^= changed << self.begin + block * self.length
+
+    def file(self):
+        return self.bits.to_bytes(self.bytes, "little")
 
 
 class Cache:

@@ -1,4 +1,4 @@
-"""The certified error bound (BOUND)."""
+"""The certified error bound (FORMAT, section 15)."""
 
 from definition.blocks import block_size
 from definition.planes import Reader, plane_code, read_planes

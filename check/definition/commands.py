@@ -1,4 +1,4 @@
-"""The words of a call, and the answer of each command (FORMAT, section 13; README, Commands)."""
+"""The words of a call, and the answer of each command (FORMAT, section 13)."""
 
 import re
 from typing import NamedTuple

@@ -1,4 +1,4 @@
-"""The endings that are not good, with their lines and exit codes (FORMAT, sections 3, 12, 13; README)."""
+"""The endings that are not good, with their lines and exit codes (FORMAT, sections 3 and 12; GUIDE)."""
 
 
 class Fault(Exception):

@@ -1,4 +1,4 @@
-"""Which lines of a script are which command (SCRIPTS, sections 1, 2 and 6)."""
+"""Which lines of a script are which command (SCRIPTS, sections 5 and 7)."""
 
 import re
 from typing import NamedTuple

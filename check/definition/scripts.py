@@ -1,4 +1,4 @@
-"""The run of a script (ARRAYS, sections 5, 6 and 9; SCRIPTS, sections 3 to 6)."""
+"""The run of a script (SCRIPTS, sections 4 to 8)."""
 
 from definition.arrays import Cache, Codes
 from definition.blocks import block_count, block_of, existing_places, extents, place_of, positions

@@ -17,3 +17,4 @@ pub mod placing;
 pub mod tables;
 pub mod tables_of_limits;
 pub mod tables_of_lines;
+pub mod tables_of_rules;
