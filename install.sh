@@ -1,21 +1,48 @@
 #!/bin/sh
-# Proves the program, the library and all that they stand on, builds them, and installs them: the program with its manual
-# page and completion, the library with its header file, the Python package, and the filter of HDF5 where that is there.
+# Proves the program, the library and all that they stand on, builds them, and installs them: the program with
+# its manual page and completions, the library with its header file, the Python package, and the filter of
+# HDF5 where that is there.
 #
 #     ./install.sh [FOLDER]
 #
-# FOLDER is where bin, lib, include and share are, by default ~/.local. It needs `rt`, Python 3.10, and for the library cc.
-# The proofs run in a folder of their own, which goes at the end, and without planted bugs and tests, which `rt ci` tries
-# at the top of the repository.
+# FOLDER is where bin, lib, include and share are, by default ~/.local. It needs `rt`, Python 3.10, and for
+# the library cc and objcopy. The library is built for this processor; for all of them where ZFPI_CPU=x86-64
+# is set. The proofs run in a folder of their own, which goes at the end, and without planted bugs and tests,
+# which `rt ci` tries at the top of the repository. FOLDER/share/zfpi/installed lists what was installed.
 set -eu
 
+lacks() { echo "install.sh: $1" >&2; exit 2; }
+[ $# -le 1 ] || lacks 'usage: ./install.sh [FOLDER]'
+command -v rt > /dev/null || lacks 'there is no rt on PATH: it is the command of the Rattle toolchain'
+command -v python3 > /dev/null || lacks 'there is no python3 on PATH: Python 3.10 or later is needed'
+python3 -c 'import sys; sys.exit(sys.version_info < (3, 10))' || lacks "$(python3 -V) is older than 3.10"
 top=$(CDPATH='' cd -- "$(dirname -- "$0")" && pwd)
 to=${1:-$HOME/.local}
-lacks() { echo "install.sh: $1" >&2; exit 1; }
-command -v rt > /dev/null || lacks 'there is no rt on PATH: it is the command of the Rattle toolchain'
-python3 -c 'import sys; sys.exit(sys.version_info < (3, 10))' || lacks 'there is no Python 3.10'
+mkdir -p "$to" || lacks "$to cannot be made"
+to=$(CDPATH='' cd -- "$to" && pwd)
+[ -w "$to" ] || lacks "$to cannot be written to"
 room=$(mktemp -d)
 trap 'rm -rf "$room"' EXIT
+
+# Installs a file with these rights under FOLDER, and notes it.
+put() {
+    install -D -m "$1" "$2" "$to/$3"
+    echo "$3" >> "$room/installed"
+}
+
+# Says where all went, how it is found, and how it is taken away.
+ended() {
+    echo share/zfpi/installed >> "$room/installed"
+    install -D -m 644 "$room/installed" "$to/share/zfpi/installed"
+    echo "installed in $to:"
+    sed 's/^/    /' "$room/installed"
+    case ":$PATH:" in
+        *":$to/bin:"*) ;;
+        *) echo "PATH lacks $to/bin; have in your shell's profile: export PATH=\"$to/bin:\$PATH\"" ;;
+    esac
+    printf '%s\n' "to take it away: cd '$to' && xargs -d '\n' rm -f < share/zfpi/installed"
+    exit 0
+}
 
 python3 "$top/examples/take_crates.py" "$room" zfpi zfpi_c
 cp "$top/HANDLES" "$room"
@@ -27,38 +54,49 @@ if ! tail -n 1 "$room/log" | grep ' 0 failed$'; then
     exit 1
 fi
 
-install -D -m 755 "$room/crates/zfpi/out/zfpi" "$to/bin/zfpi"
-install -D -m 644 "$top/docs/zfpi.1" "$to/share/man/man1/zfpi.1"
-install -D -m 644 "$top/docs/zfpi.bash" "$to/share/bash-completion/completions/zfpi"
-echo "installed $to/bin/zfpi; have $to/bin on PATH"
-case ":$PATH:" in *":$to/bin:"*) ;; *) echo "PATH lacks it now" ;; esac
+put 755 "$room/crates/zfpi/out/zfpi" bin/zfpi
+put 644 "$top/docs/zfpi.1" share/man/man1/zfpi.1
+put 644 "$top/docs/zfpi.bash" share/bash-completion/completions/zfpi
+put 644 "$top/docs/_zfpi" share/zsh/site-functions/_zfpi
+put 644 "$top/docs/zfpi.fish" share/fish/vendor_completions.d/zfpi.fish
+put 644 "$top/docs/zfpi.magic" share/zfpi/zfpi.magic
 
 if ! command -v cc > /dev/null || ! command -v objcopy > /dev/null; then
     echo 'left out: the library, since there is no cc, or no objcopy'
-    exit 0
+    ended
 fi
-cpu=
+cpu=${ZFPI_CPU:-x86-64-v3}
 for feature in avx2 bmi1 bmi2 fma f16c movbe abm; do
-    grep -qw "$feature" /proc/cpuinfo || cpu=older
+    grep -qw "$feature" /proc/cpuinfo || cpu=x86-64
 done
-[ -n "$cpu" ] || cpu='--cpu x86-64-v3'
-# shellcheck disable=SC2086 # no word where the processor is an older one
-"$room/capi/build.sh" "$room" "$room/made" ${cpu#older} > "$room/library.log" 2>&1 || { tail -n 40 "$room/library.log"; exit 1; }
+flag="--cpu $cpu"
+[ "$cpu" != x86-64 ] || flag=
+# shellcheck disable=SC2086 # no word for the processor that is the default
+if ! "$room/capi/build.sh" "$room" "$room/made" $flag > "$room/library.log" 2>&1; then
+    tail -n 40 "$room/library.log"
+    exit 1
+fi
 
-install -D -m 644 "$room/made/libzfpi.a" "$to/lib/libzfpi.a"
-install -D -m 755 "$room/made/libzfpi.so.1" "$to/lib/libzfpi.so.1"
+put 644 "$room/made/libzfpi.a" lib/libzfpi.a
+put 755 "$room/made/libzfpi.so.1" lib/libzfpi.so.1
 ln -sf libzfpi.so.1 "$to/lib/libzfpi.so"
-install -D -m 644 "$top/capi/zfpi.h" "$to/include/zfpi.h"
-mkdir -p "$to/lib/pkgconfig"
-sed "s#@prefix@#$to#" "$top/capi/zfpi.pc.in" > "$to/lib/pkgconfig/zfpi.pc"
-packages=$to/lib/python$(python3 -c 'import sys; print("%d.%d" % sys.version_info[:2])')/site-packages
-install -D -m 644 -t "$packages/zfpi" "$top"/python/zfpi/*.py
-echo "installed $to/lib/libzfpi.so.1, libzfpi.a and $to/include/zfpi.h; for Python $packages/zfpi"
-if hdf5=$(pkg-config --cflags --libs hdf5 2> /dev/null || pkg-config --cflags --libs hdf5-serial 2> /dev/null); then
-    mkdir -p "$to/lib/hdf5/plugin"
+echo lib/libzfpi.so >> "$room/installed"
+put 644 "$top/capi/zfpi.h" include/zfpi.h
+sed "s#@prefix@#$to#" "$top/capi/zfpi.pc.in" > "$room/zfpi.pc"
+put 644 "$room/zfpi.pc" lib/pkgconfig/zfpi.pc
+packages=lib/python$(python3 -c 'import sys; print("%d.%d" % sys.version_info[:2])')/site-packages
+for module in "$top"/python/zfpi/*.py; do
+    put 644 "$module" "$packages/zfpi/$(basename "$module")"
+done
+words_of() { pkg-config --cflags --libs "$1" 2> /dev/null; }
+if hdf5=$(words_of hdf5 || words_of hdf5-serial); then
     # shellcheck disable=SC2086 # the words of pkg-config
-    cc -O2 -fPIC -shared -I"$top/capi" -o "$to/lib/hdf5/plugin/libH5Zzfpi.so" "$top/hdf5/H5Zzfpi.c" "$to/lib/libzfpi.a" $hdf5
-    echo "installed the filter of HDF5: HDF5_PLUGIN_PATH=$to/lib/hdf5/plugin"
+    cc -O2 -fPIC -shared -I"$top/capi" -o "$room/filter.so" "$top/hdf5/H5Zzfpi.c" "$room/made/libzfpi.a" $hdf5
+    put 755 "$room/filter.so" lib/hdf5/plugin/libH5Zzfpi.so
+    echo "HDF5 finds its filter by HDF5_PLUGIN_PATH=$to/lib/hdf5/plugin"
 else
     echo 'left out: the filter of HDF5, since there is no libhdf5-dev'
 fi
+echo "Python finds its package by PYTHONPATH=$to/$packages"
+echo "C finds the library by PKG_CONFIG_PATH=$to/lib/pkgconfig"
+ended

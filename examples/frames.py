@@ -38,8 +38,11 @@ def frame_of(values):
 def put(file, data):
     """Makes a file that has its name only once it is whole."""
     part = file.with_name(file.name + ".part")
-    part.write_bytes(data)
-    part.replace(file)
+    try:
+        part.write_bytes(data)
+        part.replace(file)
+    finally:
+        part.unlink(missing_ok=True)
 
 
 def pack_frame(file, mode):
@@ -51,9 +54,14 @@ def unpack_frame(file):
 
 
 def main():
+    if len(sys.argv) < 3 or sys.argv[1] not in ("pack", "unpack"):
+        sys.exit(__doc__)
     way, folder, *mode = sys.argv[1:]
-    failed = 0
-    for file in sorted(pathlib.Path(folder).glob("*.pgm" if way == "pack" else "*.zfpi")):
+    files = sorted(pathlib.Path(folder).glob("*.pgm" if way == "pack" else "*.zfpi"))
+    failed = 0 if files else 1
+    if failed:
+        print(f"{folder}: there are no frames")
+    for file in files:
         try:
             pack_frame(file, mode) if way == "pack" else unpack_frame(file)
         except (ValueError, OSError, subprocess.CalledProcessError) as error:

@@ -19,7 +19,7 @@ TESTS = re.compile(r"\n*^#\[cfg\(test\)\]\nmod (\w+)(?:;\n| \{\n.*?^\}\n)", re.M
 
 
 def crates_below():
-    """Of each crate those that it stands on, and its line: `NAME: DEP DEP ..`, or `NAME staticlib: DEP ..`."""
+    """Of each crate those that it stands on, and its line: `NAME: DEP ..`, or `NAME staticlib: DEP ..`."""
     lines = (TOP / "crates.txt").read_text().splitlines()
     lines = {line.split()[0].rstrip(":"): line for line in lines if ":" in line and line[0] != "#"}
     return {name: line.partition(":")[2].split() for name, line in lines.items()}, lines
@@ -49,13 +49,18 @@ def leave_out_tests(crate):
 
 
 def main():
-    if len(sys.argv) < 3:
+    if len(sys.argv) < 2:
         sys.exit(__doc__)
     folder, *names = sys.argv[1:]
     below, said = crates_below()
     unknown = [name for name in names if name not in below]
-    if unknown:
-        sys.exit(f"no crate of this repository: {' '.join(unknown)}")
+    if unknown or not names:
+        print(
+            "take_crates.py:",
+            f"no such crate: {' '.join(unknown)}" if unknown else "name a crate",
+            file=sys.stderr,
+        )
+        sys.exit(f"those of this repository are {' '.join(sorted(below))}")
     for name in needed(names, below):
         there = pathlib.Path(folder) / "crates" / name
         if not there.exists():
