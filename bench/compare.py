@@ -1,5 +1,6 @@
 #!/usr/bin/env python3
-"""Compares zfpi with other ways to keep whole numbers small, on a smooth field, an image and noisy frames.
+"""Compares zfpi with other ways to compress integers: on a smooth field, an image and noisy frames, which are made here,
+and on an elevation model and a slice of an MRI, which Debian's python-matplotlib-data has.
 
     python3 bench/compare.py [PROGRAM] [--speed | --picture]
 
@@ -11,10 +12,12 @@ of zfpi at three rates, and the same image in three types. With `--speed` it pri
 values a second each way takes and gives back, by processor time, the best of nine runs: plain numbers of one
 machine. With `--picture` it draws error against bits a value into docs/errors.svg.
 
-The fields are made by whole-number arithmetic, so they are the same on every machine. zfp has no values of 16
+The fields that are made come of whole-number arithmetic, so they are the same on every machine; without Debian's package
+the tables lack the two others. zfp has no values of 16
 bits: it is given the int32 values that stand for them (docs/FORMAT.md, section 2).
 """
 
+import gzip
 import pathlib
 import resource
 import subprocess
@@ -27,6 +30,7 @@ import numpy
 from fields import words_of
 
 TOP = pathlib.Path(__file__).resolve().parent.parent
+SAMPLES = pathlib.Path("/usr/share/matplotlib/mpl-data/sample_data")
 RATES = (4, 8, 12)
 RUNS = 9
 
@@ -53,7 +57,8 @@ class Field(NamedTuple):
         """The values as int32: those of 16 bits lie evenly around zero, as in zfpi and zfp's library."""
         if self.word() == "int32":
             return self.values
-        return ((self.values.astype(numpy.int64) - 32768) << 15).astype("<i4")
+        middle = 32768 if self.word() == "uint16" else 0
+        return ((self.values.astype(numpy.int64) - middle) << 15).astype("<i4")
 
 
 def noise(count, bits, number):
@@ -105,6 +110,22 @@ def frames():
     """Dark frames of a camera: a small offset, and noise that no two values share."""
     sizes = (64, 256, 256)
     return Field("noisy frames", (500 + noise(64 * 256 * 256, 6, 99).reshape(sizes)).astype("<u2"))
+
+
+def elevation():
+    """Heights around the fault of Jacksboro."""
+    heights = numpy.load(SAMPLES / "jacksboro_fault_dem.npz")["elevation"]
+    return Field("elevation model", heights.astype("<i2"))
+
+
+def slice_of_a_head():
+    """A slice of an MRI scan: values of 16 bits that the file has high byte first."""
+    values = numpy.frombuffer(gzip.decompress((SAMPLES / "s1045.ima.gz").read_bytes()), dtype=">u2")
+    return Field("MRI slice", values.reshape(256, 256).astype("<u2"))
+
+
+def real_fields():
+    return [elevation(), slice_of_a_head()] if SAMPLES.exists() else []
 
 
 def processor_time():
@@ -281,9 +302,9 @@ def main():
     elif "--picture" in sys.argv:
         draw(program, fields, TOP / "docs/errors.svg")
     else:
-        print_sizes(program, fields)
+        print_sizes(program, fields + real_fields())
         print()
-        print_errors(program, fields)
+        print_errors(program, fields + real_fields())
         print()
         print_types(program, fields[1])
 

@@ -5,8 +5,8 @@
 
 The array is two-dimensional, its blocks are 4x4 values, numbered with x fastest.  A walk touches each value of a part of the array once,
 row by row or column by column.  In the cache with one line a block, block b is in line b mod L.  In the two-way cache it is in that or in
-line (b xor b // L) mod L, and comes into the first of these: an empty one, a clean one, the first.  No program is run: what the table in
-docs/ARRAYS.md says can be computed again without one.
+line (b xor b // L) mod L, and comes into the first of these: an empty one, a clean one, the first.  No program is run: what
+docs/SCRIPTS.md says of them (section 10) can be computed again without one.
 """
 
 

@@ -4,7 +4,7 @@
     python3 docs/calling.py [--write]
 
 With `--write` the quoted part of docs/CALLING.md is written anew. What is quoted stands in crates/NAME/src; a
-clause is put in one line, its spaces made one.
+clause is put in one line, its spaces made one. What a loan leaves (`ensures*`) is left out.
 """
 
 import pathlib
@@ -16,74 +16,20 @@ PAGE = TOP / "docs/CALLING.md"
 MARK = "<!-- contracts -->\n"
 
 CALLS = [
-    (
-        "Shapes and positions",
-        "zf_base",
-        [
-            "Pos::new",
-            "Pos::of_sizes",
-            "Shape::new",
-            "dims",
-            "size",
-            "values",
-            "blocks",
-            "contains",
-            "place",
-            "place_in",
-            "extent",
-        ],
-    ),
-    ("Headers", "zf_header", ["read", "write", "mode_number", "rate_bytes"]),
-    (
-        "Devices",
-        "zf_dev",
-        [
-            "fill",
-            "take_all",
-            "write_all",
-            "MemSource::new",
-            "MemSink::new",
-            "bytes",
-            "RealSource::new",
-            "RealSink::new",
-            "LoggedSource::new",
-            "LoggedSink::new",
-            "LoggedShelf::new",
-        ],
-    ),
-    ("Streams", "zf_stream", ["compress", "restore", "read_header", "most_bytes"]),
-    ("Streams of narrow values", "zf_narrow", ["promote", "demote", "compress_narrow", "restore_narrow"]),
-    ("In memory that is lent", "zf_lent", ["compress_into", "restore_into", "compress_narrow_into", "restore_narrow_into"]),
-    ("Parts of a stream that is lent", "zf_part", ["read_block", "read_blocks", "read_window", "write_block"]),
+    ("Shapes and positions", "zf_base", "Pos::new Pos::of_sizes Shape::new place"),
+    ("Headers", "zf_header", "read"),
+    ("Streams", "zf_stream", "compress restore most_bytes"),
+    ("In lent memory", "zf_lent", "compress_into"),
+    ("Parts of a stream", "zf_part", "read_window write_block"),
     (
         "From C",
         "zfpi_c",
-        ["zfpi_most", "zfpi_compress", "zfpi_restore", "zfpi_restore_narrow", "zfpi_header", "zfpi_version"]
-        + ["zfpi_read", "zfpi_read_block", "zfpi_read_blocks", "zfpi_write_block"],
+        "zfpi_most zfpi_compress zfpi_header zfpi_read",
     ),
-    ("A bound of the error", "zf_bound", ["bound"]),
-    ("Where codes lie", "zf_index", ["build", "span"]),
-    (
-        "Arrays",
-        "zf_array",
-        [
-            "new",
-            "open",
-            "from_file",
-            "get",
-            "value_at",
-            "set",
-            "add",
-            "flush",
-            "discard",
-            "set_lines",
-            "resize",
-            "save_bytes",
-        ],
-    ),
-    ("Arrays that are only read", "zf_const", ["open", "from_file", "get", "value_at", "block", "set_lines"]),
-    ("Windows", "zf_window", ["whole", "new", "slice", "step"]),
-    ("Views", "zf_view", ["new", "bind", "get", "set", "sum", "elem", "run", "run_mut"]),
+    ("Arrays", "zf_array", "open get set flush save_bytes"),
+    ("Read-only arrays", "zf_const", "open"),
+    ("Windows", "zf_window", "Window::new"),
+    ("Views", "zf_view", "View::bind View::set"),
 ]
 
 
@@ -97,7 +43,7 @@ def functions(text):
             owner = found.group(1)
         elif line and not line[0].isspace() and not line.startswith(("}", "//", "#", ")")):
             owner = ""
-        found = re.match(r"\s*pub fn (\w+)", line)
+        found = re.match(r'\s*pub (?:extern "C" )?fn (\w+)', line)
         if found:
             yield owner, found.group(1), *contract(lines[number:])
 
@@ -111,7 +57,9 @@ def contract(lines):
             break
         if text.startswith("//"):
             continue
-        if re.match(r"(requires|ensures\*?|decreases)\b", text):
+        if text.startswith("ensures*"):
+            clauses.append("")
+        elif re.match(r"(requires|ensures|decreases)\b", text):
             clauses.append(text)
         elif clauses:
             clauses[-1] += " " + text
@@ -121,11 +69,51 @@ def contract(lines):
             head[-1] = text[:-1].strip()
             break
     joined = re.sub(r"\(\s+", "(", re.sub(r",\s*\)", ")", " ".join(head)))
-    return joined.removeprefix("pub "), [re.sub(r"\s+", " ", clause) for clause in clauses]
+    said = [re.sub(r"\s+", " ", clause) for clause in clauses if clause.startswith(("requires", "ensures", "decreases"))]
+    return joined.removeprefix("pub ").removeprefix('extern "C" '), said
+
+
+def modules():
+    """The words of the quoted clauses that crates here define, by the module that their file imports them from."""
+    found = {}
+    for _, crate, calls in CALLS:
+        for source, clauses in quoted_of(crate, calls.split()):
+            words = set(re.findall(r"\b[A-Za-z_]\w*", " ".join(clauses)))
+            for module, names in re.findall(r"^ghost use Rattle\.(zf\w*\.specs\.[\w.]+)\.\{([^}]*)\};", source, re.M | re.S):
+                for name in re.findall(r"[\w]+(?= as |,|$| *\n)|\w+$", names.strip()):
+                    if name in words:
+                        found.setdefault(module, set()).add(name)
+    return found
+
+
+def quoted_of(crate, names):
+    """The text of each file of a crate, and the clauses of those of its calls that are quoted."""
+    for source in sorted((TOP / "crates" / crate / "src").glob("*.rt")):
+        text = source.read_text()
+        yield text, [
+            clause
+            for owner, name, _, clauses in functions(text)
+            if name in names or f"{owner}::{name}" in names
+            for clause in clauses
+        ]
+
+
+def index():
+    """The table of modules: which words of the clauses come from each."""
+    yield "### Where the words stand\n\n| Module, behind `Rattle.` | Words of the clauses above |\n|---|---|"
+    for module, words in sorted(modules().items()):
+        yield f"| {module} | {' '.join(sorted(words))} |"
 
 
 def quoted():
-    for title, crate, names in CALLS:
+    yield from contracts()
+    yield "\n".join(index())
+    yield ""
+
+
+def contracts():
+    for title, crate, calls in CALLS:
+        names = calls.split()
         sources = sorted((TOP / "crates" / crate / "src").glob("*.rt"))
         if not sources:
             continue

@@ -10,14 +10,16 @@ PROGRAM is the built program, by default crates/zfpi/out/zfpi. Outside the gate;
   README;
 - blocks of `python` and of `sh`, which have to end well, in the same folder;
 - tables behind a line `<!-- table: COMMAND -->`, which the command has to print, or a part of what it prints;
-- what CALLING quotes of contracts (docs/calling.py), and whether what the pages name is in the tree
+- what CALLING quotes of contracts (docs/calling.py), what the manual page has of GUIDE (docs/codes.py), what
+  PROVED has of the planted bugs (docs/edits.py), and whether what the pages name is in the tree
   (docs/claims.py);
 - the manual page, by mandoc, where there is one, and the completion for bash (docs/complete.py);
 - whether a lent slice that is kept across a call is refused (docs/lent.py), where there is `rt`.
 
 A block, or a page, behind a line `<!-- needs: WORD.. -->` is left out where a program or a module of Python
-of such a name is lacking, or the library (`libzfpi`); the last line says how many commands that were. A block behind `<!-- not run: WHY
--->` is not run.
+of such a name is lacking, or the library (`libzfpi`), or the fields of Debian's
+python-matplotlib-data (`mpl-data`); the last line says how many commands that were. A block behind
+`<!-- not run: WHY -->` is not run.
 """
 
 import functools
@@ -37,6 +39,7 @@ TOP = pathlib.Path(__file__).resolve().parent.parent
 PYTHON = "/usr/bin/python3"
 # the library, where capi/build.sh or install.sh has built it
 LIBRARY = pathlib.Path(os.environ.get("ZFPI_LIBRARY", TOP / "crates/zfpi_c/out/libzfpi.so.1"))
+FILES = {"libzfpi": LIBRARY, "mpl-data": pathlib.Path("/usr/share/matplotlib/mpl-data/sample_data")}
 BLOCK = re.compile(r"((?:^<!-- [^\n]* -->\n\n?)*)^```([a-z]*)\n(.*?)^```$", re.M | re.S)
 
 
@@ -95,9 +98,9 @@ def tables(text):
 
 
 def has(word, known):
-    """Whether there is a program or a module of Python of this name; `libzfpi` is the library."""
-    if word == "libzfpi":
-        return LIBRARY.exists()
+    """Whether there is a program or a module of Python of this name; two words stand for files."""
+    if word in FILES:
+        return FILES[word].exists()
     if shutil.which(word, path=known["PATH"]):
         return True
     return subprocess.run([PYTHON, "-c", f"import {word}"], capture_output=True, check=False).returncode == 0
@@ -162,6 +165,22 @@ def contracts():
     return Count(run=1, wrong=1)
 
 
+def codes():
+    """Whether the manual page has other codes and lines than GUIDE."""
+    done = run("python3 docs/codes.py", TOP, os.environ)
+    print(done.stdout if done.returncode else "", end="")
+    return Count(run=1, wrong=min(done.returncode, 1))
+
+
+def edits():
+    """Whether PROVED has another table of planted bugs than docs/edits.py makes."""
+    if not (TOP / "docs/edits.py").exists():
+        return Count(left_out=1)
+    done = run("python3 docs/edits.py --check", TOP, os.environ)
+    print(done.stdout if done.returncode else "", end="")
+    return Count(run=1, wrong=min(done.returncode, 1))
+
+
 def names():
     """What the documents name and the tree lacks."""
     wrong = claims.all_wrong()
@@ -220,6 +239,8 @@ def main():
         for count in [
             *(try_page(page, known) for page in pages),
             contracts(),
+            codes(),
+            edits(),
             names(),
             manual(),
             completion(known),
