@@ -1,10 +1,10 @@
 -- The digits that any coefficient has, and the planes that are needed.
-use Rattle.std.proofs.Common.{rules, ◌≡◌, refl, sym, ap, ◌∙◌, ℕ, ◌-◌, ◌/◌, ◌%◌, ◌^◌, ◌*◌, ◌+◌, ◌<◌, ◌≤◌, ⊎_elim, Bool, true, false, ◌||◌, eqb, List, [], ◌∷◌, ◌++◌, get_or, get_or-take, ext_get_or, length, take, replicate, mod-lt, arith}
+use Rattle.std.proofs.Common.{rules, ◌≡◌, refl, sym, ap, ◌∙◌, ℕ, suc, ◌-◌, ◌/◌, ◌%◌, ◌^◌, ◌*◌, ◌+◌, ◌<◌, ◌≤◌, ⊎_elim, Bool, true, false, ◌||◌, eqb, List, [], ◌∷◌, ◌++◌, get_or, get_or-take, ext_get_or, length, take, replicate, mod-lt, pow-suc, arith}
 use Rattle.std.{specs.Int.{bit_at, trailing_zeros, leading_zeros, w64}, specs.Int.RustNames.{bit_or}}
-use Rattle.std.{specs.Int.Count.{trailing_of_zero}, proofs.lemmas.Bool.{cases_lt, cases_eq}}
+use Rattle.std.{specs.Int.Count.{trailing_of_zero, leading_of_zero}, proofs.Math.Nat.{div-eq_of_lt-le}, proofs.lemmas.Bool.{cases_lt, cases_eq}}
 use Rattle.std.proofs.lemmas.List.{map-append, get_or_past, get_or-map, length-map, length-take, length-replicate, get_or-replicate}
 use Rattle.std.proofs.lemmas.Nat.Bits.{bit_at_or, bit_at-zero, bit_at-trailing_zeros, bit_at_above}
-use Rattle.std.proofs.lemmas.Nat.{leading_length, pow_pos}
+use Rattle.std.proofs.lemmas.Nat.{leading_length, leading_top, pow_pos}
 use Rattle.zf_spec.{specs.Numbers.{field, is_odd, digit_value}, proofs.Fields.{get_or-field}}
 use Rattle.zf_spec.specs.Planes.{plane, planes_of, has_one, needed_planes}
 use Rattle.zf_spec.proofs.PlaneDigits.{get_or-planes_of, length-planes_of, get_or-plane}
@@ -84,6 +84,23 @@ leading_zero_planes any w r digits within is few zeros =
         let place : i - s ≡ w - 1 - j = omega arith in
         let none = bit_at_above a top.0 i top.2 (omega arith) in
         cc (bit_at-mod (any * 2 ^ s) i (omega arith), bit_at-shl_high any s i (omega arith))
+
+-- and the plane behind them has one
+pub next_has_one : (any w r : ℕ) (digits : List ℕ) → w ≤ 64 → IsAny any digits → r ≡ leading_zeros w64 (any * 2 ^ (64 - w) % 2 ^ 64) → r < w → has_one (plane (w - 1 - r) (digits_in w digits)) ≡ true
+next_has_one any w r digits within is count few =
+    let s = 64 - w in
+    let a = any * 2 ^ s % 2 ^ 64 in
+    let some : 0 < a = ⊎_elim
+    (λ (none : a ≡ 0). absurd (omega (arith, count, ap (leading_zeros w64) none, leading_of_zero 64)))
+    (λ one. omega arith)
+    (cases_eq a 0) in
+    let top = leading_top 64 a some (mod-lt (any * 2 ^ s) (pow_pos 64)) in
+    let sum : leading_zeros w64 a + suc top.0 ≡ 64 = top.1 in
+    let place : top.0 - s ≡ w - 1 - r = omega arith in
+    let one : a / 2 ^ top.0 ≡ 1 = div-eq_of_lt-le (2 ^ top.0) (omega (arith, top.2)) (omega (arith, top.3, pow-suc 2 top.0)) in
+    let bit : bit_at any (w - 1 - r) ≡ 1 =
+    ap (bit_at any) (sym place) ∙ sym (bit_at-shl_high any s top.0 (omega arith)) ∙ sym (bit_at-mod (any * 2 ^ s) top.0 (omega arith)) ∙ ap (λ n. n % 2) one in
+    sym (is w (w - 1 - r) (omega arith)) ∙ ap (λ b. eqb b 1) bit
 
 -- where no digit is so great, none has a one from that place on
 pub none_from : (any from : ℕ) (digits : List ℕ) → IsAny any digits → any < 2 ^ from → (r k : ℕ) → from ≤ k → k < 64 → bit_of digits r k ≡ 0

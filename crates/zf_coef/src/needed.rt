@@ -1,6 +1,6 @@
 //! Which digits any coefficient has, and so which planes are needed.
 
-ghost use Rattle.std.specs.Prelude.{◌≡◌, ℕ, ◌/◌, ◌^◌, ◌<◌, ◌≤◌, false, length, take, replicate};
+ghost use Rattle.std.specs.Prelude.{◌≡◌, ℕ, ◌-◌, ◌/◌, ◌^◌, ◌<◌, ◌≤◌, true, false, length, take, replicate};
 ghost use Rattle.zf_spec.specs.Numbers.{is_odd};
 ghost use Rattle.zf_spec.specs.Planes as planes;
 ghost use Rattle.zf_spec.specs.Planes.{plane, planes_of, has_one};
@@ -37,6 +37,7 @@ pub fn zero_planes(digits: &[u64], width: u32) -> u32
     ensures within { result ≤ width }
     ensures zeros { take result (planes_of width (digits_in width digits.now))
         ≡ replicate result (replicate (length digits.now) false) }
+    ensures next { result < width → has_one (plane (width - 1 - result) (digits_in width digits.now)) ≡ true }
 {
     (any_digits(digits) << (64 - width))
         .leading_zeros()

@@ -28,6 +28,10 @@ Remains-same {old} {now} {budget} {left} {whole} remains same = let P : List Boo
 pub Remains-fits : {old now : Writer} {budget left : ℕ} {whole : List Bool} (more rest : List Bool) → Remains old now budget left whole (more ++ rest) → min left (length more) ≤ now.room
 Remains-fits more rest remains = omega (arith, remains.fits, length-append more rest)
 
+-- the same of the bits of a number
+pub room_for : {old now : Writer} {budget left : ℕ} {whole : List Bool} (len bits : ℕ) (rest : List Bool) → Remains old now budget left whole (field len bits ++ rest) → min left len ≤ now.room
+room_for len bits rest remains = omega (arith, Remains-fits (field len bits) rest remains, length-field len bits)
+
 -- the next part is written
 pub Remains-more : {old now new : Writer} {budget left : ℕ} {whole : List Bool} (more rest : List Bool) → Remains old now budget left whole (more ++ rest) → Appends now new (take left more)
     → Remains old new budget (left - length more) whole rest

@@ -1,6 +1,6 @@
 -- A list that is filled from its front, and holds one value from some place on.
-use Rattle.std.proofs.Common.{◌≡◌, ℕ, ◌+◌, ◌-◌, List, ◌++◌, length, take, drop, set, replicate, sym, ap, ◌∙◌, arith, length-set}
-use Rattle.std.proofs.lemmas.List.{drop-set-lt, drop-drop, drop-replicate, take-append-drop}
+use Rattle.std.proofs.Common.{◌≡◌, ℕ, ◌+◌, ◌-◌, List, length, drop, set, replicate, arith, length-set}
+use Rattle.std.proofs.lemmas.List.{drop-set-lt, drop-drop, drop-replicate}
 
 -- behind a place that is written
 pub behind_set : {A : Type 0} (xs : List A) (x z : A) (i k : ℕ) → drop i xs ≡ replicate (length xs - i) z → drop (i + k + 1) (set xs (i + k) x) ≡ replicate (length (set xs (i + k) x) - (i + k + 1)) z
@@ -16,7 +16,3 @@ behind_set xs x z i k e =
 -- behind the next place
 pub behind_next : {A : Type 0} (xs : List A) (x z : A) (i : ℕ) → drop i xs ≡ replicate (length xs - i) z → drop (i + 1) (set xs i x) ≡ replicate (length (set xs i x) - (i + 1)) z
 behind_next xs x z i e = let here : i + 0 ≡ i = omega arith in rw here at (behind_set xs x z i 0 e)
-
--- in the whole list
-pub whole_from : {A : Type 0} (xs ys : List A) (z : A) (i : ℕ) → drop i xs ≡ replicate (length xs - i) z → ys ≡ replicate (length xs - i) z → xs ≡ take i xs ++ ys
-whole_from xs ys z i e same = sym (take-append-drop i xs) ∙ ap (λ zs. take i xs ++ zs) (e ∙ sym same)

@@ -5,7 +5,7 @@ use Rattle.std.proofs.lemmas.Bool.{false≢true, and_parts, eqb-true, ltb-true}
 use lib.Bits.{bit_and}
 use Rattle.zf_spec.{specs.Numbers.{field}, specs.Planes.{code_from, reach_of_all}}
 use Rattle.zf_planes.{specs.Decoding.{planes_ahead, planes_bits}, proofs.LanesAhead.{planes_bits-le}}
-use Rattle.zf_planes.specs.Lanes.{low_planes, lanes_in, lanes_apart, AreBelow, AreInSight, AreAtEnd}
+use Rattle.zf_planes.specs.Lanes.{low_planes, lanes_in, lanes_apart, entry_digits, entry_len, entry_count, entry_reach, AreBelow, AreInSight, AreAtEnd}
 use Rattle.zf_planes.proofs.Tables.{same_digits, same_digits-true, each_below, each_below-true}
 use Rattle.zf_planes.specs.declared.entries.TheConstants.{LANES}
 
@@ -45,7 +45,7 @@ test_lanes n bits v l c a =
     && (are_below c (lanes_in 4 v) && (ltb 0 c && (ltb c 5 && (ltb 0 l && (ltb l 9 && (eqb a (max n (reach_of_all (low_planes c (lanes_in 4 v)))) && ltb a 5))))))
 
 abbrev test_entry : ℕ → ℕ → ℕ → Bool
-test_entry n bits e = test_lanes n bits (lanes_apart (e % 65536)) (e / 65536 % 16) (e / 1048576 % 8) (e / 8388608)
+test_entry n bits e = test_lanes n bits (lanes_apart (entry_digits e)) (entry_len e) (entry_count e) (entry_reach e)
 
 test_all_lanes : each_below (λ i. test_entry (i / 256) (i % 256) (get_or LANES i 0)) 768 ≡ true
 unfolding low_planes lanes_in
@@ -56,7 +56,7 @@ lanes_tested n bits v l c a test =
     search (rules, and_parts, same_digits, ltb-true, same_digits-true, are_below-true, eqb-true)
 
 pub lanes_of_entry : (n bits e : ℕ) → n < 3 → bits < 256 → e ≡ get_or LANES (256 * n + bits) 0
-    → AreInSight n bits (e / 1048576 % 8) (lanes_apart (e % 65536)) (e / 65536 % 16) (e / 8388608)
+    → AreInSight n bits (entry_count e) (lanes_apart (entry_digits e)) (entry_len e) (entry_reach e)
 lanes_of_entry n bits e in_plane eight is =
     let i = 256 * n + bits in
     let prefix : i / 256 ≡ n = omega arith in
@@ -64,7 +64,7 @@ lanes_of_entry n bits e in_plane eight is =
     let test : test_entry n bits e ≡ true =
     cc (
     each_below-true (λ j. test_entry (j / 256) (j % 256) (get_or LANES j 0)) 768 i test_all_lanes (omega arith)) in
-    lanes_tested n bits (lanes_apart (e % 65536)) (e / 65536 % 16) (e / 1048576 % 8) (e / 8388608) test
+    lanes_tested n bits (lanes_apart (entry_digits e)) (entry_len e) (entry_count e) (entry_reach e) test
 
 -- ---- planes by the last bits of a budget
 
@@ -75,11 +75,11 @@ test_last n left bits v l c a =
     && (are_below c (lanes_in 4 v) && (ltb 0 c && (ltb c 5 && (ltb 0 l && (eqb a (max n (reach_of_all (low_planes c (lanes_in 4 v)))) && ltb a 5))))))
 
 abbrev test_end : ℕ → ℕ → ℕ → ℕ → Bool
-test_end n left bits e = test_last n left bits (lanes_apart (e % 65536)) (min (e / 65536 % 16) left) (e / 1048576 % 8) (e / 8388608)
+test_end n left bits e = test_last n left bits (lanes_apart (entry_digits e)) (min (entry_len e) left) (entry_count e) (entry_reach e)
 
 -- the entry where zeros follow, or where with them the ones reach to the last rank, that where a one and zeros follow, if it is less
 abbrev pub less_entry : ℕ → ℕ → ℕ
-less_entry zeros one = cond (ltb zeros 33554432) zeros (min zeros one)
+less_entry zeros one = cond (ltb 3 (entry_reach zeros)) (min zeros one) zeros
 
 abbrev pub end_entry : ℕ → ℕ → ℕ → ℕ
 end_entry n p bits = less_entry (get_or LANES (256 * n + bits) 0) (get_or LANES (256 * n + (p + bits)) 0)
@@ -102,13 +102,13 @@ end_at n left bits p i e power tests in_plane small place prefix low below is =
     let here = each_below-true (λ j. test_end (j / 2 ^ left) left (j % 2 ^ left) (end_entry (j / 2 ^ left) (2 ^ left) (j % 2 ^ left))) (3 * 2 ^ left) i tests (omega arith) in search rules
 
 pub last_of_entry : (n left bits e : ℕ) → n < 3 → 0 < left → left < 8 → bits < 2 ^ left → e ≡ end_entry n (2 ^ left) bits
-    → AreAtEnd n left bits (e / 1048576 % 8) (lanes_apart (e % 65536)) (min (e / 65536 % 16) left) (e / 8388608)
+    → AreAtEnd n left bits (entry_count e) (lanes_apart (entry_digits e)) (min (entry_len e) left) (entry_reach e)
 last_of_entry n left bits e in_plane some few small is =
     let p = 2 ^ left in
     let next : suc (left - 1) ≡ left = omega arith in
     let tests : test_ends left ≡ true = ap test_ends (sym next) ∙ each_below-true (λ k. test_ends (suc k)) 7 (left - 1) test_all_ends (omega arith) in
     let below : n * p + bits < p * 3 = mul-add-lt n p bits 3 (omega arith) small in
-    last_tested n left bits (lanes_apart (e % 65536)) (min (e / 65536 % 16) left) (e / 1048576 % 8) (e / 8388608)
+    last_tested n left bits (lanes_apart (entry_digits e)) (min (entry_len e) left) (entry_count e) (entry_reach e)
     (end_at n left bits p (n * p + bits) e refl tests in_plane small refl (shr_high n left bits small) (mod_low n left bits small) (omega arith) is)
 
 -- ---- one plane

@@ -1,12 +1,14 @@
 -- Planes of four digits in which three ranks have had a one: each is its own code, as where all four have.
-use Rattle.std.proofs.Common.{rules, ◌≡◌, ℕ, zero, suc, ◌+◌, ◌-◌, ◌*◌, ◌<◌, ◌≤◌, min, max, Bool, true, false, List, [], ◌∷◌, length, take, drop, refl, ap, ◌∙◌, ⊎_elim, arith}
+use Rattle.std.proofs.Common.{rules, ◌≡◌, ℕ, zero, suc, ◌+◌, ◌-◌, ◌*◌, ◌<◌, ◌≤◌, min, max, Bool, true, false, List, [], ◌∷◌, ◌++◌, length, take, drop, refl, inr, sym, ap, ◌∙◌, ⊎_elim, arith}
 use Rattle.std.{proofs.lemmas.Bool.{cases_lt}, proofs.lemmas.List.{length-append}}
-use Rattle.std.proofs.lemmas.List.Elements.{All-nil, All-cons, All-head, All-tail}
+use Rattle.std.proofs.lemmas.List.Elements.{All-head, All-tail}
 use Rattle.zf_spec.{specs.Planes.{plane_code, code_from, reach, AreOfSize}, proofs.Full.{length-plane_in}}
-use Rattle.zf_spec.{specs.Kept.{kept_plane, kept_planes_from}, specs.ReadPlanes.{plane_in, planes_in_from}}
-use Rattle.zf_spec.{proofs.KeptSame.{kept_whole}, proofs.Reach.{reach_within}}
+use Rattle.zf_spec.{specs.Kept.{kept_plane}, specs.ReadPlanes.{first_bits, plane_in, planes_in_from}}
+use Rattle.zf_spec.{proofs.KeptSame.{kept_whole}, proofs.Reach.{reach-le, reach_within}}
+use Rattle.zf_planes.{proofs.PlaneAhead.{plane_ahead-is}, proofs.Steps.{tail_over}, proofs.PlanesAhead.{next_plane, planes_ahead-none, planes_bits-none}}
+use Rattle.zf_spec.proofs.Beginnings.{length-first_bits}
 use Rattle.zf_bits.specs.Reader.{Reader, rest}
-use Rattle.zf_planes.{specs.Decoding.{planes_ahead, planes_bits}, specs.Lanes.{ReadsPlanes, ReadsSome}}
+use Rattle.zf_planes.{specs.Decoding.{plane_ahead, plane_bits, planes_ahead, planes_bits, tail_ahead}, specs.States.{State, Comes}}
 
 -- a list of four
 pub record IsFour (ds : List Bool) : Type 0 where
@@ -71,43 +73,35 @@ code_of_three n m (ds ∷ planes) low high low' high' sizes =
     let rest = code_of_three (max n (reach ds)) (max m (reach ds)) planes (omega arith) (reach_within 4 n ds high long) (omega arith) (reach_within 4 m ds high' long) below in
     cc (plane_of_three n ds low high long, plane_of_three m ds low' high' long)
 
--- what a budget keeps of them
-kept_of_planes : (n r : ℕ) (planes : List (List Bool)) → 3 ≤ n → n ≤ 4 → AreOfSize 4 planes → kept_planes_from r n planes ≡ kept_planes_from r 4 planes
-kept_of_planes n r [] low high sizes = refl
-kept_of_planes n r (ds ∷ planes) low high sizes =
-    let long : length ds ≡ 4 = All-head (λ es. length es ≡ 4) ds planes sizes in
-    let below = All-tail (λ es. length es ≡ 4) ds planes sizes in
-    let here = kept_of_three n r ds low high long in
-    let own = plane_of_three n ds low high long in
-    let reached : max 4 (reach ds) ≡ 4 = omega (arith, reach_within 4 4 ds (omega arith) long) in
-    let left = r - length (plane_code 4 ds) in
-    let rest = kept_of_planes (max n (reach ds)) left planes (omega arith) (reach_within 4 n ds high long) below in search rules
+-- one plane
+one_of_three : (left n : ℕ) (s : List Bool) → 3 ≤ n → n ≤ 4 → (plane_bits left 4 n s ≡ plane_bits left 4 4 s) × (plane_ahead left 4 n s ≡ plane_ahead left 4 4 s)
+unfolding plane_bits plane_ahead
+one_of_three left n s low high =
+    let long : length (plane_in 4 4 (take left s)) ≡ 4 = length-plane_in 4 4 (take left s) (omega arith) in
+    let own = plane_of_three n (plane_in 4 4 (take left s)) low high long in
+    let whole = plane_of_three 4 (plane_in 4 4 (take left s)) (omega arith) (omega arith) long in
+    (rw (read_of_three n (take left s) low high, own, whole) refl, rw (read_of_three n (take left s) low high) (kept_of_three n left (plane_in 4 4 (take left s)) low high long))
 
--- what bits make of them
-planes_of_three : (p n : ℕ) (s : List Bool) → 3 ≤ n → n ≤ 4 → planes_in_from p 4 n s ≡ planes_in_from p 4 4 s
-planes_of_three zero n s low high = refl
-planes_of_three (suc p) n s low high =
-    let ds = plane_in 4 4 s in
-    let long : length ds ≡ 4 = length-plane_in 4 4 s (omega arith) in
-    let own = plane_of_three n ds low high long in
-    let whole = plane_of_three 4 ds (omega arith) (omega arith) long in
-    let reached : max 4 (reach ds) ≡ 4 = omega (arith, reach_within 4 4 ds (omega arith) long) in
-    let rest = planes_of_three p (max n (reach ds)) (drop (length ds) s) (omega arith) (reach_within 4 n ds high long) in
-    rw (read_of_three n s low high, own, whole, reached, rest) refl
-
-sizes_of_four : (p : ℕ) (s : List Bool) → AreOfSize 4 (planes_in_from p 4 4 s)
-sizes_of_four zero s = All-nil (λ es. length es ≡ 4)
-sizes_of_four (suc p) s =
-    let ds = plane_in 4 4 s in
-    let long : length ds ≡ 4 = length-plane_in 4 4 s (omega arith) in
-    let reached : max 4 (reach ds) ≡ 4 = omega (arith, reach_within 4 4 ds (omega arith) long) in
-    let t = drop (length (plane_code 4 ds)) s in
-    All-cons (λ es. length es ≡ 4) ds (planes_in_from p 4 (max 4 (reach ds)) t) long (rw reached (sizes_of_four p t))
+-- it has four digits
+four_ahead : (left : ℕ) (s : List Bool) → length (plane_ahead left 4 4 s) ≡ 4
+four_ahead left s =
+    let none : 4 - 4 ≡ 0 = omega arith in
+    let over = tail_over (left - min 4 left) 0 (drop (min 4 left) s) (inr refl) in
+    omega (arith, ap length (rw none at (plane_ahead-is left 4 4 s (omega arith))), length-append (first_bits 4 (take left s)) (tail_ahead (left - min 4 left) 0 (drop (min 4 left) s)), length-first_bits 4 (take left s), ap length over.1)
 
 -- so three ranks are as good as four
 pub ahead_of_three : (left p n : ℕ) (s : List Bool) → 3 ≤ n → n ≤ 4 → (planes_bits left p 4 n s ≡ planes_bits left p 4 4 s) × (planes_ahead left p 4 n s ≡ planes_ahead left p 4 4 s)
-unfolding planes_ahead planes_bits
-ahead_of_three left p n s low high = search (rules, sizes_of_four, planes_of_three, code_of_three, kept_of_planes)
+ahead_of_three left zero n s low high = search (rules, planes_bits-none, planes_ahead-none)
+ahead_of_three left (suc p) n s low high =
+    let one = one_of_three left n s low high in
+    let ds = plane_ahead left 4 4 s in
+    let long = four_ahead left s in
+    let here = rw (one.0, one.1) at (next_plane left p 4 n s (omega arith) high (ap length one.1 ∙ long)) in
+    let there = next_plane left p 4 4 s (omega arith) (omega arith) long in
+    let k = plane_bits left 4 4 s in
+    let all : max 4 (reach ds) ≡ 4 = omega (arith, reach-le ds) in
+    let below = ahead_of_three (left - k) p (max n (reach ds)) (drop k s) (omega arith) (omega (arith, reach-le ds)) in
+    (here.bits ∙ ap (λ m. k + m) below.0 ∙ sym (rw all at there.bits), here.digits ∙ ap (λ (ps : List (List Bool)). ds ∷ ps) below.1 ∙ sym (rw all at there.digits))
 
 -- ---- bits that are needed
 
@@ -127,13 +121,25 @@ pub own_bits : (left p : ℕ) (s : List Bool) → planes_bits left p 4 4 s ≡ m
 unfolding planes_bits
 own_bits left p s = ap (min left) (own_length p (take left s))
 
--- planes that were read behind four ranks are those behind three
-pub three_for_four : {old new : Reader} {left after : ℕ} (most n c v len above : ℕ) → 3 ≤ n → n ≤ 4 → ReadsSome most 4 old new left after c v len above → ReadsSome most n old new left after c v len above
-three_for_four {old} {new} {left} most n c v len above low high some =
-    let same = ahead_of_three left most n (rest old) low high in search rules
+-- planes that come behind four ranks are those behind three
+pub three_for_four : {c n left : ℕ} {now : Reader} {t : State} {planes : List (List Bool)} → 3 ≤ n → n ≤ 4 → Comes 4 c (record { left = left; above = 4; reader = now }) [] t planes → Comes 4 c (record { left = left; above = n; reader = now }) [] t planes
+three_for_four {c} {n} {left} {now} {t} {planes} low high come = record {
+  planes = λ p q e. (ahead_of_three left p n (rest now) low high).1 ∙ come.planes p q e;
+  bits = λ p q e. (ahead_of_three left p n (rest now) low high).0 ∙ come.bits p q e;
+  passed = come.passed;
+  risen = omega (arith, come.risen);
+  ranks = λ within. come.ranks (omega arith);
+}
 
 -- and so are those that follow
-pub three_through : {old new : Reader} {left after : ℕ} (most n c v len : ℕ) → 3 ≤ n → n ≤ 4 → ReadsPlanes most 4 old new left after c v len 4 → ReadsPlanes most n old new left after c v len n
-three_through {old} {new} {left} {after} most n c v len low high read =
-    let here = ahead_of_three left most n (rest old) low high in
-    let behind = ahead_of_three after (most - c) n (rest new) low high in search rules
+pub three_through : {c n left after : ℕ} {now new : Reader} {planes : List (List Bool)} → 3 ≤ n → n ≤ 4 → Comes 4 c (record { left = left; above = 4; reader = now }) [] (record { left = after; above = 4; reader = new }) planes
+    → Comes 4 c (record { left = left; above = n; reader = now }) [] (record { left = after; above = n; reader = new }) planes
+three_through {c} {n} {left} {after} {now} {new} {planes} low high come =
+    let here = three_for_four low high come in
+    record {
+      planes = λ p q e. here.planes p q e ∙ ap (λ (ps : List (List Bool)). planes ++ ps) (sym (ahead_of_three after q n (rest new) low high).1);
+      bits = λ p q e. omega (arith, here.bits p q e, (ahead_of_three after q n (rest new) low high).0);
+      passed = come.passed;
+      risen = omega arith;
+      ranks = λ within. high;
+    }

@@ -17,6 +17,7 @@
 --     Steps        one step of reading a tail
 --     PlaneAhead   what the decoder makes of one plane
 --     PlanesAhead  what the decoder makes of planes
+--     Coming       planes that come one behind another, from state to state
 --     PlanesRead   planes that are read from the greatest on
 --     Lanes        digits of four coefficients in words, and in four lanes of one word
 --     LaneTables   tables of planes of four digits in lanes
@@ -25,6 +26,7 @@
 --     Peeking      bits that were looked at and are not yet passed
 --     LastRank     planes of four digits in which three ranks have had a one
 --     Lone         planes of four digits in which the first rank alone has ones
+--     TurnedPairs  digits that stand two bits apart, put together and turned
 --     Strings      planes of four digits in one number, and their code
 --     TopPlanes    the top planes of words, and those of four words as a string
 pub mod Runs
@@ -45,6 +47,7 @@ pub mod Placing
 pub mod Steps
 pub mod PlaneAhead
 pub mod PlanesAhead
+pub mod Coming
 pub mod PlanesRead
 pub mod Lanes
 pub mod LaneTables
@@ -53,5 +56,6 @@ pub mod Passing
 pub mod Peeking
 pub mod LastRank
 pub mod Lone
+pub mod TurnedPairs
 pub mod Strings
 pub mod TopPlanes

@@ -16,7 +16,7 @@ pub Passes-start : (r : Reader) (budget needed : ℕ) → Passes r r budget budg
 Passes-start r budget needed = record { enough = omega arith; place = omega arith; all = refl; within = omega arith; sum = omega arith }
 
 -- the length of what is left
-long : (r : Reader) → length (rest r) ≡ length r.all - r.at
+pub long : (r : Reader) → length (rest r) ≡ length r.all - r.at
 long r = length-drop r.at r.all
 
 pub Passes-part : {old now new : Reader} {budget left after count more needed : ℕ} (less : ℕ) → Passes old now budget left more needed → more ≡ count + less → Takes now new left after count

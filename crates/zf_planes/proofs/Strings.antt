@@ -1,5 +1,5 @@
 -- Strings: planes of four digits in one number, and their code.
-use Rattle.std.proofs.Common.{◌≡◌, ℕ, zero, suc, ◌+◌, ◌-◌, ◌*◌, ◌/◌, ◌%◌, ◌^◌, ◌<◌, ◌≤◌, min, max, Bool, List, [], ◌∷◌, ◌++◌, length, append_assoc, take, ⊎_elim, refl, sym, ap, ◌∙◌, arith}
+use Rattle.std.proofs.Common.{◌≡◌, ℕ, zero, suc, ◌+◌, ◌-◌, ◌*◌, ◌/◌, ◌%◌, ◌^◌, ◌<◌, ◌≤◌, min, max, Bool, false, List, [], ◌∷◌, ◌++◌, length, append_assoc, take, replicate, ⊎_elim, refl, sym, ap, ◌∙◌, arith}
 use Rattle.std.{proofs.lemmas.List.{length-take}, proofs.lemmas.Nat.{pow-add}}
 use Rattle.std.{proofs.lemmas.Bool.{cases_lt}, proofs.lemmas.List.Elements.{All-nil, All-cons}}
 use Rattle.zf_spec.{specs.Numbers.{field}, proofs.Fields.{length-field, field-add, field-mod}}
@@ -7,7 +7,7 @@ use Rattle.zf_spec.specs.Planes.{plane_code, code_from, reach, reach_of_all, Are
 use Rattle.zf_spec.proofs.Reach.{reach-le}
 use Rattle.std.{specs.Int.Bits.{bit_or}}
 use Rattle.zf_bits.specs.Writer.{Writer}
-use Rattle.zf_planes.{specs.Fours.{string_planes, IsAsGood}}
+use Rattle.zf_planes.{specs.Fours.{string_planes, IsAsGood, IsCodeOfTwo}, proofs.Zeros.{field_before}}
 use Rattle.zf_planes.{specs.Writes.{Remains}, proofs.LastRank.{code_of_three}}
 use Rattle.zf_planes.{proofs.Budgets.{take_append, Remains-same}, proofs.Gathering.{take_field, bits_behind}}
 
@@ -65,6 +65,30 @@ pub last_of_string : (n k string next : ℕ) (bits : List Bool) → k ≡ 1 → 
     → GoesOn n (string_planes k string) bits next (string_planes (k - 2) (string / 256))
 unfolding string_planes
 last_of_string n k string next bits one is reached = rw one (plane_of_string n zero string next bits is reached)
+
+zero_plane : (m : ℕ) → m ≤ 4 → plane_code m (field 4 0) ≡ replicate (min (m + 1) 4) false
+zero_plane zero few = refl
+zero_plane (suc zero) few = refl
+zero_plane (suc (suc zero)) few = refl
+zero_plane (suc (suc (suc zero))) few = refl
+zero_plane (suc (suc (suc (suc zero)))) few = refl
+zero_plane m few = absurd (omega arith)
+
+-- a plane's code in front of that of a plane of zeros
+pub first_of_two : (n string l v a : ℕ) → n < 3 → IsCodeOfTwo n (string % 16) l v a
+    → (field (l - min (a + 1) 4) v ≡ plane_code n (field 4 (string % 16))) × (v < 2 ^ (l - min (a + 1) 4)) × (min (a + 1) 4 ≤ l) × (a ≡ max n (reach (field 4 (string % 16))))
+first_of_two n string l v a few two =
+    let ds = field 4 (string % 16) in
+    let first : string % 16 % 16 ≡ string % 16 = omega arith in
+    let second : string % 16 / 16 % 16 ≡ 0 = omega arith in
+    let none : reach (field 4 0) ≡ 0 = refl in
+    let reached : a ≡ max n (reach ds) = (rw (first, second) at two.above) ∙ omega (arith, none) in
+    let within : a ≤ 4 = omega (arith, reached, reach-le ds, length-field 4 (string % 16)) in
+    let code : field l v ≡ plane_code n ds ++ replicate (min (a + 1) 4) false =
+    (rw (first, second, ← reached) at two.bits) ∙ ap (λ (bs : List Bool). plane_code n ds ++ bs) (zero_plane a within) in
+    let found = field_before l (min (a + 1) 4) v (plane_code n ds) two.small code in
+    let long : length (plane_code n ds) ≡ l - min (a + 1) 4 = omega (arith, found.2) in
+    let here = rw long at found in (here.0, here.1, omega (arith, found.2), reached)
 
 -- the first planes of a string
 pub take-fours : (m k string : ℕ) → take m (string_planes (m + k) string) ≡ string_planes m string

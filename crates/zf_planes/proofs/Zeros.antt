@@ -1,8 +1,9 @@
 -- The code of zeros and of a run as numbers: planes without a one, and a group bit with the run behind it.
-use Rattle.std.proofs.Common.{rules, ◌≡◌, ℕ, zero, suc, ◌+◌, ◌-◌, ◌*◌, ◌%◌, ◌^◌, ◌<◌, ◌≤◌, min, max, Bool, true, false, List, [], ◌∷◌, ◌++◌, length, take, replicate, refl, sym, ap, ◌∙◌, arith, append_assoc, length-append, length-take, lit<}
-use Rattle.std.{specs.Int.Bits.{bit_or}, proofs.Math.Nat.{pow-le-pow_right}, proofs.lemmas.Bool.{cases_lt}}
+use Rattle.std.proofs.Common.{rules, ◌≡◌, ℕ, zero, suc, ◌+◌, ◌-◌, ◌*◌, ◌%◌, ◌^◌, ◌<◌, ◌≤◌, min, max, Bool, true, false, List, [], ◌∷◌, ◌++◌, length, take, replicate, take_at, refl, sym, ap, ◌∙◌, arith, append_assoc, length-append, length-take, lit<}
+use Rattle.std.{specs.Int.Bits.{bit_or}, proofs.Math.Nat.{mod-eq_of_lt, pow-le-pow_right}, proofs.lemmas.Bool.{cases_lt}}
 use Rattle.std.proofs.lemmas.List.{take-take, take_all, take-append-le, take-replicate, length-replicate}
-use Rattle.zf_spec.{specs.Numbers.{field}, specs.Planes.{code_from, reach, tail}, proofs.Fields.{field-zero}}
+use Rattle.zf_spec.{specs.Numbers.{field, number}, specs.Planes.{code_from, reach, tail}}
+use Rattle.zf_spec.proofs.Fields.{field-zero, length-field, number-field, number-append, number-zeros, number-lt}
 use Rattle.zf_spec.proofs.Reach.{reach_none, has_one-zeros}
 use Rattle.zf_bits.{proofs.Fields.{take-field}, proofs.Words.{field_or}}
 use Rattle.zf_planes.proofs.Runs.{tail_none}
@@ -14,6 +15,18 @@ take_both {A} left n xs = search (rules, take-take, take_all, length-take, cases
 
 pub take_zeros : (left k : ℕ) → take left (replicate k false) ≡ replicate (min left k) false
 take_zeros left k = search (rules, take-replicate, take_all, length-replicate, cases_lt)
+
+-- ---- a number whose last digits are zeros
+
+pub field_before : (k z v : ℕ) (bs : List Bool) → v < 2 ^ k → field k v ≡ bs ++ replicate z false → (field (length bs) v ≡ bs) × (v < 2 ^ length bs) × (length bs + z ≡ k)
+field_before k z v bs small is =
+    let sum : length bs + z ≡ k = omega (arith, ap length is, length-field k v, length-append bs (replicate z false), length-replicate z false) in
+    let whole : v ≡ number bs =
+    sym (number-field k v ∙ mod-eq_of_lt small) ∙ ap number is ∙ number-append bs (replicate z false) ∙ ap (λ n. number bs + 2 ^ length bs * n) (number-zeros z) ∙ omega arith in (
+      sym (take-field (length bs) z v) ∙ ap (λ j. take (length bs) (field j v)) sum ∙ ap (take (length bs)) is ∙ take_at bs (replicate z false) (length bs) refl,
+      rw (← whole) at (number-lt bs),
+      sum,
+    )
 
 -- ---- planes without a one
 

@@ -84,15 +84,6 @@ pub record ReadsTail (size n : ℕ) (old new : Reader) (left after : ℕ) (prefi
   pub clear : IsClearFrom size words
   pub reached : above ≡ max n (reach (digits_held size words))
 
--- the code of one plane was read into words, where the ranks below n have had a one above, and so far do its
--- ones and theirs reach
-pub record ReadsPlane (size n : ℕ) (old new : Reader) (left after : ℕ) (words : List ℕ) (above : ℕ) : Type 0
-  where
-    pub taken : Takes old new left after (plane_bits left size n (rest old))
-    pub digits : digits_held size words ≡ plane_ahead left size n (rest old)
-    pub clear : IsClearFrom size words
-    pub reached : above ≡ max n (reach (digits_held size words))
-
 -- so many bits are there, and the budget has them
 pub record IsSpent (before after count : ℕ) (s : List Bool) : Type 0 where
   pub enough : count ≤ length s

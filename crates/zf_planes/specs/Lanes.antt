@@ -1,9 +1,9 @@
 -- Digits of four coefficients in words, and in four lanes of one word.
 use Rattle.std.specs.Prelude.{ℕ, suc, zero, ◌≡◌, ◌+◌, ◌-◌, ◌*◌, ◌/◌, ◌%◌, ◌^◌, ◌<◌, ◌≤◌, max, Bool, false, List, [], ◌∷◌, ◌++◌, length, map, replicate}
+use Rattle.std.specs.Int.{bit_at}
 use Rattle.zf_spec.specs.Numbers.{is_odd, field}
 use Rattle.zf_spec.specs.Planes.{code_from, reach_of_all}
-use Rattle.zf_bits.specs.Reader.{Reader, rest}
-use Rattle.zf_planes.specs.Decoding.{planes_ahead, planes_bits, Takes, IsSpent}
+use Rattle.zf_planes.specs.Decoding.{planes_ahead, planes_bits, IsSpent}
 
 -- the planes of the c lowest digits of each word, the greatest first
 unfoldable pub low_planes : ℕ → List ℕ → List (List Bool)
@@ -18,6 +18,20 @@ lanes_in (suc k) v = v % 65536 ∷ lanes_in k (v / 65536)
 -- four lanes of four bits, made lanes of 16
 abbrev pub lanes_apart : ℕ → ℕ
 lanes_apart v = v % 16 + v / 16 % 16 * 65536 + v / 256 % 16 * 4294967296 + v / 4096 % 16 * 281474976710656
+
+-- what an entry of a table of lanes has: digits in lanes of four bits, the length of their code, how many
+-- planes they are, and how far their ones and those above reach
+abbrev pub entry_digits : ℕ → ℕ
+entry_digits e = e % 2 ^ 16
+
+abbrev pub entry_len : ℕ → ℕ
+entry_len e = e / 2 ^ 16 % 2 ^ 4
+
+abbrev pub entry_count : ℕ → ℕ
+entry_count e = e / 2 ^ 20 % 2 ^ 3
+
+abbrev pub entry_reach : ℕ → ℕ
+entry_reach e = e / 2 ^ 23
 
 -- each word has no digit from the c-th on
 unfoldable pub AreBelow : ℕ → List ℕ → Type 0
@@ -66,6 +80,11 @@ pub record AreAtEnd (n r b c v l a : ℕ) : Type 0 where
   pub above : a ≡ max n (reach_of_all (low_planes c (lanes_in 4 v)))
   pub within : a ≤ 4
 
+-- of the first twelve of b's digits that stand two bits apart, the first one is the greatest of v
+pub record AreTurned (b v : ℕ) : Type 0 where
+  pub digit : (j : ℕ) → j < 12 → bit_at v (11 - j) ≡ bit_at b (2 * j)
+  pub small : v < 4096
+
 -- planes in which the first rank alone has ones, of at most p, and of at most twelve; b has k bits
 pub record AreLoneInSight (p b k c v l a : ℕ) : Type 0 where
   pub code : code_from 0 (low_planes c (lanes_in 4 v)) ≡ field l b
@@ -87,22 +106,3 @@ pub record ReadsGathered (budget p : ℕ) (s : List Bool) (after : ℕ) (words :
     pub held : h ≤ 12
     pub digits : planes_ahead budget p 4 0 s ≡ gathered words done v h
         ++ replicate (p - (done + h)) (replicate 4 false)
-
--- ---- planes that were read
-
--- of at most so many planes, behind ranks below n that have had a one, c were read into the lanes v, by len
--- bits; those behind them are to come
-pub record ReadsPlanes (most n : ℕ) (old new : Reader) (left after c v len above : ℕ) : Type 0 where
-  pub fits : c ≤ most
-  pub below : AreBelow c (lanes_in 4 v)
-  pub within : above ≤ 4
-  pub taken : Takes old new left after len
-  pub bits : planes_bits left most 4 n (rest old) ≡ len + planes_bits after (most - c) 4 above (rest new)
-  pub digits : planes_ahead left most 4 n (rest old) ≡ low_planes c (lanes_in 4 v)
-      ++ planes_ahead after (most - c) 4 above (rest new)
-
--- one plane at least, and four at most
-pub record ReadsSome (most n : ℕ) (old new : Reader) (left after c v len above : ℕ) : Type 0 where
-  pub some : 0 < c
-  pub few : c ≤ 4
-  pub read : ReadsPlanes most n old new left after c v len above

@@ -1,7 +1,8 @@
 -- Planes of up to 64 digits by the bits of their code.
-use Rattle.std.specs.Prelude.{ℕ, ◌≡◌, ◌+◌, ◌^◌, ◌<◌, ◌≤◌, max, Bool, List, ◌++◌, drop}
+use Rattle.std.specs.Prelude.{ℕ, ◌≡◌, ◌+◌, ◌-◌, ◌*◌, ◌^◌, ◌<◌, ◌≤◌, max, Bool, List, ◌++◌, drop}
 use Rattle.zf_spec.specs.Numbers.{field}
-use Rattle.zf_spec.specs.Planes.{plane_code, code_from, reach}
+use Rattle.zf_spec.specs.Planes.{tail, plane_code, code_from, reach}
+use Rattle.zf_planes.specs.Doubled.{doubled}
 
 -- where the ranks below n have had a one above, the code of the plane of these digits has so many bits and
 -- begins these bits, and its ones and those above reach so far
@@ -9,6 +10,29 @@ pub record IsReadAs (n size bits digits len above : ℕ) : Type 0 where
   pub code : plane_code n (field size digits) ≡ field len bits
   pub small : digits < 2 ^ size
   pub reached : above ≡ max n (reach (field size digits))
+
+-- the tail of so many digits behind whose group bit of one these bits come: its digits, the length of its code
+-- with that bit, and how far its ones reach
+pub record IsTail (most bits digits l a : ℕ) : Type 0 where
+  pub code : tail (field most digits) ≡ field l (2 * bits + 1)
+  pub some : 0 < digits
+  pub small : digits < 2 ^ most
+  pub len : l < 10
+  pub above : a ≡ reach (field most digits)
+
+-- or the first a digits of its run, fewer than all, whose code 96 less than l of the bits are
+pub record IsBegun (most bits digits l a : ℕ) : Type 0 where
+  pub code : doubled (field a digits) ≡ field (l - 96) bits
+  pub small : digits < 2 ^ a
+  pub fewer : a < most
+  pub taken : (95 < l) × (l < 105)
+
+pub record IsTailEntry (most bits digits l a : ℕ) : Type 0 where
+  pub some : 0 < l
+  pub few : l < 105
+  pub within : a < 16
+  pub tail : l ≤ 64 → IsTail most bits digits l a
+  pub begun : 64 < l → IsBegun most bits digits l a
 
 -- these bits are the whole code of the plane, whose ones reach no farther than those above
 pub record IsPlainCode (n size digits l bits : ℕ) : Type 0 where

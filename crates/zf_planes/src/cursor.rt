@@ -22,6 +22,7 @@ pub(crate) struct Cursor<'a> {
 impl<'a> Cursor<'a> {
     /// A cursor where a reader stands, with so much of a budget.
     #[inline]
+    #[tactic(auto, using(crate::proofs::Peeking::peeked))]
     pub(crate) fn new(left: u64, reader: &BitReader<'a>) -> Cursor<'a>
         ensures left { result.left ≡ left }
         ensures reader { result.reader ≡ reader.now }
@@ -53,6 +54,7 @@ impl<'a> Cursor<'a> {
 
     /// Looks again where fewer bits are in sight than are wanted, and there may be more.
     #[inline]
+    #[tactic(auto, using(crate::proofs::Peeking::window_long))]
     pub(crate) fn look_on(&mut self, wanted: u64)
         ensures reader { self.new.reader ≡ self.old.reader }
         ensures left { self.new.left ≡ self.old.left }

@@ -4,7 +4,7 @@ ghost use Rattle.std.specs.Prelude.{◌≡◌, ◌+◌, ◌-◌, ◌*◌, ◌%�
 ghost use Rattle.zf_spec.specs.{Grid.{IsBlockSize}, Kept.{kept_planes}, ReadPlanes.{first_bits}};
 ghost use Rattle.zf_spec.specs.{HeldPlanes.{digits_held, planes_held, IsClearFrom}, Numbers.{word_bits}};
 ghost use Rattle.{zf_spec.specs.Planes.{reach}, zf_bits.specs.Reader.{rest, Reads}};
-ghost use Rattle.zf_planes.specs.{Moves.{Moves, LacksPlane, MovesOverPlane}, Sizes.{HasBlanks}};
+ghost use Rattle.zf_planes.specs.{Moves.{state, Moves, MovesOverPlane}, States.{Lack}, Sizes.{HasBlanks}};
 ghost use Rattle.zf_planes.specs.Decoding.{coded, coded_bits, tail_ahead, tail_bits, run_ahead, run_bits, planes_bits, Takes, Lacks, ReadsRun, ReadsGroup, ReadsTail, ReadsTop};
 
 use crate::cursor::Cursor;
@@ -116,6 +116,7 @@ fn read_group(most: usize, cursor: &mut Cursor<'_>) -> Option<usize>
 
 /// Makes a digit one.
 #[inline]
+#[tactic(auto, using(crate::proofs::Placing::one_set))]
 fn set_one<P: Plane>(rank: usize, plane: &mut P)
     requires size { rank < 256 }
     requires words { rank < 64 * P.word_count }
@@ -168,11 +169,12 @@ pub(crate) fn read_by_runs<P: Plane>(
     size: usize,
     cursor: &mut Cursor<'_>,
 ) -> Option<PlaneRead<P>>
+    requires some { 0 < size }
     requires words { size ≤ 64 * P.word_count }
     requires in_plane { n ≤ size }
-    ensures short { IfNone result (LacksPlane size n cursor.old cursor.new) }
-    ensures read { IfSome result (λ read. MovesOverPlane size n cursor.old cursor.new (P.words read.plane)
-        read.above) }
+    ensures short { IfNone result (Lack size 1 (state n cursor.old)) }
+    ensures read { IfSome result (λ read. MovesOverPlane size (state n cursor.old)
+        (state read.above cursor.new) (P.words read.plane)) }
 {
     let prefix = read_prefix::<P>(n, cursor)?;
     // A tail whose runs are all in sight is read with no further look.

@@ -25,8 +25,8 @@ fn double(digits: u64) -> Part
     ensures len { result.len ≤ 16 }
 {
     let entry = doubled_entry(digits);
-    let bits = u64::from(entry % 65536);
-    let len = u64::from(entry / 65536);
+    let bits = entry.bits;
+    let len = entry.len;
     Part { bits, len }
 }
 
@@ -43,8 +43,8 @@ fn short_run(most: u64, digits: u64) -> Part
 {
     // The digits doubled, up to the last one. Its second bit is the group bit behind it, which is zero.
     let entry = doubled_entry(digits);
-    let len = u64::from(entry / 65536) - u64::from((digits << 56).leading_zeros());
-    let bits = u64::from(entry % 65536) - (1 << (len - 1));
+    let len = entry.len - u64::from((digits << 56).leading_zeros());
+    let bits = entry.bits - (1 << (len - 1));
     // The one of the last digit has no bit, and nothing follows it.
     let implied = if digits >> (most - 1) == 0 { 0 } else { 2 };
     let count = len - implied;
@@ -56,6 +56,7 @@ fn short_run(most: u64, digits: u64) -> Part
 
 /// Bits behind others.
 #[inline]
+#[tactic(auto, using(crate::proofs::Gathering::bits_behind, crate::proofs::Gathering::small_behind))]
 pub(crate) fn join(prefix: Part, back: Part) -> Part
     requires some_left { prefix.len < 64 }
     requires within { prefix.len + back.len ≤ 64 }

@@ -32,6 +32,7 @@ fn write_digits<P: Plane>(left: u64, from: usize, to: usize, plane: &P, out: &mu
 
 /// Appends a group bit of one and a run of at most `most` digits, whose one comes behind so many zeros.
 #[inline]
+#[tactic(auto, using(crate::proofs::Zeros::run_field, crate::proofs::Zeros::take_both))]
 fn write_group(left: u64, zeros: u32, most: usize, out: &mut BitWriter) -> u64
     requires in_word { zeros < 63 }
     requires fits { min left (min (zeros + 2) most) ≤ out.old.room }

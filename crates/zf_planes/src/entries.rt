@@ -1,6 +1,7 @@
 //! The tables of this crate. `tables.py` makes their rows.
 
-ghost use Rattle.std.specs.Prelude.{◌≡◌, ◌+◌, ◌-◌, ◌*◌, ◌<◌, ◌≤◌, slice_index_or};
+ghost use Rattle.std.specs.Prelude.{◌≡◌, ◌+◌, ◌*◌, ◌/◌, ◌%◌, ◌^◌, ◌<◌, slice_index_or};
+ghost use Rattle.zf_planes.specs.{WordPlanes.{IsTailEntry}, Lanes.{entry_digits, entry_len, entry_count, entry_reach}};
 
 // A table by its entries, or by rows of them that stand once or several times.
 macro_rules! table {
@@ -37,13 +38,27 @@ static DOUBLED: [u32; 256] = table! {
     1015806 1114111
 };
 
+/// What the table of doubled digits says.
+#[derive(Clone, Copy)]
+pub(crate) struct Doubled {
+    /// The bits.
+    pub(crate) bits: u64,
+    /// How many there are.
+    pub(crate) len: u64,
+}
+
 /// What the table says of these digits.
 #[inline]
-pub(crate) fn doubled_entry(digits: u64) -> u32
+pub(crate) fn doubled_entry(digits: u64) -> Doubled
     requires { digits < 256 }
-    ensures { result ≡ slice_index_or DOUBLED digits 0 }
+    ensures bits { result.bits ≡ slice_index_or DOUBLED digits 0 % 2 ^ 16 }
+    ensures len { result.len ≡ slice_index_or DOUBLED digits 0 / 2 ^ 16 }
 {
-    DOUBLED[digits as usize]
+    let entry = DOUBLED[digits as usize];
+    Doubled {
+        bits: u64::from(entry % (1 << 16)),
+        len: u64::from(entry >> 16),
+    }
 }
 
 /// The codes of two planes of four digits, one below the other: entry `256 * n + 16 * second + first` is that
@@ -205,6 +220,38 @@ pub(crate) fn entry_of_lanes(n: usize, bits: u64) -> u32
     LANES[256 * n + bits as usize]
 }
 
+/// How far the ones reach behind the planes of an entry.
+#[inline(always)]
+pub(crate) fn reach_of_lanes(entry: u32) -> u32
+    ensures { result ≡ entry_reach entry }
+{
+    entry >> 23
+}
+
+/// How many planes an entry has.
+#[inline(always)]
+pub(crate) fn count_of_lanes(entry: u32) -> u32
+    ensures { result ≡ entry_count entry }
+{
+    (entry >> 20) % (1 << 3)
+}
+
+/// How many bits their code has.
+#[inline(always)]
+pub(crate) fn len_of_lanes(entry: u32) -> u64
+    ensures { result ≡ entry_len entry }
+{
+    u64::from((entry >> 16) % (1 << 4))
+}
+
+/// Their digits in four lanes of four bits.
+#[inline(always)]
+pub(crate) fn digits_of_lanes(entry: u32) -> u64
+    ensures { result ≡ entry_digits entry }
+{
+    u64::from(entry % (1 << 16))
+}
+
 /// Eight digits four bits apart, the greatest one lowest: entry `b` has bit `7 - k` of `b` in bit `4 * k`.
 static SPREAD: [u32; 256] = table! {
     0 268435456 16777216 285212672 1048576 269484032 17825792 286261248 65536 268500992 16842752 285278208
@@ -345,13 +392,28 @@ static TAILS: [u32; 2304] = table! {
     }
 };
 
-/// What the table says of these bits of a tail of so many digits.
-#[inline]
-pub(crate) fn tail_entry(most: usize, bits: u64) -> u32
+/// What the table of tails says.
+#[derive(Clone, Copy)]
+pub(crate) struct Tail {
+    /// The digits, that of the first rank lowest.
+    pub(crate) digits: u64,
+    /// How far the ones reach, or how many digits begin the run.
+    pub(crate) reach: usize,
+    /// How many bits the code has, or 96 more than those that begin it.
+    pub(crate) len: u64,
+}
+
+/// What the table says of a tail of `most` digits behind whose group bit of one these bits come.
+#[inline(always)]
+pub(crate) fn tail_entry(most: usize, bits: u64) -> Tail
     requires some { 0 < most }
-    requires nine { most ≤ 9 }
     requires bits { bits < 256 }
-    ensures { result ≡ slice_index_or TAILS (256 * (most - 1) + bits) 0 }
+    ensures { IsTailEntry most bits result.digits result.len result.reach }
 {
-    TAILS[256 * (most - 1) + bits as usize]
+    let entry = TAILS[256 * (most.min(9) - 1) + bits as usize];
+    Tail {
+        digits: u64::from(entry % (1 << 8)),
+        reach: ((entry >> 8) % (1 << 4)) as usize,
+        len: u64::from(entry >> 12),
+    }
 }

@@ -3,9 +3,9 @@
 ghost use Rattle.std.specs.Prelude.{true, ◌≡◌, ◌+◌, ◌-◌, ◌*◌, ◌/◌, ◌%◌, ◌^◌, ◌<◌, ◌≤◌, ◌↔◌, false, ◌++◌, length, map, take, replicate, All, IsNone, IfNone, IfSome, OnSome};
 ghost use Rattle.zf_spec.specs.{Numbers.{field}, Planes.{planes_of}, Kept.{kept_planes}};
 ghost use Rattle.zf_bits.specs.Reader.{rest, Reads};
-ghost use Rattle.zf_planes.specs.Moves.{LacksPlane, LacksPlanes, MovesOverOne, MovesOverPlanes, MovesOverSome};
+ghost use Rattle.zf_planes.specs.{States.{Lack}, Moves.{state, MovesOverPlanes, MovesOverSome}};
 ghost use Rattle.zf_planes.specs.Decoding.{coded, coded_bits, planes_bits};
-ghost use Rattle.zf_planes.specs.Lanes.{low_planes, lanes_in, AreBelow, IsGathered, gathered, ReadsPlanes, ReadsGathered};
+ghost use Rattle.zf_planes.specs.Lanes.{low_planes, lanes_in, AreBelow, IsGathered, gathered, ReadsGathered};
 
 use crate::cursor::Cursor;
 use crate::decoding::read_by_runs;
@@ -18,10 +18,12 @@ use zf_bits::BitReader;
 /// Reads the code of a plane in which the ranks below `n` have had a one above. It stands apart so that the
 /// values of a loop that calls it stay in registers.
 #[inline(never)]
+#[tactic(auto, using(crate::proofs::Gathering::held_4))]
 fn read_one_apart(n: usize, cursor: &mut Cursor<'_>) -> Option<PlanesInLanes>
     requires in_plane { n ≤ 4 }
-    ensures short { IfNone result (LacksPlane 4 n cursor.old cursor.new) }
-    ensures read { IfSome result (λ one. MovesOverOne n cursor.old cursor.new one) }
+    ensures short { IfNone result (Lack 4 1 (state n cursor.old)) }
+    ensures read { IfSome result (λ one. MovesOverSome 1 (state n cursor.old)
+        (state one.above cursor.new) one) }
 {
     let before = cursor.left;
     let read = read_by_runs::<u64>(n, 4, cursor)?;
@@ -37,8 +39,9 @@ fn read_one_apart(n: usize, cursor: &mut Cursor<'_>) -> Option<PlanesInLanes>
 #[inline(always)]
 fn read_one(n: usize, cursor: &mut Cursor<'_>) -> Option<PlanesInLanes>
     requires in_plane { n ≤ 4 }
-    ensures short { IfNone result (LacksPlane 4 n cursor.old cursor.new) }
-    ensures read { IfSome result (λ one. MovesOverOne n cursor.old cursor.new one) }
+    ensures short { IfNone result (Lack 4 1 (state n cursor.old)) }
+    ensures read { IfSome result (λ one. MovesOverSome 1 (state n cursor.old)
+        (state one.above cursor.new) one) }
 {
     let next = plane_at(n, 4, cursor.bits);
     if next.len <= cursor.count {
@@ -63,8 +66,9 @@ fn read_some(most: u32, n: usize, cursor: &mut Cursor<'_>) -> Option<PlanesInLan
     requires some { 0 < most }
     requires in_plane { n < 3 }
     requires left { 0 < cursor.old.left }
-    ensures short { IfNone result (LacksPlanes most 4 n cursor.old cursor.new) }
-    ensures read { IfSome result (λ some. MovesOverSome most n cursor.old cursor.new some) }
+    ensures short { IfNone result (Lack 4 most (state n cursor.old)) }
+    ensures read { IfSome result (λ some. MovesOverSome most (state n cursor.old)
+        (state some.above cursor.new) some) }
 {
     cursor.look_on(8);
     if cursor.count < 8 && cursor.count == cursor.left {
@@ -90,8 +94,9 @@ fn read_some(most: u32, n: usize, cursor: &mut Cursor<'_>) -> Option<PlanesInLan
 fn read_verbatim(most: u32, cursor: &mut Cursor<'_>) -> Option<PlanesInLanes>
     requires some { 0 < most }
     requires left { 0 < cursor.old.left }
-    ensures short { IfNone result (LacksPlanes most 4 4 cursor.old cursor.new) }
-    ensures read { IfSome result (λ some. MovesOverSome most 4 cursor.old cursor.new some) }
+    ensures short { IfNone result (Lack 4 most (state 4 cursor.old)) }
+    ensures read { IfSome result (λ some. MovesOverSome most (state 4 cursor.old)
+        (state some.above cursor.new) some) }
 {
     if most < 4 {
         let len = cursor.left.min(4);
@@ -119,8 +124,7 @@ fn read_sixteen(most: u32, cursor: &mut Cursor<'_>) -> PlanesInLanes
     requires four { 4 ≤ most }
     requires there { 16 ≤ cursor.old.count }
     ensures count { result.count ≡ 4 }
-    ensures read { ReadsPlanes most 4 cursor.old.reader cursor.new.reader cursor.old.left cursor.new.left 4
-        result.lanes 16 4 }
+    ensures read { MovesOverPlanes most (state 4 cursor.old) (state 4 cursor.new) result }
 {
     let lanes = lanes_of_16(cursor.bits % 65536);
     cursor.pass(16);
@@ -139,8 +143,9 @@ fn read_next(most: u32, n: usize, cursor: &mut Cursor<'_>) -> Option<PlanesInLan
     requires some { 0 < most }
     requires in_plane { n ≤ 4 }
     requires left { 0 < cursor.old.left }
-    ensures short { IfNone result (LacksPlanes most 4 n cursor.old cursor.new) }
-    ensures read { IfSome result (λ some. MovesOverSome most n cursor.old cursor.new some) }
+    ensures short { IfNone result (Lack 4 most (state n cursor.old)) }
+    ensures read { IfSome result (λ some. MovesOverSome most (state n cursor.old)
+        (state some.above cursor.new) some) }
 {
     if n < 3 {
         read_some(most, n, cursor)
@@ -256,7 +261,7 @@ fn begins_lone(most: u32, cursor: &Cursor<'_>) -> bool
 #[inline(always)]
 fn read_lone(most: u32, cursor: &mut Cursor<'_>) -> PlanesInLanes
     ensures few { result.count ≤ 12 }
-    ensures read { MovesOverPlanes most 0 cursor.old cursor.new result }
+    ensures read { MovesOverPlanes most (state 0 cursor.old) (state result.above cursor.new) result }
 {
     if !begins_lone(most, cursor) {
         return PlanesInLanes {

@@ -34,6 +34,7 @@ fn spread_top(word: u64) -> u64
 
 /// The top sixteen planes of four words as one number, four bits each, the greatest plane lowest.
 #[inline(always)]
+#[tactic(auto, using(crate::proofs::TopPlanes::string_of_words))]
 fn string_of(words: &[u64; 4]) -> u64
     ensures { string_planes 16 result ≡ top_planes 16 words.now }
 {
@@ -115,10 +116,10 @@ pub(crate) fn code_of_two(n: usize, string: u64) -> PlanesCode
     ensures { IsCodeOfTwo n string result.part.len result.part.bits result.above }
 {
     let entry = entry_of_pair(n, string % 256);
-    let bits = u64::from(entry % 16384);
-    let len = u64::from(entry / 16384 % 16);
+    let bits = u64::from(entry % (1 << 14));
+    let len = u64::from((entry >> 14) % (1 << 4));
     let part = Part { bits, len };
-    let above = (entry / 262144) as usize;
+    let above = (entry >> 18) as usize;
     PlanesCode { part, above }
 }
 
@@ -136,13 +137,12 @@ fn code_of_next(n: usize, planes: u32, string: u64) -> PlanesCode
     }
     // Without the code of a plane of zeros behind it: a digit for each rank that has had a one, and a group
     // bit where ranks are left.
-    let entry = entry_of_pair(n, string % 16);
-    let above = entry / 262144;
-    let zeros = (above + 1).min(4);
-    let bits = u64::from(entry % 16384);
-    let len = u64::from(entry / 16384 % 16 - zeros);
+    let two = code_of_two(n, string % 16);
+    let zeros = (two.above as u64 + 1).min(4);
+    let bits = two.part.bits;
+    let len = two.part.len - zeros;
     let part = Part { bits, len };
-    let above = above as usize;
+    let above = two.above;
     PlanesCode { part, above }
 }
 
@@ -151,6 +151,7 @@ fn code_of_next(n: usize, planes: u32, string: u64) -> PlanesCode
 /// that are left; if they are more than was put together, `above` becomes how far the ones reach, where three
 /// stands for four too.
 #[inline(always)]
+#[tactic(auto, using(crate::proofs::Budgets::room_for))]
 fn write_string(
     left: u64,
     planes: u32,

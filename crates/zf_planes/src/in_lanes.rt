@@ -2,9 +2,12 @@
 
 ghost use Rattle.std.specs.Prelude.{◌≡◌, ◌%◌, ◌<◌, ◌≤◌, [], ◌∷◌};
 ghost use Rattle.{zf_spec.specs.Numbers.{field}, zf_planes.specs.Fours.{string_planes}};
-ghost use Rattle.zf_planes.specs.Lanes.{low_planes, lanes_in, lanes_apart, AreBelow, AreInSight, AreAtEnd, AreLoneInSight};
+ghost use Rattle.zf_planes.specs.Lanes.{low_planes, lanes_in, lanes_apart, AreBelow, AreInSight, AreAtEnd, AreLoneInSight, AreTurned};
+ghost use Rattle.zf_planes.specs.Lanes.{entry_digits, entry_len, entry_count, entry_reach};
 
-use crate::entries::entry_of_lanes;
+use crate::entries::{
+    count_of_lanes, digits_of_lanes, entry_of_lanes, len_of_lanes, reach_of_lanes,
+};
 
 /// The digits of a plane of four, each in a lane.
 #[inline]
@@ -42,6 +45,23 @@ pub(crate) struct PlanesInLanes {
     ghost within: { above ≤ 4 },
 }
 
+/// What an entry of the table says.
+#[inline(always)]
+fn planes_of_entry(entry: u32) -> PlanesInLanes
+    requires { entry_reach entry ≤ 4 }
+    ensures lanes { result.lanes ≡ lanes_apart (entry_digits entry) }
+    ensures count { result.count ≡ entry_count entry }
+    ensures len { result.len ≡ entry_len entry }
+    ensures above { result.above ≡ entry_reach entry }
+{
+    PlanesInLanes {
+        lanes: apart(digits_of_lanes(entry)),
+        count: count_of_lanes(entry),
+        len: len_of_lanes(entry),
+        above: reach_of_lanes(entry) as usize,
+    }
+}
+
 /// Planes whose code the next eight bits begin with, where the ranks below `n` have had a one above.
 #[inline(always)]
 pub(crate) fn planes_in_sight(n: usize, bits: u64) -> PlanesInLanes
@@ -49,13 +69,7 @@ pub(crate) fn planes_in_sight(n: usize, bits: u64) -> PlanesInLanes
     requires bits { bits < 256 }
     ensures { AreInSight n bits result.count result.lanes result.len result.above }
 {
-    let entry = entry_of_lanes(n, bits);
-    PlanesInLanes {
-        lanes: apart(u64::from(entry % 65536)),
-        count: entry / 1048576 % 8,
-        len: u64::from(entry / 65536 % 16),
-        above: (entry / 8388608) as usize,
-    }
+    planes_of_entry(entry_of_lanes(n, bits))
 }
 
 /// Four planes whose digits these sixteen bits are, each in a lane.
@@ -85,15 +99,29 @@ pub(crate) fn planes_at_end(n: usize, left: u64, bits: u64) -> PlanesInLanes
     let first = 1 << left;
     let last = bits % first;
     let mut entry = entry_of_lanes(n, last);
-    if entry >= 33554432 {
+    if reach_of_lanes(entry) > 3 {
         entry = entry.min(entry_of_lanes(n, first + last));
     }
+    let found = planes_of_entry(entry);
     PlanesInLanes {
-        lanes: apart(u64::from(entry % 65536)),
-        count: entry / 1048576 % 8,
-        len: u64::from(entry / 65536 % 16).min(left),
-        above: (entry / 8388608) as usize,
+        lanes: found.lanes,
+        count: found.count,
+        len: found.len.min(left),
+        above: found.above,
     }
+}
+
+/// Of the first twelve digits that stand two bits apart, the number in which the first one is the greatest.
+#[inline(always)]
+#[tactic(auto, using(crate::proofs::TurnedPairs::are_turned))]
+fn turned_pairs(bits: u64) -> u64
+    ensures { AreTurned bits result }
+{
+    let two_apart = bits & 0x0055_5555;
+    let in_halves = (two_apart << 1 | two_apart >> 2) & 0x0033_3333;
+    let in_bytes = (in_halves << 2 | in_halves >> 4) & 0x000f_0f0f;
+    // Three copies, so that behind their lowest sixteen bits the first byte is the highest.
+    (in_bytes * 0x0100_1001 >> 16) % 4096
 }
 
 /// The planes in which the first rank alone has ones, at most twelve, whose code these bits begin with, as
@@ -105,21 +133,14 @@ pub(crate) fn lone_in_sight(most: u32, bits: u64, count: u64) -> PlanesInLanes
     requires first { bits % 8 ≡ 3 }
     ensures { AreLoneInSight most bits count result.count result.lanes result.len result.above }
 {
-    let limit = most.min(12);
-    let mut lanes = 1;
-    let mut rest = bits / 8;
-    let mut planes = 1;
-    let mut len = 3;
-    while planes < limit && len + 2 <= count && rest % 4 < 2 {
-        lanes = (lanes << 1) + rest % 2;
-        rest /= 4;
-        planes += 1;
-        len += 2;
-    }
+    // The group bits of eleven planes behind the first one, and then a one.
+    let groups = (bits >> 3) & 0x002a_aaaa | 0x0040_0000;
+    let zeros = u64::from(groups.trailing_zeros() / 2);
+    let more = zeros.min(u64::from(most) - 1).min((count - 3) / 2);
     PlanesInLanes {
-        lanes,
-        count: planes,
-        len,
+        lanes: turned_pairs(bits >> 1) >> (11 - more),
+        count: 1 + more as u32,
+        len: 3 + 2 * more,
         above: 1,
     }
 }

@@ -59,11 +59,11 @@ pub(crate) fn plane_with(n: usize, size: usize, bits: u64) -> PlaneOfWord
         → IsReadAs n size bits result.digits result.len result.above }
     ensures group { n < result.len }
 {
-    let entry = tail_entry((size - n).min(9), (bits >> n) / 2 % 256);
+    let tail = tail_entry(size - n, (bits >> n) / 2 % 256);
     PlaneOfWord {
-        digits: bits % (1 << n) | u64::from(entry % 256) << n,
-        len: n as u64 + u64::from(entry / 4096),
-        above: n + (entry / 256 % 16) as usize,
+        digits: bits % (1 << n) | tail.digits << n,
+        len: n as u64 + tail.len,
+        above: n + tail.reach,
     }
 }
 
@@ -78,18 +78,17 @@ pub(crate) fn plane_with_two(n: usize, size: usize, bits: u64) -> PlaneOfWord
     ensures group { n < result.len }
 {
     let behind = (bits >> n) / 2;
-    let entry = tail_entry((size - n).min(9), behind % 256);
-    let len = u64::from(entry / 4096);
-    if len <= 64 {
+    let run = tail_entry(size - n, behind % 256);
+    if run.len <= 64 {
         return plane_with(n, size, bits);
     }
-    let above = n + (entry / 256 % 16) as usize;
-    let taken = len - 96;
-    let next = tail_entry((size - above).min(9), (behind >> taken) % 256);
+    let above = n + run.reach;
+    let taken = run.len - 96;
+    let next = tail_entry(size - above, (behind >> taken) % 256);
     PlaneOfWord {
-        digits: bits % (1 << n) | u64::from(entry % 256) << n | u64::from(next % 256) << above,
-        len: n as u64 + taken + u64::from(next / 4096),
-        above: above + (next / 256 % 16) as usize,
+        digits: bits % (1 << n) | run.digits << n | next.digits << above,
+        len: n as u64 + taken + next.len,
+        above: above + next.reach,
     }
 }
 

@@ -5,9 +5,9 @@
 //! loop or an arm of its own, so that most planes take few steps.
 
 ghost use Rattle.std.specs.Prelude.{◌≡◌, ◌+◌, ◌-◌, ◌*◌, ◌/◌, ◌%◌, ◌^◌, ◌<◌, ◌≤◌, false, ◌++◌, length, map, take, drop, replicate, All, IfNone, IfSome};
-ghost use Rattle.{zf_spec.specs.HeldPlanes.{planes_held, IsClearFrom}, zf_planes.specs.WordPlanes.{IsReadAs}};
+ghost use Rattle.zf_planes.specs.WordPlanes.{IsReadAs};
 ghost use Rattle.zf_planes.specs.Sizes.{IsWordSize, HasBlanks};
-ghost use Rattle.zf_planes.specs.Moves.{LacksPlane, MovesOverPlane, MovesOverSame};
+ghost use Rattle.zf_planes.specs.{States.{Lack}, Moves.{state, MovesOverPlane, MovesOverSame, AreZeroFrom}};
 ghost use Rattle.{zf_planes.specs.Decoding.{planes_bits, ReadsTop}, zf_bits.specs.Reader.{rest}};
 
 use crate::cursor::Cursor;
@@ -28,7 +28,8 @@ fn take_plane<P: Plane>(
     requires read { IsReadAs n size cursor.old.bits next.digits next.len next.above }
     requires some { 0 < next.len }
     requires there { next.len ≤ cursor.old.count }
-    ensures read { MovesOverPlane size n cursor.old cursor.new (P.words result.plane) result.above }
+    ensures read { MovesOverPlane size (state n cursor.old) (state result.above cursor.new)
+        (P.words result.plane) }
 {
     let mut plane = P::zero();
     plane.set_word(0, next.digits);
@@ -57,13 +58,12 @@ pub(crate) fn read_same<P: Plane>(
     requires there { n < cursor.old.count }
     requires none { cursor.old.bits / 2 ^ n % 2 ≡ 0 }
     requires planes { to ≤ length planes.old }
-    requires behind { drop from (planes_held size (map P.words planes.old))
-        ≡ replicate (length (map P.words planes.old) - from) (replicate size false) }
-    requires clear { All (IsClearFrom size) (map P.words planes.old) }
+    requires zeros { AreZeroFrom size from (map P.words planes.old) }
     ensures some { from < result }
     ensures within { result ≤ to }
-    ensures read { MovesOverSame size n from to result cursor.old cursor.new (map P.words planes.old)
+    ensures read { MovesOverSame size n from result cursor.old cursor.new (map P.words planes.old)
         (map P.words planes.new) }
+    ensures zeros { AreZeroFrom size result (map P.words planes.new) }
     ensures long { length planes.new ≡ length planes.old }
 {
     // Values of their own, which the loop holds in registers.
@@ -94,9 +94,9 @@ fn read_more<P: Plane>(n: usize, size: usize, cursor: &mut Cursor<'_>) -> Option
     requires in_plane { n < size }
     requires words { size ≤ 64 * P.word_count }
     requires more { n < cursor.old.count → cursor.old.bits / 2 ^ n % 2 ≡ 1 }
-    ensures short { IfNone result (LacksPlane size n cursor.old cursor.new) }
-    ensures read { IfSome result (λ read. MovesOverPlane size n cursor.old cursor.new (P.words read.plane)
-        read.above) }
+    ensures short { IfNone result (Lack size 1 (state n cursor.old)) }
+    ensures read { IfSome result (λ read. MovesOverPlane size (state n cursor.old)
+        (state read.above cursor.new) (P.words read.plane)) }
 {
     // A plane in one word is known where its bits are in sight, and a table has its tail, at one look or two.
     if size <= 64 {
@@ -117,9 +117,9 @@ fn read_more<P: Plane>(n: usize, size: usize, cursor: &mut Cursor<'_>) -> Option
 fn read_last<P: Plane>(size: usize, cursor: &mut Cursor<'_>) -> Option<PlaneRead<P>>
     requires some { 0 < size }
     requires words { size ≤ 64 * P.word_count }
-    ensures short { IfNone result (LacksPlane size size cursor.old cursor.new) }
-    ensures read { IfSome result (λ read. MovesOverPlane size size cursor.old cursor.new (P.words read.plane)
-        read.above) }
+    ensures short { IfNone result (Lack size 1 (state size cursor.old)) }
+    ensures read { IfSome result (λ read. MovesOverPlane size (state size cursor.old)
+        (state read.above cursor.new) (P.words read.plane)) }
 {
     if size <= 64 {
         cursor.look_on(size as u64);

@@ -78,6 +78,7 @@ fn narrow_planes<P: Plane>(from: usize, prec: u32, size: usize, planes: &[P]) ->
 /// Appends the code of the top `prec` planes from the one of number `from` on, above which no rank has had a
 /// one, as far as `left` bits reach. The answer is the bits that are left.
 #[inline(always)]
+#[tactic(auto, using(crate::proofs::Budgets::room_for))]
 pub(crate) fn write_planes_of_word<P: Plane>(
     left: u64,
     from: usize,

@@ -10,9 +10,6 @@ use Rattle.zf_planes.proofs.decoding.read_prefix.Goals as goal
 pub loop-at-init : goal.loop-at-init
 loop-at-init g c = search (rules, digits_held-none, clear_zeros)
 
-pub read_word-requires-clause-in_budget : goal.read_word-requires-clause-in_budget
-read_word-requires-clause-in_budget g c = search rules
-
 pub returns-in_err-digits-clause-short : goal.returns-in_err-digits-clause-short
 returns-in_err-digits-clause-short g c =
     let count : c.min-count.result ≡ min c.args.n c.args.cursor.now.left = omega (arith, c.min-count.ensures) in
@@ -51,9 +48,6 @@ loop-at-preserved g c =
     }
 
 -- ---- all are read
-
-pub returns-clause-taken : goal.returns-clause-taken
-returns-clause-taken g c = search rules
 
 pub returns-clause-digits : goal.returns-clause-digits
 returns-clause-digits g c = search (rules, held_behind, prefix_read)

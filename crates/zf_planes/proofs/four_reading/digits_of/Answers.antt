@@ -24,6 +24,3 @@ put_down-shifted-requires-clause-gathered c =
 
 pub returns-clause-planes : goal.returns-clause-planes
 returns-clause-planes c = search (rules, gathered_words, behind)
-
-pub returns-clause-below : goal.returns-clause-below
-returns-clause-below c = search rules

@@ -9,12 +9,6 @@ use Rattle.zf_planes.proofs.four_reading.read_four.Goals as goal
 
 -- ---- the bits are there
 
-pub overflow_sub-count : goal.overflow_sub-count
-overflow_sub-count c = omega (arith, c.in_ok-read.ensures.read.bits.spent)
-
-pub skip-requires : goal.skip-requires
-skip-requires c = let bits = c.in_ok-read.ensures.read.bits in omega (arith, bits.spent, bits.enough)
-
 pub returns-clause-short : goal.returns-clause-short
 returns-clause-short c =
     let enough = (spent_on _ _ c.args.prec 4 _ c.in_ok-read.ensures.read.bits).enough in

@@ -1,12 +1,10 @@
--- The planes so far are gathered, and what reading makes of the rest is what it makes of the planes below.
+-- The planes so far are gathered, and the others are to come.
 use Rattle.std.proofs.Common.{◌≤◌, ◌+◌, ◌-◌}
-use Rattle.zf_planes.proofs.LanesAhead.{FoursRead}
+use Rattle.zf_planes.{specs.Moves.{state}, proofs.LanesAhead.{FoursRead}}
 use Rattle.zf_planes.proofs.four_reading.read_gathered.Given as goal
 
 abbrev pub invariant-loop-digits : goal.invariant-loop-digits
-invariant-loop-digits l = record {
-  read : FoursRead l.fn.reader l.cursor.reader l.fn.budget l.cursor.left l.prec l.above l.digits.words l.digits.done l.digits.lanes l.digits.held;
-}
+invariant-loop-digits l = record { read : FoursRead l.fn.budget l.prec l.fn.reader (state l.above l.cursor) l.digits.words l.digits.done l.digits.lanes l.digits.held }
 
 abbrev pub decreases-loop-digits : goal.decreases-loop-digits
 decreases-loop-digits l = l.prec - (l.digits.done + l.digits.held)
@@ -14,7 +12,7 @@ decreases-loop-digits l = l.prec - (l.digits.done + l.digits.held)
 -- the same of four planes at a time, of which there are no more than before
 abbrev pub invariant-loop-cursor : goal.invariant-loop-cursor
 invariant-loop-cursor l = record {
-  read : FoursRead l.fn.reader l.cursor.reader l.fn.budget l.cursor.left l.prec l.above l.digits.words l.digits.done l.digits.lanes l.digits.held;
+  read : FoursRead l.fn.budget l.prec l.fn.reader (state l.above l.cursor) l.digits.words l.digits.done l.digits.lanes l.digits.held;
   more : l.initial.digits.done + l.initial.digits.held ≤ l.digits.done + l.digits.held;
 }
 

@@ -1,4 +1,4 @@
-use Rattle.std.proofs.Common.{rules, arith}
+use Rattle.std.proofs.Common.{rules, refl, arith}
 use Rattle.zf_planes.{specs.Fours.{string_planes}, proofs.Passing.{if_none}, proofs.LastRank.{own_bits}}
 use Rattle.zf_planes.proofs.LanesAhead.{word_read}
 use Rattle.zf_planes.proofs.four_reading.read_verbatim.Goals as goal
@@ -10,7 +10,7 @@ pub returns-then-most-lt4-clause-read : goal.returns-then-most-lt4-clause-read
 unfolding string_planes
 returns-then-most-lt4-clause-read c =
     let read = c.in_ok-digits in
-    word_read c.args.most 1 c.lanes_of_4.result read.digits c.min-len.result (omega arith) (omega arith) c.requires.some c.min-len.ensures read.ensures.digits (omega arith) c.lanes_of_4.ensures.digits c.lanes_of_4.ensures.below read.ensures.taken
+    word_read c.args.most read.digits _ (omega arith) (omega arith) c.requires.some refl refl c.min-len.ensures read.ensures.digits (omega arith) c.lanes_of_4.ensures.digits c.lanes_of_4.ensures.below read.ensures.taken
 
 pub returns-in_err-digits-2-clause-short : goal.returns-in_err-digits-2-clause-short
 returns-in_err-digits-2-clause-short c = search (rules, if_none, own_bits)
@@ -18,4 +18,4 @@ returns-in_err-digits-2-clause-short c = search (rules, if_none, own_bits)
 pub returns-clause-read : goal.returns-clause-read
 returns-clause-read c =
     let read = c.in_ok-digits-2 in
-    word_read c.args.most 4 c.lanes_of_16.result read.digits c.min-len-2.result (omega arith) (omega arith) c.if-most-lt4.false c.min-len-2.ensures read.ensures.digits (omega arith) c.lanes_of_16.ensures.digits c.lanes_of_16.ensures.below read.ensures.taken
+    word_read c.args.most read.digits _ (omega arith) (omega arith) c.if-most-lt4.false refl refl c.min-len-2.ensures read.ensures.digits (omega arith) c.lanes_of_16.ensures.digits c.lanes_of_16.ensures.below read.ensures.taken

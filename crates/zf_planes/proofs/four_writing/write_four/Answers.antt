@@ -3,7 +3,7 @@ use Rattle.std.proofs.lemmas.Nat.{pow_pos}
 use Rattle.zf_spec.{specs.Numbers.{field}, specs.Planes.{planes_of, code, code_from}, proofs.Fields.{length-field}}
 use Rattle.zf_bits.specs.Writer.{Writer}
 use Rattle.zf_planes.{specs.Spread.{top_planes}, specs.Writes.{Remains}}
-use Rattle.zf_planes.proofs.Budgets.{Remains-same, Remains-fits, Remains-more, Remains-part, Remains-end}
+use Rattle.zf_planes.proofs.Budgets.{room_for, Remains-same, Remains-more, Remains-part, Remains-end}
 use Rattle.zf_planes.proofs.TopPlanes.{below, no_top_planes, remains_four}
 use Rattle.zf_planes.proofs.four_writing.write_four.Goals as goal
 
@@ -25,7 +25,7 @@ zeros_alone c =
     (ap (λ (bs : List Bool). field c.from-len.result 0 ++ bs) none)
 
 pub write_part-requires-clause-fits : goal.write_part-requires-clause-fits
-write_part-requires-clause-fits c = omega (arith, Remains-fits (field c.from-len.result 0) [] (zeros_alone c), length-field c.from-len.result 0)
+write_part-requires-clause-fits c = room_for c.from-len.result 0 [] (zeros_alone c)
 
 -- they are written
 zeros_written : (c : goal.After-write_part) → Remains c.args.out.now c.write_part.new.out c.args.budget c.write_part.result (code (take c.args.prec (planes_of c.args.width (map (field c.args.width) c.args.digits.now)))) []

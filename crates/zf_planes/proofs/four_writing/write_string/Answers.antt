@@ -1,7 +1,7 @@
 use Rattle.std.proofs.Common.{◌≡◌, ◌+◌, ◌-◌, ◌*◌, ◌/◌, ◌^◌, ◌<◌, ◌≤◌, min, Bool, List, [], ◌++◌, refl, sym, ap, ◌∙◌, arith, append_assoc, append-nil}
-use Rattle.zf_spec.{specs.Numbers.{field}, specs.Planes.{code_from}, proofs.Fields.{length-field}}
+use Rattle.zf_spec.{specs.Numbers.{field}, specs.Planes.{code_from}}
 use Rattle.zf_planes.{specs.Fours.{string_planes}, specs.Writes.{Remains}}
-use Rattle.zf_planes.proofs.Budgets.{Remains-behind, Remains-same, Remains-fits, Remains-through}
+use Rattle.zf_planes.proofs.Budgets.{Remains-behind, Remains-same, Remains-through}
 use Rattle.zf_planes.proofs.Strings.{own_string, string_end, string_small, Remains-reached, Remains-word}
 use Rattle.zf_planes.proofs.Gathering.{small_behind}
 use Rattle.zf_planes.proofs.four_writing.write_string.Goals.{then-loop-planes-test+then-left-part+else-above-lt3, then-loop-planes-test+else-left-part, else-loop-planes-test, then-left-gt64, else-left-gt64, else-planes-gt0-via-then-planes-gt0+else-left-part-2, else-planes-gt0-via-else-planes-gt0}
@@ -18,11 +18,6 @@ loop-planes-init c =
       small = c.requires.small;
       no_more = λ small. small;
     }
-
-pub make_room-left-requires-clause-fits : goal.make_room-left-requires-clause-fits
-make_room-left-requires-clause-fits c =
-    let part = c.loop-planes.part in
-    omega (arith, Remains-fits (field part.len part.bits) _ c.loop-planes.invariant.remains, length-field part.len part.bits)
 
 -- ---- the next planes
 
@@ -47,11 +42,6 @@ loop-planes-preserved c =
     }
 
 -- ---- three ranks have had a one
-
-pub make_room-left-requires-then-left-gt64-clause-fits : goal.make_room-left-requires-then-left-gt64-clause-fits
-make_room-left-requires-then-left-gt64-clause-fits c =
-    let part = c.loop-planes.part in
-    omega (arith, Remains-fits (field part.len part.bits) _ c.loop-planes.invariant.remains, length-field part.len part.bits)
 
 -- the loop has ended since these ranks have had a one
 three : (c : goal.Joined-left-gt64) → 3 ≤ c.loop-planes.above

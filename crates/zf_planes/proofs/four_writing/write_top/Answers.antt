@@ -4,7 +4,7 @@ use Rattle.zf_spec.specs.Planes.{code_from, reach_of_all}
 use Rattle.zf_bits.specs.Writer.{Writer}
 use Rattle.zf_planes.{specs.Fours.{string_planes}, specs.Writes.{Remains}, proofs.Lone.{lone_first}}
 use Rattle.zf_planes.specs.Spread.{top_digit, top_planes, lone_planes, lone_code}
-use Rattle.zf_planes.proofs.Budgets.{Remains-behind, Remains-same, Remains-fits, Remains-part, Remains-through, Remains-end}
+use Rattle.zf_planes.proofs.Budgets.{Remains-behind, Remains-same, Remains-fits, Remains-part, Remains-through, Remains-end, room_for}
 use Rattle.zf_planes.proofs.Strings.{code_from-append, reach_of_string-le, Remains-above, Remains-reached}
 use Rattle.zf_planes.proofs.TopPlanes.{below, string-split, top_planes-sizes, no_top_planes}
 use Rattle.zf_planes.proofs.four_writing.write_top.Goals.{then-lone-gt0, else-lone-gt0, then-loop-planes-test+else-left-part, else-loop-planes-test}
@@ -97,9 +97,7 @@ ended c =
     ]
 
 pub write_part-requires-clause-fits : goal.write_part-requires-clause-fits
-write_part-requires-clause-fits c =
-    let part = c.loop-planes.part in
-    omega (arith, Remains-fits (field part.len part.bits) [] (ended c), length-field part.len part.bits)
+write_part-requires-clause-fits c = room_for c.loop-planes.part.len c.loop-planes.part.bits [] (ended c)
 
 -- and they are written
 written : (c : goal.After-write_part) → Remains c.args.out.now c.write_part.new.out c.args.left c.write_part.result (field c.args.part.len c.args.part.bits ++ code_from 0 (top_planes c.args.planes c.args.words)) []

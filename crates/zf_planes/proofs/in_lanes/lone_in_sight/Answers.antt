@@ -1,22 +1,16 @@
-use Rattle.std.proofs.Common.{◌≡◌, refl, ◌+◌, ◌*◌, ◌/◌, ◌%◌, ◌^◌, ap, ◌∙◌, arith}
-use Rattle.std.proofs.lemmas.Nat.{shr-shr}
-use Rattle.zf_planes.proofs.LanesAhead.{first_lone, more_lone}
+use Rattle.std.proofs.Common.{◌≡◌, ◌+◌, ◌*◌, ◌/◌, ap, refl, ◌∙◌, arith}
+use Rattle.zf_spec.specs.Numbers.{field}
+use Rattle.zf_planes.{proofs.LanesAhead.{more_in_sight}, proofs.TurnedPairs.{groups_zero}}
 use Rattle.zf_planes.proofs.in_lanes.lone_in_sight.Goals as goal
 
-pub loop-planes-init : goal.loop-planes-init
-loop-planes-init c = record { lone = first_lone c.args.bits c.requires.first; rest = refl; len = refl; few = omega arith; fits = c.requires.some; there = c.requires.there }
+pub overflow_sub-result : goal.overflow_sub-result
+overflow_sub-result c = omega (arith, (groups_zero (c.args.bits / 8)).0)
 
-pub loop-planes-preserved : goal.loop-planes-preserved
-loop-planes-preserved c =
-    let now = c.loop-planes in
-    let is = now.invariant.rest in
-    let place : 1 + 2 * now.planes + 2 ≡ 1 + 2 * (now.planes + 1) = omega arith in
-    let limit = c.min-limit.ensures in
-    record {
-      lone = more_lone c.args.bits now.planes now.lanes (now.rest % 2) (ap (λ n. n % 2) is) (rw is at c.if-rest-lt2.true) (omega (arith, c.loop-planes-test.true, limit)) now.invariant.lone;
-      rest = ap (λ n. n / 4) is ∙ shr-shr c.args.bits (1 + 2 * now.planes) 2 ∙ ap (λ n. c.args.bits / 2 ^ n) place;
-      len = omega (arith, now.invariant.len);
-      few = omega (arith, c.loop-planes-test.true, limit);
-      fits = omega (arith, c.loop-planes-test.true, limit);
-      there = c.if-len-count.true;
-    }
+pub returns : goal.returns
+returns c =
+    let more = c.min-more.result in
+    let zero = groups_zero (c.args.bits / 8) in
+    let count : more + 1 ≡ 1 + more = omega arith in
+    let len : 1 + 2 * (1 + more) ≡ 3 + 2 * more = omega arith in
+    let lone = rw count at (more_in_sight c.args.bits c.turned_pairs.result more c.requires.first c.turned_pairs.ensures (omega (arith, zero.0)) (λ j here. zero.1 j (omega arith))) in
+    record { code = lone.code ∙ ap (λ n. field n c.args.bits) len; reached = lone.reached; below = lone.below; few = omega (arith, zero.0); fits = omega arith; some = omega arith; len = omega arith; above = refl }

@@ -1,16 +1,10 @@
 use Rattle.std.proofs.Common.{rules, ◌≡◌, ℕ, ◌+◌, ◌-◌, ◌*◌, ◌<◌, ◌≤◌, max, List, length, map, take, drop, get_or, ap, ◌∙◌, arith, length-append}
-use Rattle.std.{proofs.Math.Nat.{mul-le-mul_right}, proofs.lemmas.List.{drop_all, length-map}}
+use Rattle.std.{proofs.Math.Nat.{mul-le-mul_right}, proofs.lemmas.List.{length-map}}
 use Rattle.zf_spec.specs.Planes.{code, code_from, plane_code, reach}
 use Rattle.zf_spec.specs.HeldPlanes.{planes_held, digits_held}
 use Rattle.zf_planes.proofs.Lengths.{length-code_words-le}
-use Rattle.zf_planes.proofs.Unpacking.{length-top_held, code_next, each_long}
+use Rattle.zf_planes.proofs.Unpacking.{code_next, each_long}
 use Rattle.zf_planes.proofs.measuring.planes_len.Goals as goal
-
-pub loop-i-init : goal.loop-i-init
-loop-i-init g c = record { sum = omega arith; above = omega arith }
-
-pub plane_len-requires-clause-in_plane : goal.plane_len-requires-clause-in_plane
-plane_len-requires-clause-in_plane g c = c.loop-i.invariant.above
 
 -- the code has few bits
 most : {A : Type 0} (words : A → List ℕ) (count prec size : ℕ) (planes : List A) → ((plane : A) → length (words plane) ≡ count) → size ≤ 64 * count → prec ≤ length planes
@@ -34,9 +28,6 @@ overflow_add-len g c =
 
 pub loop-i-preserved : goal.loop-i-preserved
 loop-i-preserved g c = search (rules, step)
-
-pub returns-clause-count : goal.returns-clause-count
-returns-clause-count g c = search (rules, length-map, drop_all, length-top_held)
 
 pub returns-clause-most : goal.returns-clause-most
 returns-clause-most g c =

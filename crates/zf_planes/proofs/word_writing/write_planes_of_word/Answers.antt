@@ -2,7 +2,7 @@ use Rattle.std.proofs.Common.{rules, [], get_or, refl, ◌<◌, ◌≤◌, ◌�
 use Rattle.std.proofs.lemmas.List.{drop_all, length-map}
 use Rattle.zf_spec.{specs.Numbers.{field}, proofs.Reach.{reach-le}, proofs.Fields.{length-field}}
 use Rattle.zf_spec.{specs.Planes.{plane_code, code_from, reach}, specs.HeldPlanes.{digits_held, planes_held}}
-use Rattle.zf_planes.proofs.Budgets.{Remains-through, Remains-same, Remains-fits, Remains-more, Remains-end}
+use Rattle.zf_planes.proofs.Budgets.{Remains-through, Remains-same, Remains-fits, Remains-part, Remains-end, room_for}
 use Rattle.zf_planes.{proofs.Unpacking.{length-top_held}, specs.Writes.{Remains, LeavesPart}}
 use Rattle.zf_planes.{proofs.Strings.{Remains-none}, proofs.PlainPlanes.{next_word, whole_code}}
 use Rattle.zf_planes.proofs.word_writing.write_planes_of_word.Given.{Over}
@@ -10,19 +10,14 @@ use Rattle.zf_planes.proofs.word_writing.write_planes_of_word.Goals.{then-loop-i
 use Rattle.zf_bits.specs.Writer.{Writer}
 use Rattle.zf_planes.proofs.word_writing.write_planes_of_word.Goals as goal
 
-pub write_part-left-requires-clause-fits : goal.write_part-left-requires-clause-fits
-write_part-left-requires-clause-fits g c = omega (arith, Remains-fits (field c.loop-i.part.len c.loop-i.part.bits) _ c.loop-i.invariant.remains, length-field c.loop-i.part.len c.loop-i.part.bits)
-
 pub loop-i-preserved-then-part-more-gt64 : goal.loop-i-preserved-then-part-more-gt64
 loop-i-preserved-then-part-more-gt64 g c =
     let part = c.loop-i.part in
     let more = c.plain_plane-more in
     let next = next_word g.P.Plane.words c.loop-i.above c.args.prec c.args.size c.loop-i.i part.len part.bits c.first_word-digits.result c.args.planes.now c.index-planes-planes.result c.loop-i.invariant.remains
     c.index-planes-planes.is c.loop-i-test.true c.requires.planes c.first_word-digits.ensures.digits in
-    let written = Remains-more (field part.len part.bits) _ next c.write_part-left.ensures.bits in
-    let spent : c.loop-i.left - length (field part.len part.bits) ≡ c.write_part-left.result = omega (arith, c.write_part-left.ensures.left, length-field part.len part.bits) in
     record {
-      remains = Remains-same (rw spent at written) (cc (more.ensures.code, more.ensures.same));
+      remains = Remains-same (Remains-part part.len part.bits _ next c.write_part-left.ensures.bits c.write_part-left.ensures.left) (cc (more.ensures.code, more.ensures.same));
       above = c.loop-i.invariant.above;
       place = omega (arith, c.loop-i-test.true);
       small = more.ensures.small;
@@ -114,7 +109,7 @@ write_part-left-requires-2-clause-in_word g c = elim c.loop-i-test.branch [
 ]
 
 pub write_part-left-requires-2-clause-fits : goal.write_part-left-requires-2-clause-fits
-write_part-left-requires-2-clause-fits g c = omega (arith, Remains-fits (field c.loop-i-test.part.len c.loop-i-test.part.bits) _ (ended g c), length-field c.loop-i-test.part.len c.loop-i-test.part.bits)
+write_part-left-requires-2-clause-fits g c = room_for c.loop-i-test.part.len c.loop-i-test.part.bits _ (ended g c)
 
 -- no plane is left
 none_left : {A : Type 0} (words : A → List ℕ) (n prec size i : ℕ) (planes : List A) → prec ≤ length planes → prec ≤ i → code_from n (drop i (take prec (planes_held size (map words planes)))) ≡ []
@@ -123,10 +118,7 @@ none_left words n prec size i planes within past = search (rules, length-map, dr
 -- it is written
 written : (g : Over) (c : goal.After-write_part-left-2 g) → Remains c.args.out.now c.write_part-left-2.new.out c.args.left c.write_part-left-2.result (code_from 0 (drop c.args.from (take c.args.prec (planes_held c.args.size (map g.P.Plane.words c.args.planes.now)))))
     (code_from c.loop-i-test.above (drop c.loop-i-test.i (take c.args.prec (planes_held c.args.size (map g.P.Plane.words c.args.planes.now)))))
-written g c =
-    let part = c.loop-i-test.part in
-    let spent : c.loop-i-test.left - length (field part.len part.bits) ≡ c.write_part-left-2.result = omega (arith, c.write_part-left-2.ensures.left, length-field part.len part.bits) in
-    rw spent at (Remains-more (field part.len part.bits) _ (ended g c.before) c.write_part-left-2.ensures.bits)
+written g c = Remains-part c.loop-i-test.part.len c.loop-i-test.part.bits _ (ended g c.before) c.write_part-left-2.ensures.bits c.write_part-left-2.ensures.left
 
 -- and all ranks have had a one, or nothing is left to write
 behind : (g : Over) (c : goal.After-write_part-left-2 g) → Remains c.args.out.now c.write_part-left-2.new.out c.args.left c.write_part-left-2.result (code_from 0 (drop c.args.from (take c.args.prec (planes_held c.args.size (map g.P.Plane.words c.args.planes.now)))))
@@ -179,20 +171,11 @@ loop-i-3-preserved g c =
       on = omega (arith, now.invariant.on);
     }
 
-pub write_part-left-requires-in-loop-i-2-clause-fits : goal.write_part-left-requires-in-loop-i-2-clause-fits
-write_part-left-requires-in-loop-i-2-clause-fits g c = omega (arith, Remains-fits (field c.loop-i-3.whole.len c.loop-i-3.whole.bits) _ c.loop-i-3.invariant.remains, length-field c.loop-i-3.whole.len c.loop-i-3.whole.bits)
-
 pub loop-i-2-smaller : goal.loop-i-2-smaller
 loop-i-2-smaller g c = search (rules, then-loop-i-3-test+else-whole-size-le64, else-loop-i-3-test)
 
 pub loop-i-2-preserved : goal.loop-i-2-preserved
-loop-i-2-preserved g c =
-    let whole = c.loop-i-3.whole in
-    let spent : c.loop-i-2.left - length (field whole.len whole.bits) ≡ c.write_part-left-in-loop-i-2.result = omega (arith, c.write_part-left-in-loop-i-2.ensures.left, length-field whole.len whole.bits) in
-    record { remains = rw spent at (Remains-more (field whole.len whole.bits) _ c.loop-i-3.invariant.remains c.write_part-left-in-loop-i-2.ensures.bits); place = c.loop-i-3.invariant.place }
-
-pub returns-else-left-gt0 : goal.returns-else-left-gt0
-returns-else-left-gt0 g c = search rules
+loop-i-2-preserved g c = record { remains = Remains-part c.loop-i-3.whole.len c.loop-i-3.whole.bits _ c.loop-i-3.invariant.remains c.write_part-left-in-loop-i-2.ensures.bits c.write_part-left-in-loop-i-2.ensures.left; place = c.loop-i-3.invariant.place }
 
 pub returns-after-loop-i-2 : goal.returns-after-loop-i-2
 returns-after-loop-i-2 g c =

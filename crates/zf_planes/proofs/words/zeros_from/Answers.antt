@@ -5,9 +5,6 @@ use Rattle.zf_planes.proofs.Digits.{IsNextOne, zeros_of_word, next_one, split_at
 use Rattle.zf_planes.proofs.words.zeros_from.Given.{Over}
 use Rattle.zf_planes.proofs.words.zeros_from.Goals as goal
 
-pub word-requires : goal.word-requires
-word-requires g c = omega (arith, c.requires.words, c.loop-at-test.true)
-
 -- the word has the next one
 found : (g : Over) (c : goal.Then-word-ne0 g)
     → IsNextOne (digits_held c.args.size (g.P.Plane.words c.args.plane.now)) c.args.n (c.loop-at.at + trailing_zeros w64 (c.word.result / 2 ^ (c.loop-at.at % 64)))

@@ -1,4 +1,4 @@
-use Rattle.std.proofs.Common.{rules, ◌≡◌, ℕ, ◌+◌, ◌-◌, ◌/◌, ◌%◌, ◌^◌, ◌≤◌, false, ◌++◌, replicate, ap, arith}
+use Rattle.std.proofs.Common.{rules, ◌≡◌, ℕ, ◌+◌, ◌-◌, ◌/◌, ◌%◌, ◌^◌, ◌≤◌, false, ◌++◌, replicate, arith}
 use Rattle.std.{proofs.lemmas.Nat.{mod_below, pow_pos}, proofs.Math.Nat.{div-eq_of_lt}}
 use Rattle.zf_spec.{specs.Numbers.{field}, proofs.Fields.{field-add, field-mod, field-zero}}
 use Rattle.zf_planes.{proofs.Digits.{masked}, proofs.Peeking.{window_prefix}}
@@ -14,13 +14,7 @@ low_field v n small =
 
 -- ---- there are fewer
 
-pub returns-then-not-sees-clause-short : goal.returns-then-not-sees-clause-short
-returns-then-not-sees-clause-short c = record { few = c.sees.ensures.short c.if-not-sees.true c.requires.in_budget c.requires.in_word; all = ap (λ r. r.all) c.sees.ensures.reader }
-
 -- ---- they are read
-
-pub returns-clause-taken : goal.returns-clause-taken
-returns-clause-taken c = rw (c.sees.ensures.left, c.sees.ensures.reader) at c.pass.ensures.taken
 
 pub returns-clause-digits : goal.returns-clause-digits
 returns-clause-digits c = search (rules, masked, low_field, window_prefix)
