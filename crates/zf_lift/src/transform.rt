@@ -1,10 +1,10 @@
 //! The transform of a block: a pass along each axis.
 
-ghost use Rattle.std.specs.Prelude.{◌≡◌, ℕ, ◌-◌, ◌^◌, IsTrue, pos, ◌∷◌, map, replicate};
+ghost use Rattle.std.specs.Prelude.{◌≡◌, ◌↔◌, ℕ, ◌-◌, ◌^◌, IsTrue, pos, ◌*ℤ◌, ◌∷◌, map, replicate};
 ghost use Rattle.zf_spec.specs.Lift.{lift, unlift};
 ghost use Rattle.zf_base.specs.WholeBlocks.{IsBlockOf};
 
-use crate::line::{Lift, Unlift};
+use crate::line::{Lift, LiftBeside, Unlift};
 use zf_axes::{fill, passes, passes_back};
 use zf_base::Lane;
 
@@ -18,7 +18,12 @@ pub fn forward<T: Lane>(d: u8, block: &mut [T])
     requires block { IsBlockOf d block.old }
     ensures { map T.value block.new ≡ lift T.width d (map T.value block.old) }
 {
-    passes(&Lift, d, block);
+    // The words of a lone line are not worth their making.
+    if d == 1 {
+        passes(&Lift, d, block);
+    } else {
+        passes(&LiftBeside, d, block);
+    }
 }
 
 /// Makes values of the coefficients of a block: the steps of [`forward`] turned round, along the last axis
@@ -35,7 +40,8 @@ pub fn inverse<T: Lane>(d: u8, block: &mut [T])
 /// value is no overflow.
 #[inline(always)]
 pub fn keeps_first<T: Lane>(value: T) -> bool
-    ensures { IsTrue result → (d : ℕ) → lift T.width d (replicate (4 ^ d) (T.value value))
+    ensures exactly { IsTrue result ↔ T.in_range (pos 2 *ℤ T.value value) }
+    ensures coefficients { IsTrue result → (d : ℕ) → lift T.width d (replicate (4 ^ d) (T.value value))
         ≡ T.value value ∷ replicate (4 ^ d - 1) (pos 0) }
 {
     value.add(value).halve() == value

@@ -38,7 +38,8 @@ pub fn inverse<T: Lane>(d: u8, block: &mut [T])
 /// are.
 #[inline(always)]
 pub fn keeps_first<T: Lane>(value: T) -> bool
-    ensures { IsTrue result → (d : ℕ) → IsDimension d → lorenzo T.width d (replicate (4 ^ d) (T.value value))
+    ensures always { IsTrue result }
+    ensures coefficients { (d : ℕ) → IsDimension d → lorenzo T.width d (replicate (4 ^ d) (T.value value))
         ≡ T.value value ∷ replicate (4 ^ d - 1) (pos 0) }
 {
     // Known by this call: the number is one of the type's.

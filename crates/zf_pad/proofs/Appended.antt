@@ -43,6 +43,11 @@ pub all_divide : (ns : List ℕ) → ((i : ℕ) → i < length ns → get_or ns 
 all_divide [] h = tt
 all_divide (n ∷ ns) h = (h 0 (omega arith), all_divide ns (λ i lt. h (suc i) (omega arith)))
 
+pub divides_at : (ns : List ℕ) (i : ℕ) → i < length ns → HasWholeBlocks ns → get_or ns i 1 % 4 ≡ 0
+divides_at [] i lt h = absurd (omega arith)
+divides_at (n ∷ ns) zero lt h = h.0
+divides_at (n ∷ ns) (suc i) lt h = divides_at ns i (omega arith) h.1
+
 -- ---- the box of an extent
 
 -- the number of a place in it, by four axes and by the used ones

@@ -1,11 +1,24 @@
 -- Four lines of one layer of blocks, copied side by side.
-use Rattle.std.proofs.Common.{◌≡◌, sym, ap, ◌∙◌, inl, inr, ℕ, zero, suc, ◌+◌, ◌*◌, ◌/◌, ◌%◌, ◌^◌, ◌<◌, ◌≤◌, ◌⊎◌, ⊎_elim, ℤ, pos, List, get_or, arith}
+use Rattle.std.proofs.Common.{rules, subst, length, take, drop, ◌++◌, ◌≡◌, sym, ap, ◌∙◌, inl, inr, ℕ, zero, suc, ◌+◌, ◌*◌, ◌/◌, ◌%◌, ◌^◌, ◌<◌, ◌≤◌, ◌⊎◌, ⊎_elim, ℤ, pos, List, get_or, arith}
 use Rattle.std.proofs.Math.Nat.{add-mul-mod_self_left, add-mul-div_left, div-eq_of_lt, mod-eq_of_lt, mod-lt, div-add-mod, mul-le-mul_left}
+use Rattle.std.{proofs.Math.ListN.{get_or-append}, proofs.lemmas.List.{get_or-take, get_or-drop, get_or-append_right, length-take-le, length-drop}}
 use Rattle.std.proofs.lemmas.{Bool.{cases_lt}, Nat.{div_below}}
 use Rattle.zf_spec.specs.Grid.{IsShape, product}
 use Rattle.zf_pad.specs.Stored.{raster_of, line_len, other_sizes, IsKnown, AreFourLines}
 use Rattle.zf_pad.specs.declared.storing.Known.{Known}
-use Rattle.zf_pad.{proofs.Copying.{IsRowCopied}, proofs.StoredLines.{all_sizes, others_fit, blocks_there, blocks_small, block_value, line_end}}
+use Rattle.zf_pad.{specs.Copies.{IsRunCopied}, proofs.StoredLines.{all_sizes, others_fit, blocks_there, blocks_small, block_value, line_end}}
+
+-- four values that are put are copied
+pub run_put : (from to : ℕ) (source old new : List ℤ) → from + 4 ≤ length source → to + 4 ≤ length old
+    → new ≡ take to old ++ (take 4 (drop from source) ++ drop (to + 4) old) → IsRunCopied 4 from to source old new
+run_put from to source old new there room is =
+    let prefix : length (take to old) ≡ to = length-take-le to old (omega arith) in
+    let four : length (take 4 (drop from source)) ≡ 4 = length-take-le 4 (drop from source) (omega (arith, length-drop from source)) in
+    let rest = take 4 (drop from source) ++ drop (to + 4) old in
+    subst (IsRunCopied 4 from to source old) (sym is) (record {
+      run = search (rules, get_or-append_right, get_or-append, get_or-take, get_or-drop);
+      others = λ i free. search (rules, get_or-append, get_or-take, get_or-append_right, get_or-drop, cases_lt);
+    })
 
 -- so many rows of four, each so far behind the one before, stand beside one another
 abbrev pub IsLineCopied : (from step to : ℕ) (source part : List ℤ) (n : ℕ) → Type 0
@@ -13,7 +26,7 @@ IsLineCopied from step to source part n = (b k : ℕ) → b < n → k < 4 → ge
 
 -- the next one of them
 pub line_more : (from step to at place : ℕ) (source old new : List ℤ) (n : ℕ) → at ≡ from + n * step → place ≡ to + 4 * n
-    → IsRowCopied at place source old new → IsLineCopied from step to source old n → IsLineCopied from step to source new (n + 1)
+    → IsRunCopied 4 at place source old new → IsLineCopied from step to source old n → IsLineCopied from step to source new (n + 1)
 line_more from step to at place source old new n is there row h =
     λ a k lt small.
     ⊎_elim
@@ -21,14 +34,14 @@ line_more from step to at place source old new n is there row h =
     (λ (l : n ≤ a).
     let same : a ≡ n = omega (arith, l, lt) in
     let here : to + (4 * a + k) ≡ place + k = omega (arith, same, there) in
-    ap (λ i. get_or new i (pos 0)) here ∙ row.row k small
+    ap (λ i. get_or new i (pos 0)) here ∙ row.run k small
     ∙ ap (λ j. get_or source (j + k) (pos 0)) is
     ∙ ap (λ j. get_or source (from + j * step + k) (pos 0)) (sym same))
     (cases_lt a n)
 
 -- a row elsewhere
 pub line_stays : (from step to at place : ℕ) (source old new : List ℤ) (n : ℕ) → (place + 4 ≤ to) ⊎ (to + 4 * n ≤ place)
-    → IsRowCopied at place source old new → IsLineCopied from step to source old n → IsLineCopied from step to source new n
+    → IsRunCopied 4 at place source old new → IsLineCopied from step to source old n → IsLineCopied from step to source new n
 line_stays from step to at place source old new n apart row h =
     λ a k lt small.
     row.others (to + (4 * a + k)) (λ j s e. ⊎_elim (λ (l : place + 4 ≤ to). absurd (omega (arith, e, s, l))) (λ (l : to + 4 * n ≤ place). absurd (omega (arith, e, lt, small, l))) apart)
@@ -43,8 +56,8 @@ pub record AreLinesCopied (from step to m : ℕ) (source part : List ℤ) (n : �
 
 -- one row more of each
 pub rows_more : (from step to m b at place : ℕ) (source p0 p1 p2 p3 p4 : List ℤ) → 4 * b + 4 ≤ m → at ≡ from + b * step → place ≡ to + 4 * b
-    → IsRowCopied at place source p0 p1 → IsRowCopied (at + 4) (place + m) source p1 p2
-    → IsRowCopied (at + 8) (place + 2 * m) source p2 p3 → IsRowCopied (at + 12) (place + 3 * m) source p3 p4
+    → IsRunCopied 4 at place source p0 p1 → IsRunCopied 4 (at + 4) (place + m) source p1 p2
+    → IsRunCopied 4 (at + 8) (place + 2 * m) source p2 p3 → IsRunCopied 4 (at + 12) (place + 3 * m) source p3 p4
     → AreLinesCopied from step to m source p0 b → AreLinesCopied from step to m source p4 (b + 1)
 rows_more from step to m b at place source p0 p1 p2 p3 p4 room is there r1 r2 r3 r4 h = record {
   first =

@@ -30,17 +30,17 @@ module _ (writes : ℕ → Bool) (index : ℕ → ℕ) (value : ℕ → ℤ) (ol
       subst (IsWritten writes index value old now) (omega arith)
       (written_skip now (n + m) (none m (omega arith)) (written_skip_all now n m (λ k lt. none k (omega arith)) h))
 
-  -- the next four places write, at indices that stand beside one another
-  pub written_row : (now new : List ℤ) (n first : ℕ) → ((k : ℕ) → k < 4 → writes (n + k) ≡ true) → ((k : ℕ) → k < 4 → index (n + k) ≡ first + k)
-      → ((p k : ℕ) → p < n → k < 4 → writes p ≡ true → index p ≢ index (n + k))
-      → ((k : ℕ) → k < 4 → get_or new (first + k) (pos 0) ≡ value (n + k))
-      → ((i : ℕ) → ((k : ℕ) → k < 4 → i ≢ first + k) → get_or new i (pos 0) ≡ get_or now i (pos 0))
-      → IsWritten writes index value old now n → IsWritten writes index value old new (n + 4)
-  written_row now new n first all at apart put same h = record {
+  -- the next m places write, at indices that stand beside one another
+  pub written_row : (now new : List ℤ) (n m first : ℕ) → ((k : ℕ) → k < m → writes (n + k) ≡ true) → ((k : ℕ) → k < m → index (n + k) ≡ first + k)
+      → ((p k : ℕ) → p < n → k < m → writes p ≡ true → index p ≢ index (n + k))
+      → ((k : ℕ) → k < m → get_or new (first + k) (pos 0) ≡ value (n + k))
+      → ((i : ℕ) → ((k : ℕ) → k < m → i ≢ first + k) → get_or new i (pos 0) ≡ get_or now i (pos 0))
+      → IsWritten writes index value old now n → IsWritten writes index value old new (n + m)
+  written_row now new n m first all at apart put same h = record {
     written = λ p lt w. ⊎_elim
         (λ (before : p < n). same (index p) (λ k small e. apart p k before small w (e ∙ sym (at k small))) ∙ h.written p before w)
         (λ (later : n ≤ p).
-        let small : p - n < 4 = omega arith in
+        let small : p - n < m = omega arith in
         let back : n + (p - n) ≡ p = omega arith in
         ap (λ q. get_or new (index q) (pos 0)) (sym back) ∙ ap (λ i. get_or new i (pos 0)) (at (p - n) small) ∙ put (p - n) small ∙ ap value back)
         (cases_lt p n);

@@ -1,9 +1,9 @@
 -- Where a layout puts the positions of an array, and the places of a block of which an extent exists.
-use Rattle.std.specs.Prelude.{ℕ, ◌≡◌, ◌+◌, ◌*◌, ◌^◌, ◌<◌, ◌≤◌, true}
-use Rattle.zf_spec.specs.Grid.{is_inside, fours, indices}
+use Rattle.std.specs.Prelude.{ℕ, ◌≡◌, ◌+◌, ◌*◌, ◌^◌, ◌<◌, ◌≤◌, ◌⊎◌, true}
+use Rattle.zf_spec.specs.Grid.{is_inside, indices}
 use Rattle.zf_base.specs.declared.position.Pos.{Pos}
 use Rattle.zf_base.specs.declared.position.Extent.{Extent}
-use Rattle.zf_base.specs.Positions.{axes, used_axes, with_unused, IsExtent}
+use Rattle.zf_base.specs.Positions.{axes, with_unused, IsExtent}
 use Rattle.zf_pad.specs.declared.layout.Layout.{Layout}
 
 -- the index of a position
@@ -48,7 +48,20 @@ pub record CanCopy (layout : Layout) (e : Extent) (d n size : ℕ) : Type 0 wher
   pub whole : size ≡ 4 ^ d
   pub within : LiesWithin layout e n
 
--- the extent is a whole block, and its rows are whole
-pub record IsWholeBlock (layout : Layout) (e : Extent) (d : ℕ) : Type 0 where
-  pub rows : HasWholeRows layout e
-  pub all : used_axes d e.size ≡ fours d
+-- the index of a place by its own indices
+abbrev pub place_at : Layout → ℕ → ℕ
+place_at layout p = index_of layout (place_indices p)
+
+-- where a block has its places
+unfoldable pub block_layout : Layout
+block_layout = record { start = 0; step = record { x = 1; y = 4; z = 16; w = 64 } }
+
+-- the places of an extent can be copied from a list of m values to one of n, so many at a time, where two layouts
+-- put their indices, the second no two at the same
+pub record CanCopyRuns (e : Extent) (d len : ℕ) (from : Layout) (m : ℕ) (to : Layout) (n : ℕ) : Type 0 where
+  pub four_at_most : d ≤ 4
+  pub extent : IsExtent d e
+  pub run : (len ≡ 1) ⊎ ((len ≡ 4) × HasWholeRows from e × HasWholeRows to e)
+  pub there : (p : ℕ) → HasPlace e p → place_at from p < m
+  pub room : (p : ℕ) → HasPlace e p → place_at to p < n
+  pub one_to_one : (p q : ℕ) → HasPlace e p → HasPlace e q → place_at to p ≡ place_at to q → p ≡ q

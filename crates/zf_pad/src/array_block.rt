@@ -49,7 +49,7 @@ pub fn gather_block<T: Lane>(
     e
 }
 
-/// Whether it is seen that block `b` is whole, of one dimension, and all zeros, without a copy of it.
+/// Whether block `b` is whole, of one dimension, and all zeros, without a copy of it.
 ///
 /// `values` are all of the array's, and `b` is below the number of blocks.
 #[inline(always)]
@@ -59,6 +59,8 @@ pub fn is_row_of_zeros<T: Lane>(shape: &Shape, b: u64, values: &[T]) -> bool
     ensures whole { IsTrue result → extent_of shape.now b ≡ fours (length shape.now) }
     ensures zeros { IsTrue result → block_of shape.now (map T.value values.now) b
         ≡ replicate (4 ^ length shape.now) (pos 0) }
+    ensures seen { length shape.now ≡ 1 → extent_of shape.now b ≡ fours 1
+        → block_of shape.now (map T.value values.now) b ≡ replicate 4 (pos 0) → IsTrue result }
 {
     if shape.dims() != 1 {
         return false;

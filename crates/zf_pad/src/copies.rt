@@ -1,10 +1,11 @@
 //! Copies between a list of values and a block.
 
-ghost use Rattle.std.specs.Prelude.{◌≡◌, ◌+◌, ◌<◌, ◌≤◌, ◌*◌, ◌^◌, ◌++◌, ◌↔◌, IsTrue, length, map, take, drop};
-ghost use Rattle.zf_spec.specs.Grid.{is_inside};
-ghost use Rattle.zf_base.specs.Positions.{axes};
-ghost use Rattle.zf_pad.specs.Layouts.{place_indices, HasWholeRows, IsOneToOne, CanCopy, IsWholeBlock};
-ghost use Rattle.zf_pad.specs.Copies.{IsGathered, IsScattered};
+ghost use Rattle.std.specs.Prelude.{◌≡◌, ◌⊎◌, ◌+◌, ◌<◌, ◌≤◌, ◌*◌, ◌^◌, ◌↔◌, IsTrue, length, map};
+ghost use Rattle.zf_spec.specs.Grid.{is_inside, fours};
+ghost use Rattle.zf_base.specs.Positions.{axes, used_axes};
+ghost use Rattle.zf_pad.specs.Layouts.{place_indices, block_layout, HasWholeRows, IsOneToOne};
+ghost use Rattle.zf_pad.specs.Layouts.{CanCopy, CanCopyRuns};
+ghost use Rattle.zf_pad.specs.Copies.{IsGathered, IsScattered, IsCopied, IsRunCopied};
 
 use crate::layout::Layout;
 use crate::padding::is_whole;
@@ -20,94 +21,14 @@ pub fn gather<T: Lane>(layout: &Layout, e: &Extent, d: u8, values: &[T], block: 
     ensures { IsGathered layout.now e.now
         (map T.value values.now) (map T.value block.old) (map T.value block.new) }
 {
+    let from = layout.counted_from(&e.origin);
+    let to = places();
     if !has_whole_rows(layout, e) {
-        gather_places(layout, e, d, values, block);
+        copy(e, d, 1, &from, values, &to, block);
     } else if d > 1 && is_whole(&e.size, d) {
-        gather_whole(layout, e, d, values, block);
+        gather_whole(&from, e, d, values, block);
     } else {
-        gather_rows(layout, e, d, values, block);
-    }
-}
-
-// Whether the extent has whole rows, whose values stand beside one another.
-fn has_whole_rows(layout: &Layout, e: &Extent) -> bool
-    ensures { IsTrue result ↔ HasWholeRows layout.now e.now }
-{
-    layout.step.x == 1 && e.size.x == 4
-}
-
-// Gathers a whole block of more than one dimension.
-fn gather_whole<T: Lane>(layout: &Layout, e: &Extent, d: u8, values: &[T], block: &mut [T])
-    requires more { 1 < d }
-    requires whole { IsWholeBlock layout.now e.now d }
-    requires fits { CanCopy layout.now e.now d (length values.now) (length block.old) }
-    ensures { IsGathered layout.now e.now
-        (map T.value values.now) (map T.value block.old) (map T.value block.new) }
-{
-    // A number of slices that is known needs no loop where it is small.
-    match d {
-        2 => gather_slices(layout, e, d, 1, values, block),
-        3 => gather_slices(layout, e, d, 4, values, block),
-        _ => gather_slices(layout, e, d, 16, values, block),
-    }
-}
-
-// Gathers so many slices of four rows, in which each row begins as far behind the one before.
-#[inline(always)]
-fn gather_slices<T: Lane>(
-    layout: &Layout,
-    e: &Extent,
-    d: u8,
-    slices: usize,
-    values: &[T],
-    block: &mut [T],
-)
-    requires slices { 16 * slices ≡ 4 ^ d }
-    requires few { slices ≤ 16 }
-    requires whole { IsWholeBlock layout.now e.now d }
-    requires fits { CanCopy layout.now e.now d (length values.now) (length block.old) }
-    ensures { IsGathered layout.now e.now
-        (map T.value values.now) (map T.value block.old) (map T.value block.new) }
-{
-    let from_origin = layout.counted_from(&e.origin);
-    let step = layout.step.y as usize;
-    for slice in 0..slices {
-        let first = from_origin.index(&indices(4 * (4 * slice))) as usize;
-        for y in 0..4 {
-            copy_row(values, first + y * step, block, 4 * (4 * slice + y));
-        }
-    }
-}
-
-// Gathers whole rows, a row of four values at a time.
-fn gather_rows<T: Lane>(layout: &Layout, e: &Extent, d: u8, values: &[T], block: &mut [T])
-    requires rows { HasWholeRows layout.now e.now }
-    requires fits { CanCopy layout.now e.now d (length values.now) (length block.old) }
-    ensures { IsGathered layout.now e.now
-        (map T.value values.now) (map T.value block.old) (map T.value block.new) }
-{
-    let from_origin = layout.counted_from(&e.origin);
-    for row in 0..block_len(d) / 4 {
-        let at = indices(4 * row);
-        if is_inside(&e.size, &at) {
-            let first = from_origin.index(&at) as usize;
-            copy_row(values, first, block, 4 * row);
-        }
-    }
-}
-
-// Gathers place by place.
-fn gather_places<T: Lane>(layout: &Layout, e: &Extent, d: u8, values: &[T], block: &mut [T])
-    requires fits { CanCopy layout.now e.now d (length values.now) (length block.old) }
-    ensures { IsGathered layout.now e.now
-        (map T.value values.now) (map T.value block.old) (map T.value block.new) }
-{
-    let from_origin = layout.counted_from(&e.origin);
-    for place in 0..block_len(d) {
-        let at = indices(place);
-        if is_inside(&e.size, &at) {
-            block[place] = values[from_origin.index(&at) as usize];
-        }
+        copy(e, d, 4, &from, values, &to, block);
     }
 }
 
@@ -121,55 +42,119 @@ pub fn scatter<T: Lane>(layout: &Layout, e: &Extent, d: u8, block: &[T], values:
     ensures { IsScattered layout.now e.now
         (map T.value block.now) (map T.value values.old) (map T.value values.new) }
 {
+    let from = places();
+    let to = layout.counted_from(&e.origin);
     if has_whole_rows(layout, e) {
-        scatter_rows(layout, e, d, block, values);
+        copy(e, d, 4, &from, block, &to, values);
     } else {
-        scatter_places(layout, e, d, block, values);
+        copy(e, d, 1, &from, block, &to, values);
     }
 }
 
-// Scatters whole rows, a row of four values at a time.
-fn scatter_rows<T: Lane>(layout: &Layout, e: &Extent, d: u8, block: &[T], values: &mut [T])
-    requires rows { HasWholeRows layout.now e.now }
-    requires fits { CanCopy layout.now e.now d (length values.old) (length block.now) }
-    requires one_to_one { IsOneToOne layout.now e.now }
-    ensures { IsScattered layout.now e.now
-        (map T.value block.now) (map T.value values.old) (map T.value values.new) }
+// Whether the extent has whole rows, whose values stand beside one another.
+fn has_whole_rows(layout: &Layout, e: &Extent) -> bool
+    ensures { IsTrue result ↔ HasWholeRows layout.now e.now }
 {
-    let from_origin = layout.counted_from(&e.origin);
-    for row in 0..block_len(d) / 4 {
-        let at = indices(4 * row);
-        if is_inside(&e.size, &at) {
-            let first = from_origin.index(&at) as usize;
-            copy_row(block, 4 * row, values, first);
-        }
-    }
+    layout.step.x == 1 && e.size.x == 4
 }
 
-// Scatters place by place.
-fn scatter_places<T: Lane>(layout: &Layout, e: &Extent, d: u8, block: &[T], values: &mut [T])
-    requires fits { CanCopy layout.now e.now d (length values.old) (length block.now) }
-    requires one_to_one { IsOneToOne layout.now e.now }
-    ensures { IsScattered layout.now e.now
-        (map T.value block.now) (map T.value values.old) (map T.value values.new) }
-{
-    let from_origin = layout.counted_from(&e.origin);
-    for place in 0..block_len(d) {
-        let at = indices(place);
-        if is_inside(&e.size, &at) {
-            values[from_origin.index(&at) as usize] = block[place];
-        }
-    }
-}
-
-// Copies the four values from `from` on to the places from `to` on, in one step, as none is written before
-// all are read.
+// The layout of a block, by the indices of its places.
 #[inline(always)]
-fn copy_row<T: Lane>(source: &[T], from: usize, target: &mut [T], to: usize)
-    requires there { from + 4 ≤ length source.now }
-    requires room { to + 4 ≤ length target.old }
-    ensures { target.new ≡ take to target.old ++ (take 4 (drop from source.now) ++ drop (to + 4) target.old) }
+#[tactic(auto, unfolding(crate::specs::Layouts::block_layout))]
+fn places() -> Layout
+    ensures { result ≡ block_layout }
 {
+    Layout {
+        start: 0,
+        step: Pos {
+            x: 1,
+            y: 4,
+            z: 16,
+            w: 64,
+        },
+    }
+}
+
+// Copies what is at the places of an extent, by their indices, `len` at a time: one, or a row of four.
+#[inline(always)]
+fn copy<T: Lane>(
+    e: &Extent,
+    d: u8,
+    len: usize,
+    from: &Layout,
+    source: &[T],
+    to: &Layout,
+    target: &mut [T],
+)
+    requires { CanCopyRuns e.now d len from.now (length source.now) to.now (length target.old) }
+    ensures { IsCopied e.now from.now to.now
+        (map T.value source.now) (map T.value target.old) (map T.value target.new) }
+{
+    for run in 0..block_len(d) / len {
+        let at = indices(len * run);
+        if is_inside(&e.size, &at) {
+            let there = from.index(&at) as usize;
+            copy_run(len, source, there, target, to.index(&at) as usize);
+        }
+    }
+}
+
+// Gathers a whole block of more than one dimension.
+fn gather_whole<T: Lane>(from: &Layout, e: &Extent, d: u8, values: &[T], block: &mut [T])
+    requires more { 1 < d }
+    requires all { used_axes d e.now.size ≡ fours d }
+    requires fits { CanCopyRuns e.now d 4 from.now (length values.now) block_layout (length block.old) }
+    ensures { IsCopied e.now from.now block_layout
+        (map T.value values.now) (map T.value block.old) (map T.value block.new) }
+{
+    // A number of slices that is known needs no loop where it is small.
+    match d {
+        2 => gather_slices(from, e, d, 1, values, block),
+        3 => gather_slices(from, e, d, 4, values, block),
+        _ => gather_slices(from, e, d, 16, values, block),
+    }
+}
+
+// Gathers so many slices of four rows, in which each row begins as far behind the one before.
+#[inline(always)]
+fn gather_slices<T: Lane>(
+    from: &Layout,
+    e: &Extent,
+    d: u8,
+    slices: usize,
+    values: &[T],
+    block: &mut [T],
+)
+    requires slices { 16 * slices ≡ 4 ^ d }
+    requires few { slices ≤ 16 }
+    requires all { used_axes d e.now.size ≡ fours d }
+    requires fits { CanCopyRuns e.now d 4 from.now (length values.now) block_layout (length block.old) }
+    ensures { IsCopied e.now from.now block_layout
+        (map T.value values.now) (map T.value block.old) (map T.value block.new) }
+{
+    let step = from.step.y as usize;
+    for slice in 0..slices {
+        let first = from.index(&indices(4 * (4 * slice))) as usize;
+        for y in 0..4 {
+            copy_run(4, values, first + y * step, block, 4 * (4 * slice + y));
+        }
+    }
+}
+
+// Copies the values from `from` on, one or four, to the places from `to` on, in one step, as none is written
+// before all are read.
+#[inline(always)]
+fn copy_run<T: Lane>(len: usize, source: &[T], from: usize, target: &mut [T], to: usize)
+    requires len { (len ≡ 1) ⊎ (len ≡ 4) }
+    requires there { from + len ≤ length source.now }
+    requires room { to + len ≤ length target.old }
+    ensures { IsRunCopied len from to
+        (map T.value source.now) (map T.value target.old) (map T.value target.new) }
+{
+    if len == 1 {
+        target[to] = source[from];
+        return;
+    }
     let a = source[from];
     let b = source[from + 1];
     let c = source[from + 2];

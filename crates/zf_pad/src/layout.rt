@@ -47,7 +47,8 @@ impl Layout {
     #[tactic(auto, unfolding(crate::specs::Layouts::index_of, crate::specs::Layouts::moved))]
     pub(crate) fn counted_from(&self, origin: &Pos) -> Layout
         requires { index_of self.now origin.now < 2 ^ 64 }
-        ensures { (p : Pos) → index_of result p ≡ index_of self.now (moved origin.now p) }
+        ensures counted { (p : Pos) → index_of result p ≡ index_of self.now (moved origin.now p) }
+        ensures step { result.step ≡ self.now.step }
     {
         Layout {
             start: self.index(origin),

@@ -20,7 +20,8 @@ use zf_base::{Extent, Lane, Pos, Shape};
 
 /// Whether no size of an array cuts a block.
 pub fn has_whole_blocks(shape: &Shape) -> bool
-    ensures { result ≡ true → HasWholeBlocks shape.now }
+    ensures whole { result ≡ true → HasWholeBlocks shape.now }
+    ensures cut { HasWholeBlocks shape.now → result ≡ true }
 {
     for axis in 0..shape.dims() {
         if shape.size(axis) % 4 != 0 {
@@ -139,6 +140,7 @@ pub fn copy_lines<T: Lane>(shape: &Shape, stored: &[T], from: u64, piece: &mut [
     requires first { IsFirst shape.now from }
     requires room { 4 * byte_len T.width ≤ length piece.old }
     ensures some { 1 ≤ result }
+    ensures most { (from + result ≡ product shape.now) ⊎ (length piece.old / byte_len T.width < result + 4) }
     ensures room { result * byte_len T.width ≤ length piece.new }
     ensures within { from + result ≤ product shape.now }
     ensures first { IsFirst shape.now (from + result) }

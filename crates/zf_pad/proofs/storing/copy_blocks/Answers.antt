@@ -1,7 +1,6 @@
-use Rattle.std.proofs.Common.{rules, ◌≡◌, ◌+◌, ◌*◌, ◌/◌, ◌<◌, ◌≤◌, ⊎_elim, pos, map, length, get_or, ap, sym, ◌∙◌, arith}
-use Rattle.std.{proofs.Math.Nat.{mul-le-mul_right}, proofs.lemmas.Bool.{cases_lt}}
-use Rattle.std.{proofs.lemmas.List.{length-map}, specs.Int.{byte_len}}
-use Rattle.zf_pad.{specs.Stored.{values_in}, proofs.Copying.{row_put}, proofs.RawValues.{length-values_in}, proofs.StoredLines.{front_stays}}
+use Rattle.std.proofs.Common.{rules, refl, ◌+◌, ◌*◌, ◌/◌, ◌≤◌, map, length, ap, ◌∙◌, arith}
+use Rattle.std.{proofs.Math.Nat.{mul-le-mul_right}, proofs.lemmas.List.{length-map}, specs.Int.{byte_len}}
+use Rattle.zf_pad.{specs.Stored.{values_in}, proofs.RawValues.{length-values_in}, proofs.StoredLines.{front_stays}, proofs.FourLines.{run_put, line_more}}
 use Rattle.zf_pad.proofs.storing.copy_blocks.Goals as goal
 
 pub put_row-requires-clause-there : goal.put_row-requires-clause-there
@@ -26,18 +25,8 @@ loop-b-preserved g c =
     let room : at + 4 ≤ length old = omega (arith, length-values_in w c.loop-b.piece, ap (λ n. n / byte_len w) c.loop-b.auto.piece, c.requires.room, c.loop-b-test.true) in
     let within : at ≤ length old = omega (arith, room) in
     let behind : c.args.to ≤ at = omega arith in
-    let row = row_put from at source old new here room c.put_row.ensures in
     record {
       at = omega (arith, c.loop-b.invariant.at);
       before = front_stays c.args.to at old _ new behind within c.put_row.ensures ∙ c.loop-b.invariant.before;
-      rows = λ a k lt small.
-          ⊎_elim
-          (λ (l : a < b). row.others (c.args.to + (4 * a + k)) (λ j s e. omega (arith, e, s, small, l)) ∙ c.loop-b.invariant.rows a k l small)
-          (λ (l : b ≤ a).
-          let same : a ≡ b = omega (arith, l, lt) in
-          let place : c.args.to + (4 * a + k) ≡ at + k = omega (arith, same) in
-          ap (λ i. get_or new i (pos 0)) place ∙ row.row k small
-          ∙ ap (λ j. get_or source (j + k) (pos 0)) c.loop-b.invariant.at
-          ∙ ap (λ j. get_or source (c.args.from + j * c.args.step + k) (pos 0)) (sym same))
-          (cases_lt a b);
+      rows = line_more c.args.from c.args.step c.args.to from at source old new b c.loop-b.invariant.at refl (run_put from at source old new here room c.put_row.ensures) c.loop-b.invariant.rows;
     }

@@ -1,7 +1,7 @@
 use Rattle.std.proofs.Common.{refl, ℕ, ◌+◌, ◌*◌, ◌/◌, ◌≤◌, map, length, ap, ◌∙◌, arith}
 use Rattle.std.{proofs.lemmas.List.{length-map}, specs.Int.{byte_len}}
-use Rattle.zf_pad.{specs.Stored.{values_in}, proofs.Copying.{row_put}, proofs.RawValues.{length-values_in}}
-use Rattle.zf_pad.{proofs.StoredLines.{front_stays}, proofs.FourLines.{rows_more, row_of_line}}
+use Rattle.zf_pad.{specs.Stored.{values_in}, proofs.RawValues.{length-values_in}}
+use Rattle.zf_pad.{proofs.StoredLines.{front_stays}, proofs.FourLines.{run_put, rows_more, row_of_line}}
 use Rattle.zf_pad.proofs.storing.copy_four.Goals as goal
 
 pub loop-b-preserved : goal.loop-b-preserved
@@ -23,10 +23,10 @@ loop-b-preserved g c =
     let long1 : c.args.to + 4 * n ≤ length p1 = omega (arith, long, length-values_in w c.loop-b.piece, length-values_in w c.put_row.new.bytes, ap per c.put_row.auto.bytes) in
     let long2 : c.args.to + 4 * n ≤ length p2 = omega (arith, long1, length-values_in w c.put_row.new.bytes, length-values_in w c.put_row-in-loop-b.new.bytes, ap per c.put_row-in-loop-b.auto.bytes) in
     let long3 : c.args.to + 4 * n ≤ length p3 = omega (arith, long2, length-values_in w c.put_row-in-loop-b.new.bytes, length-values_in w c.put_row-in-loop-b-2.new.bytes, ap per c.put_row-in-loop-b-2.auto.bytes) in
-    let r1 = row_put at to source p0 p1 (omega (arith, here)) (omega (arith, room, long)) c.put_row.ensures in
-    let r2 = row_put (at + 4) (to + n) source p1 p2 (omega (arith, here)) (omega (arith, room, long1)) c.put_row-in-loop-b.ensures in
-    let r3 = row_put (at + 8) (to + 2 * n) source p2 p3 (omega (arith, here)) (omega (arith, room, long2)) c.put_row-in-loop-b-2.ensures in
-    let r4 = row_put (at + 12) (to + 3 * n) source p3 p4 (omega (arith, here)) (omega (arith, room, long3)) c.put_row-in-loop-b-3.ensures in
+    let r1 = run_put at to source p0 p1 (omega (arith, here)) (omega (arith, room, long)) c.put_row.ensures in
+    let r2 = run_put (at + 4) (to + n) source p1 p2 (omega (arith, here)) (omega (arith, room, long1)) c.put_row-in-loop-b.ensures in
+    let r3 = run_put (at + 8) (to + 2 * n) source p2 p3 (omega (arith, here)) (omega (arith, room, long2)) c.put_row-in-loop-b-2.ensures in
+    let r4 = run_put (at + 12) (to + 3 * n) source p3 p4 (omega (arith, here)) (omega (arith, room, long3)) c.put_row-in-loop-b-3.ensures in
     record {
       at = omega (arith, c.loop-b.invariant.at);
       before =
