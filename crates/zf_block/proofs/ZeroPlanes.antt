@@ -11,7 +11,7 @@ use Rattle.zf_spec.specs.Codes.{count_bits, coefficients_of, planes, rev_of_plan
 use Rattle.zf_spec.proofs.Reach.{has_one-zeros, reach_none, needed_planes-is}
 use Rattle.zf_spec.{proofs.PlaneDigits.{get_or-blank, length-planes_of}, specs.Kept.{kept_plane, kept_planes}}
 use Rattle.zf_spec.{proofs.Fields.{field-zero, number-zeros}, specs.Numbers.{field, number, value_of}}
-use Rattle.zf_spec.{proofs.Padding.{length-pad, get_or-pad}, specs.Grid.{IsDimension, IsBlockSize}}
+use Rattle.zf_spec.{proofs.Padding.{length-pad, get_or-pad}, specs.Grid.{IsDimension}}
 use Rattle.zf_spec.{proofs.KeptCases.{kept_tail-zeros}, specs.Padding.{source_place, pad}}
 use Rattle.zf_coef.specs.HeldDigits.{digits_in, unranked_values}
 use Rattle.zf_coef.proofs.FirstAlone.{value_of_none, unranked_first}
@@ -25,8 +25,8 @@ use Rattle.zf_block.proofs.Digits.{planes_of-ranked, ranked-unranked, coefficien
 abbrev pub zero_planes : ℕ → ℕ → List (List Bool)
 zero_planes p size = replicate p (replicate size false)
 
-pub size_some : {size : ℕ} → IsBlockSize size → 1 ≤ size
-size_some sizes = omega arith
+pub size_some : (d : ℕ) → 1 ≤ 4 ^ d
+size_some d = one-le-pow d 4 (omega arith)
 
 -- ---- their code
 

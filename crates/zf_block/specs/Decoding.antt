@@ -1,6 +1,6 @@
 -- What comes of reading a code at the front of a reader's bits: it is passed whole, or the bits end before it
 -- does.
-use Rattle.std.specs.Prelude.{ℕ, ℤ, ◌≡◌, ◌<◌, ◌≤◌, Bool, List, Option, IfNone, OnSome, length, take}
+use Rattle.std.specs.Prelude.{ℕ, ℤ, ◌≡◌, ◌<◌, ◌≤◌, Bool, false, List, Option, IfNone, OnSome, IsTrue, length, take, replicate}
 use Rattle.std.specs.Int.{Width}
 use Rattle.zf_spec.specs.Codes.{coefficients_of}
 use Rattle.zf_bits.specs.Reader.{Reader, rest, Reads}
@@ -10,6 +10,14 @@ use Rattle.zf_block.specs.Block.{AreAbove}
 pub record PassesCode (len : ℕ) (old new : Reader) : Type 0 where
   pub whole : len ≤ length (rest old)
   pub passed : Reads old new (take len (rest old))
+
+-- so many bits are there, and the first ones of them, so many, are zero
+abbrev pub ZerosNext : ℕ → ℕ → List Bool → Type 0
+ZerosNext len zeros bits = (len ≤ length bits) × (take zeros bits ≡ replicate zeros false)
+
+-- a reader moves only where it was seen that it may, and then this is so
+abbrev pub MovesIf : Bool → Reader → Reader → Type 0 → Type 0
+MovesIf seen old new Moved = (¬ IsTrue seen → new ≡ old) × (IsTrue seen → Moved)
 
 -- the bits end before a code of so many bits does, and the reader stands where it stood
 pub record LacksBits (len : ℕ) (old new : Reader) : Type 0 where

@@ -1,5 +1,5 @@
 -- Planes of a block as they are held in words, beside the digits that they are made of.
-use Rattle.std.specs.Prelude.{ℕ, ◌≡◌, ◌≤◌, ◌*◌, ◌^◌, Bool, List, length, map, take, replicate}
+use Rattle.std.specs.Prelude.{ℕ, ◌≡◌, ◌≤◌, ◌*◌, Bool, List, length, map, take, replicate}
 use Rattle.zf_spec.specs.Grid.{IsBlockSize}
 use Rattle.zf_spec.specs.Planes.{planes_of, code}
 use Rattle.zf_spec.specs.HeldPlanes.{planes_held}
@@ -9,11 +9,11 @@ use Rattle.zf_coef.specs.HeldDigits.{digits_in}
 abbrev pub IsHeldSize : ℕ → ℕ → Type 0
 IsHeldSize size words = IsBlockSize size × (size ≤ 64 * words)
 
--- room for the digits of a block of d dimensions and for its planes, each of so many words: one plane for
--- each digit
+-- room for the digits of a block of this size and for its planes, each of so many words: one plane for each
+-- digit
 abbrev pub IsWorkRoom : {P : Type 0} → ℕ → ℕ → ℕ → List ℕ → List P → Type 0
-IsWorkRoom d words width digits planes =
-    (4 ^ d ≤ 64 * words) × (length digits ≡ 4 ^ d) × (length planes ≡ width)
+IsWorkRoom size words width digits planes =
+    IsHeldSize size words × (length digits ≡ size) × (length planes ≡ width)
 
 -- so many planes, each of so many words that are all zero
 abbrev pub AreBlank : {P : Type 0} → ℕ → ℕ → (P → List ℕ) → List P → Type 0

@@ -1,9 +1,9 @@
 //! What the codes of a block differ in: the transform of its values, and how the planes of the coefficients
 //! are written and read.
 
-ghost use Rattle.std.specs.Prelude.{◌≡◌, ◌≤◌, ◌-◌, ◌^◌, ℕ, ℤ, pos, [], ◌∷◌, Bool, IsTrue, false, List};
+ghost use Rattle.std.specs.Prelude.{◌≡◌, ◌≤◌, ◌-◌, ◌^◌, ◌↔◌, ℕ, ℤ, pos, [], ◌∷◌, Bool, IsTrue, false, List};
 ghost use Rattle.std.specs.Prelude.{map, length, replicate, IfNone, IfSome, OnSome};
-ghost use Rattle.zf_spec.specs.Grid.{IsDimension, IsBlockSize};
+ghost use Rattle.zf_spec.specs.Grid.{IsDimension};
 ghost use Rattle.zf_spec.specs.HeldPlanes.{planes_held};
 ghost use Rattle.zf_spec.specs.Planes.{planes_of};
 ghost use Rattle.zf_coef.specs.HeldDigits.{digits_in};
@@ -11,9 +11,10 @@ ghost use Rattle.zf_bits.specs.Writer.{Appends};
 ghost use Rattle.zf_bits.specs.Reader.{rest};
 ghost use Rattle.zf_base.specs.WholeBlocks.{IsBlockOf};
 ghost use Rattle.zf_block.specs.Block.{AreAbove};
-ghost use Rattle.zf_block.specs.Held.{IsHeldSize, AreBlank};
-ghost use Rattle.zf_block.specs.Decoding.{PassesCode, Decodes, HoldsAbove};
+ghost use Rattle.zf_block.specs.Held.{IsHeldSize, IsWorkRoom, AreBlank};
+ghost use Rattle.zf_block.specs.Decoding.{PassesCode, MovesIf, Decodes, HoldsAbove};
 
+use crate::Dims;
 use zf_base::Lane;
 use zf_bits::{BitReader, BitWriter, Plane};
 
@@ -43,6 +44,9 @@ pub(crate) trait BlockCode<T: Lane> {
 
     ghost len_at: { Self → ℕ → List Bool → ℕ };
 
+    // Whether it is seen of bits that they begin with the code of a block of zeros.
+    ghost zeros_next: { Self → List Bool → Type 0 };
+
     /// Makes coefficients of the values of a block.
     fn forward(d: u8, block: &mut [T])
         requires block { IsBlockOf d block.old }
@@ -65,33 +69,29 @@ pub(crate) trait BlockCode<T: Lane> {
 
     /// Appends the code of planes, which have these digits, in room that is there already.
     fn write<P: Plane>(&self, size: usize, digits: &[u64], planes: &[P], out: &mut BitWriter)
-        requires size { IsHeldSize size P.word_count }
-        requires planes { length planes.now ≡ T.WIDTH }
-        requires coefficients { length digits.now ≡ size }
+        requires room { IsWorkRoom size P.word_count T.WIDTH digits.now planes.now }
         requires digits { planes_held size (map P.words planes.now)
             ≡ planes_of T.WIDTH (digits_in T.WIDTH digits.now) }
         requires fits { longest self.now size ≤ out.old.room }
         ensures { Appends out.old out.new (code_of self.now (planes_held size (map P.words planes.now))) };
 
-    /// Appends the code where it is seen that the upper planes alone have it, by way of these, and says so.
-    /// Then digits and planes become anything.
-    fn write_upper<P: Plane>(
+    /// Appends the code of the planes that these digits have, by way of planes that it makes. Digits and
+    /// planes become anything.
+    #[inline(always)]
+    fn write_digits<P: Plane>(
         &self,
         size: usize,
         digits: &mut [u64],
         planes: &mut [P],
         out: &mut BitWriter,
-    ) -> bool
-        requires size { IsHeldSize size P.word_count }
-        requires planes { length planes.old ≡ T.WIDTH }
-        requires coefficients { length digits.old ≡ size }
+    )
+        requires room { IsWorkRoom size P.word_count T.WIDTH digits.old planes.old }
         requires fits { longest self.now size ≤ out.old.room }
-        ensures code { IsTrue result → Appends out.old out.new
+        ensures { Appends out.old out.new
             (code_of self.now (planes_of T.WIDTH (digits_in T.WIDTH digits.old))) }
-        ensures unwritten { ¬ IsTrue result → out.new ≡ out.old }
-        ensures unchanged { ¬ IsTrue result → digits.new ≡ digits.old }
     {
-        false
+        zf_coef::planes_of_digits(digits, planes);
+        self.write(size, digits, planes, out);
     }
 
     /// Reads the code of planes into planes of zeros, or answers `None` where the bits end before it does.
@@ -122,26 +122,25 @@ pub(crate) trait BlockCode<T: Lane> {
             result reader.old reader.new };
 
     /// Passes the code of a block of zeros, where it is seen that one is next.
-    fn pass_zeros(&self, size: usize, reader: &mut BitReader<'_>) -> bool
-        requires size { IsBlockSize size }
-        ensures unread { ¬ IsTrue result → reader.new ≡ reader.old }
-        ensures passes { IsTrue result
-            → PassesCode (len_at self.now size (rest reader.old)) reader.old reader.new }
-        ensures zeros { IsTrue result → AreAbove size [] (planes_at self.now size (rest reader.old)) };
+    fn pass_zeros(&self, d: Dims, reader: &mut BitReader<'_>) -> bool
+        ensures seen { IsTrue result ↔ zeros_next self.now (rest reader.old) }
+        ensures passes { MovesIf result reader.old reader.new
+            (PassesCode (len_at self.now (4 ^ d.count) (rest reader.old)) reader.old reader.new) }
+        ensures zeros { IsTrue result
+            → AreAbove (4 ^ d.count) [] (planes_at self.now (4 ^ d.count) (rest reader.old)) };
 
     /// Reads the code of a block of which the first coefficient alone is not zero, where it is seen that one
     /// is next. The answer is the digits of the first.
-    fn read_first(&self, size: usize, reader: &mut BitReader<'_>) -> Option<u64>
-        requires size { IsBlockSize size }
+    fn read_first(&self, d: Dims, reader: &mut BitReader<'_>) -> Option<u64>
         ensures unread { IfNone result (reader.new ≡ reader.old) }
         ensures reads { OnSome result
-            (PassesCode (len_at self.now size (rest reader.old)) reader.old reader.new) }
-        ensures planes { IfSome result (λ u. HoldsAbove size (planes_at self.now size)
-            (planes_of T.WIDTH (digits_in T.WIDTH (u ∷ replicate (size - 1) 0))) (rest reader.old)) };
+            (PassesCode (len_at self.now (4 ^ d.count) (rest reader.old)) reader.old reader.new) }
+        ensures planes { IfSome result (λ u. HoldsAbove (4 ^ d.count) (planes_at self.now (4 ^ d.count))
+            (planes_of T.WIDTH (digits_in T.WIDTH (u ∷ replicate (4 ^ d.count - 1) 0))) (rest reader.old)) };
 
     /// How many bits the code of a block of zeros has, all of which are zero.
-    fn len_of_zeros(&self, size: usize) -> u64
-        requires size { IsBlockSize size }
-        ensures code { code_of self.now (replicate T.WIDTH (replicate size false)) ≡ replicate result false }
-        ensures fits { result ≤ longest self.now size };
+    fn len_of_zeros(&self, d: Dims) -> u64
+        ensures code { code_of self.now (replicate T.WIDTH (replicate (4 ^ d.count) false))
+            ≡ replicate result false }
+        ensures fits { result ≤ longest self.now (4 ^ d.count) };
 }

@@ -1,41 +1,38 @@
 //! The one way from a block to its code and back, whichever code it is.
 
-ghost use Rattle.std.specs.Prelude.{◌≡◌, ◌≤◌, ◌^◌, IsTrue, false, pos, map, length, replicate};
-ghost use Rattle.zf_spec.specs.Grid.{IsDimension};
+ghost use Rattle.std.specs.Prelude.{◌≡◌, ◌≤◌, ◌^◌, ◌↔◌, IsTrue, false, pos, map, length, replicate};
 ghost use Rattle.zf_spec.specs.Codes as codes;
 ghost use Rattle.zf_bits.specs.Writer.{Appends};
 ghost use Rattle.zf_spec.specs.Padding.{pad};
 ghost use Rattle.zf_base.specs.Positions.{used_axes, IsExtent};
 ghost use Rattle.zf_base.specs.WholeBlocks.{IsBlockOf};
-ghost use Rattle.zf_block.specs.Held.{IsHeldSize, IsWorkRoom, AreBlank, HoldPlanes};
+ghost use Rattle.zf_block.specs.Held.{IsHeldSize, IsWorkRoom, AreBlank};
 ghost use Rattle.zf_bits.specs.Reader.{rest};
-ghost use Rattle.zf_block.specs.Decoding.{Decodes, PassesCode, StandsFor};
+ghost use Rattle.zf_block.specs.Decoding.{Decodes, PassesCode, MovesIf, StandsFor};
 
-use crate::Scratch;
 use crate::block_code::BlockCode;
 use crate::coefficients::{from_digits, from_planes, is_all, to_digits, to_planes_of_first};
-use zf_base::{Extent, Lane, block_len};
+use crate::{Dims, Scratch};
+use zf_base::{Extent, Lane};
 use zf_bits::{BitReader, BitWriter, Plane};
 
 /// Appends the code of a block in room that is there already. The block is padded, and becomes anything.
 #[inline(always)]
 pub(crate) fn encode<C: BlockCode<T>, T: Lane>(
     code: &C,
-    d: u8,
+    d: Dims,
     block: &mut [T],
     s: &mut Scratch<T>,
     out: &mut BitWriter,
 )
-    requires block { IsBlockOf d block.old }
-    requires scratch { s.old ≡ d }
-    requires fits { C.longest code.now (4 ^ d) ≤ out.old.room }
-    ensures code { Appends out.old out.new
-        (C.code_of code.now (codes.planes T.width d (C.forth d (map T.value block.old)))) }
-    ensures scratch { s.new ≡ s.old }
+    requires block { length block.old ≡ 4 ^ d.count }
+    requires fits { C.longest code.now (4 ^ d.count) ≤ out.old.room }
+    ensures { Appends out.old out.new
+        (C.code_of code.now (codes.planes T.width d.count (C.forth d.count (map T.value block.old)))) }
 {
     if is_all(T::zero(), block) {
         out.write_zeros_reserved(len_of_zeros::<C, T>(code, d));
-    } else if d == 1 {
+    } else if d.count == 1 {
         write_row(code, &mut block[..4], out);
     } else {
         encode_any(code, d, block, s, out);
@@ -46,22 +43,20 @@ pub(crate) fn encode<C: BlockCode<T>, T: Lane>(
 #[inline(always)]
 pub(crate) fn encode_part<C: BlockCode<T>, T: Lane>(
     code: &C,
-    d: u8,
+    d: Dims,
     e: &Extent,
     block: &[T],
     s: &mut Scratch<T>,
     out: &mut BitWriter,
 )
-    requires block { IsBlockOf d block.now }
-    requires extent { IsExtent d e.now }
-    requires scratch { s.old ≡ d }
-    requires fits { C.longest code.now (4 ^ d) ≤ out.old.room }
-    ensures code { Appends out.old out.new (C.code_of code.now (codes.planes T.width d
-        (C.forth d (pad (used_axes d e.now.size) (map T.value block.now))))) }
-    ensures scratch { s.new ≡ s.old }
+    requires block { length block.now ≡ 4 ^ d.count }
+    requires extent { IsExtent d.count e.now }
+    requires fits { C.longest code.now (4 ^ d.count) ≤ out.old.room }
+    ensures { Appends out.old out.new (C.code_of code.now (codes.planes T.width d.count
+        (C.forth d.count (pad (used_axes d.count e.now.size) (map T.value block.now))))) }
 {
     // Each arm has room of a known size, which is faster where it is small.
-    match d {
+    match d.count {
         1 => encode_copy(code, d, e, block, &mut [T::zero(); 4], s, out),
         2 => encode_copy(code, d, e, block, &mut [T::zero(); 16], s, out),
         3 => encode_copy(code, d, e, block, &mut [T::zero(); 64], s, out),
@@ -73,26 +68,24 @@ pub(crate) fn encode_part<C: BlockCode<T>, T: Lane>(
 #[inline(always)]
 fn encode_copy<C: BlockCode<T>, T: Lane>(
     code: &C,
-    d: u8,
+    d: Dims,
     e: &Extent,
     block: &[T],
     padded: &mut [T],
     s: &mut Scratch<T>,
     out: &mut BitWriter,
 )
-    requires block { IsBlockOf d block.now }
-    requires copy { IsBlockOf d padded.old }
-    requires extent { IsExtent d e.now }
-    requires scratch { s.old ≡ d }
-    requires fits { C.longest code.now (4 ^ d) ≤ out.old.room }
-    ensures code { Appends out.old out.new (C.code_of code.now (codes.planes T.width d
-        (C.forth d (pad (used_axes d e.now.size) (map T.value block.now))))) }
-    ensures scratch { s.new ≡ s.old }
+    requires block { length block.now ≡ 4 ^ d.count }
+    requires copy { length padded.old ≡ 4 ^ d.count }
+    requires extent { IsExtent d.count e.now }
+    requires fits { C.longest code.now (4 ^ d.count) ≤ out.old.room }
+    ensures { Appends out.old out.new (C.code_of code.now (codes.planes T.width d.count
+        (C.forth d.count (pad (used_axes d.count e.now.size) (map T.value block.now))))) }
 {
     // As many as there is room for, so that a copy into an array of a known length needs no call.
     let size = padded.len();
     padded.copy_from_slice(&block[..size]);
-    zf_pad::pad(e, d, padded);
+    zf_pad::pad(e, d.count, padded);
     encode(code, d, padded, s, out);
 }
 
@@ -101,29 +94,27 @@ fn encode_copy<C: BlockCode<T>, T: Lane>(
 #[inline(never)]
 fn encode_any<C: BlockCode<T>, T: Lane>(
     code: &C,
-    d: u8,
+    d: Dims,
     block: &mut [T],
     s: &mut Scratch<T>,
     out: &mut BitWriter,
 )
-    requires block { IsBlockOf d block.old }
-    requires more { ¬ (d ≡ 1) }
-    requires scratch { s.old ≡ d }
-    requires fits { C.longest code.now (4 ^ d) ≤ out.old.room }
-    ensures code { Appends out.old out.new
-        (C.code_of code.now (codes.planes T.width d (C.forth d (map T.value block.old)))) }
-    ensures scratch { s.new ≡ s.old }
+    requires block { length block.old ≡ 4 ^ d.count }
+    requires more { ¬ (d.count ≡ 1) }
+    requires fits { C.longest code.now (4 ^ d.count) ≤ out.old.room }
+    ensures { Appends out.old out.new
+        (C.code_of code.now (codes.planes T.width d.count (C.forth d.count (map T.value block.old)))) }
 {
     // Planes of up to 64 coefficients lie in one word each. Each arm says its number of dimensions and of
     // values as numbers, so that what it calls is compiled for these.
-    match d {
+    match d.count {
         2 => write_block(code, 2, &mut block[..16], &mut [0; 16], &mut s.planes, out),
         3 => write_block(code, 3, &mut block[..64], &mut s.digits, &mut s.planes, out),
         _ => write_block(
             code,
             4,
             &mut block[..256],
-            &mut s.digits,
+            &mut s.wide_digits,
             &mut s.wide_planes,
             out,
         ),
@@ -155,133 +146,90 @@ fn write_block<C: BlockCode<T>, T: Lane, P: Plane>(
     out: &mut BitWriter,
 )
     requires block { IsBlockOf d block.old }
-    requires room { IsWorkRoom d P.word_count T.WIDTH digits.old planes.old }
+    requires room { IsWorkRoom (4 ^ d) P.word_count T.WIDTH digits.old planes.old }
     requires fits { C.longest code.now (4 ^ d) ≤ out.old.room }
     ensures { Appends out.old out.new
         (C.code_of code.now (codes.planes T.width d (C.forth d (map T.value block.old)))) }
 {
-    if write_or_make(code, d, block, digits, planes, out) {
+    let size = block.len();
+    let first = block[0];
+    // A block of one value needs no transform.
+    if is_all(first, block) && C::keeps_first(first) {
+        to_planes_of_first(d, first, digits, planes);
+        code.write(size, digits, planes, out);
         return;
     }
-    code.write(block.len(), digits, planes, out);
+    C::forward(d, block);
+    to_digits(d, block, digits);
+    code.write_digits(size, digits, planes, out);
 }
 
 /// How many bits the code of a block of zeros has, as where a field is empty. All are zero.
 #[inline(always)]
-pub(crate) fn len_of_zeros<C: BlockCode<T>, T: Lane>(code: &C, d: u8) -> u64
-    requires { IsDimension d }
-    ensures code { C.code_of code.now (codes.planes T.width d (C.forth d (replicate (4 ^ d) (pos 0))))
-        ≡ replicate result false }
-    ensures fits { result ≤ C.longest code.now (4 ^ d) }
+pub(crate) fn len_of_zeros<C: BlockCode<T>, T: Lane>(code: &C, d: Dims) -> u64
+    ensures code { C.code_of code.now (codes.planes T.width d.count
+        (C.forth d.count (replicate (4 ^ d.count) (pos 0)))) ≡ replicate result false }
+    ensures fits { result ≤ C.longest code.now (4 ^ d.count) }
 {
-    code.len_of_zeros(block_len(d))
-}
-
-/// Appends the code of a block where it is seen that the upper planes alone have it, and says so. Else it
-/// makes the planes of the coefficients, by way of their digits. The block becomes anything.
-#[inline(always)]
-fn write_or_make<C: BlockCode<T>, T: Lane, P: Plane>(
-    code: &C,
-    d: u8,
-    values: &mut [T],
-    digits: &mut [u64],
-    planes: &mut [P],
-    out: &mut BitWriter,
-) -> bool
-    requires block { IsBlockOf d values.old }
-    requires room { IsWorkRoom d P.word_count T.WIDTH digits.old planes.old }
-    requires fits { C.longest code.now (4 ^ d) ≤ out.old.room }
-    ensures code { IsTrue result → Appends out.old out.new
-        (C.code_of code.now (codes.planes T.width d (C.forth d (map T.value values.old)))) }
-    ensures unwritten { ¬ IsTrue result → out.new ≡ out.old }
-    ensures planes { ¬ IsTrue result → HoldPlanes (4 ^ d) T.WIDTH (map P.words planes.new) digits.new
-        (codes.planes T.width d (C.forth d (map T.value values.old))) }
-{
-    let first = values[0];
-    // A block of one value needs no transform.
-    if is_all(first, values) && C::keeps_first(first) {
-        to_planes_of_first(d, first, digits, planes);
-        return false;
-    }
-    C::forward(d, values);
-    write_or_turn(code, d, values, digits, planes, out)
-}
-
-/// Appends the code of coefficients by place, where it is seen that the upper planes alone have it, and says
-/// so. Else it makes their planes, by way of their digits.
-#[inline(always)]
-fn write_or_turn<C: BlockCode<T>, T: Lane, P: Plane>(
-    code: &C,
-    d: u8,
-    coefficients: &[T],
-    digits: &mut [u64],
-    planes: &mut [P],
-    out: &mut BitWriter,
-) -> bool
-    requires coefficients { IsBlockOf d coefficients.now }
-    requires room { IsWorkRoom d P.word_count T.WIDTH digits.old planes.old }
-    requires fits { C.longest code.now (4 ^ d) ≤ out.old.room }
-    ensures code { IsTrue result → Appends out.old out.new
-        (C.code_of code.now (codes.planes T.width d (map T.value coefficients.now))) }
-    ensures unwritten { ¬ IsTrue result → out.new ≡ out.old }
-    ensures planes { ¬ IsTrue result → HoldPlanes (4 ^ d) T.WIDTH (map P.words planes.new) digits.new
-        (codes.planes T.width d (map T.value coefficients.now)) }
-{
-    to_digits(d, coefficients, digits);
-    if code.write_upper(coefficients.len(), digits, planes, out) {
-        return true;
-    }
-    zf_coef::planes_of_digits(digits, planes);
-    false
+    code.len_of_zeros(d)
 }
 
 /// Passes the code of a block of zeros, where it is seen that one is next, and says so.
 #[inline(always)]
 pub(crate) fn pass_zeros<C: BlockCode<T>, T: Lane>(
     code: &C,
-    d: u8,
+    d: Dims,
     reader: &mut BitReader<'_>,
 ) -> bool
-    requires { IsDimension d }
-    ensures unread { ¬ IsTrue result → reader.new ≡ reader.old }
-    ensures passes { IsTrue result
-        → PassesCode (C.len_at code.now (4 ^ d) (rest reader.old)) reader.old reader.new }
-    ensures zeros { IsTrue result → StandsFor T.width d (C.back d) (C.planes_at code.now (4 ^ d))
-        (replicate (4 ^ d) (pos 0)) (rest reader.old) }
+    ensures seen { IsTrue result ↔ C.zeros_next code.now (rest reader.old) }
+    ensures passes { MovesIf result reader.old reader.new
+        (PassesCode (C.len_at code.now (4 ^ d.count) (rest reader.old)) reader.old reader.new) }
+    ensures zeros { IsTrue result → StandsFor T.width d.count (C.back d.count)
+        (C.planes_at code.now (4 ^ d.count)) (replicate (4 ^ d.count) (pos 0)) (rest reader.old) }
 {
-    code.pass_zeros(block_len(d), reader)
+    code.pass_zeros(d, reader)
 }
 
 /// Reads the code of a block, or answers `None` where the bits end before it does.
 #[inline(always)]
 pub(crate) fn decode<C: BlockCode<T>, T: Lane>(
     code: &C,
-    d: u8,
+    d: Dims,
     reader: &mut BitReader<'_>,
     block: &mut [T],
 ) -> Option<()>
-    requires block { IsBlockOf d block.old }
-    ensures { Decodes (C.len_at code.now (4 ^ d))
-        (StandsFor T.width d (C.back d) (C.planes_at code.now (4 ^ d)) (map T.value block.new))
-        result reader.old reader.new }
+    requires block { length block.old ≡ 4 ^ d.count }
+    ensures { Decodes (C.len_at code.now (4 ^ d.count))
+        (StandsFor T.width d.count (C.back d.count) (C.planes_at code.now (4 ^ d.count))
+        (map T.value block.new)) result reader.old reader.new }
 {
-    if d == 1 {
+    if d.count == 1 {
         return read_row(code, d, reader, block);
     }
-    if code.pass_zeros(block.len(), reader) {
-        C::inverse_of_first(d, T::zero(), block);
+    if code.pass_zeros(d, reader) {
+        C::inverse_of_first(d.count, T::zero(), block);
         return Some(());
     }
     // A block of one value needs neither planes nor a transform.
-    if let Some(digits) = code.read_first(block.len(), reader) {
-        C::inverse_of_first(d, zf_coef::from_digits(digits), block);
+    if let Some(digits) = code.read_first(d, reader) {
+        C::inverse_of_first(d.count, zf_coef::from_digits(digits), block);
         return Some(());
     }
-    // Planes of up to 64 coefficients lie in one word each. Each arm says its number of dimensions.
-    match d {
-        2 => read_narrow::<C, T, 16>(code, 2, reader, block),
-        3 => read_narrow::<C, T, 64>(code, 3, reader, block),
-        _ => read_wide(code, 4, reader, block),
+    // Planes of up to 64 coefficients lie in one word each, and no more are cleared than the values have
+    // digits. Each arm says its number of dimensions.
+    let width = T::WIDTH;
+    if width == 32 {
+        match d.count {
+            2 => read_block::<C, T, u64, 16>(code, 2, reader, block, &mut [0; 32]),
+            3 => read_block::<C, T, u64, 64>(code, 3, reader, block, &mut [0; 32]),
+            _ => read_block::<C, T, [u64; 4], 256>(code, 4, reader, block, &mut [[0; 4]; 32]),
+        }
+    } else {
+        match d.count {
+            2 => read_block::<C, T, u64, 16>(code, 2, reader, block, &mut [0; 64]),
+            3 => read_block::<C, T, u64, 64>(code, 3, reader, block, &mut [0; 64]),
+            _ => read_block::<C, T, [u64; 4], 256>(code, 4, reader, block, &mut [[0; 4]; 64]),
+        }
     }
 }
 
@@ -289,26 +237,26 @@ pub(crate) fn decode<C: BlockCode<T>, T: Lane>(
 #[inline(always)]
 fn read_row<C: BlockCode<T>, T: Lane>(
     code: &C,
-    d: u8,
+    d: Dims,
     reader: &mut BitReader<'_>,
     block: &mut [T],
 ) -> Option<()>
-    requires size { 4 ≡ 4 ^ d }
-    requires block { IsBlockOf d block.old }
-    ensures { Decodes (C.len_at code.now (4 ^ d))
-        (StandsFor T.width d (C.back d) (C.planes_at code.now (4 ^ d)) (map T.value block.new))
-        result reader.old reader.new }
+    requires size { 4 ≡ 4 ^ d.count }
+    requires block { length block.old ≡ 4 ^ d.count }
+    ensures { Decodes (C.len_at code.now (4 ^ d.count))
+        (StandsFor T.width d.count (C.back d.count) (C.planes_at code.now (4 ^ d.count))
+        (map T.value block.new)) result reader.old reader.new }
 {
-    if code.pass_zeros(4, reader) {
+    if code.pass_zeros(d, reader) {
         let mut zeros = [T::zero(); 4];
-        C::inverse_of_first(d, T::zero(), &mut zeros);
+        C::inverse_of_first(d.count, T::zero(), &mut zeros);
         put_four(&zeros, block);
         return Some(());
     }
     let mut digits = [0; 4];
     code.read_four(reader, &mut digits)?;
-    from_digits(d, &digits, block);
-    C::inverse(d, block);
+    from_digits(d.count, &digits, block);
+    C::inverse(d.count, block);
     Some(())
 }
 
@@ -319,52 +267,6 @@ fn put_four<T: Lane>(four: &[T; 4], block: &mut [T])
     ensures { block.new ≡ four.now }
 {
     block[..4].copy_from_slice(four);
-}
-
-/// Reads the code of a block of `N` coefficients, 64 at most.
-#[inline(always)]
-fn read_narrow<C: BlockCode<T>, T: Lane, const N: usize>(
-    code: &C,
-    d: u8,
-    reader: &mut BitReader<'_>,
-    block: &mut [T],
-) -> Option<()>
-    requires size { N ≡ 4 ^ d }
-    requires held { IsHeldSize N 1 }
-    requires block { IsBlockOf d block.old }
-    ensures { Decodes (C.len_at code.now (4 ^ d))
-        (StandsFor T.width d (C.back d) (C.planes_at code.now (4 ^ d)) (map T.value block.new))
-        result reader.old reader.new }
-{
-    // No more planes are cleared than the values have digits.
-    let width = T::WIDTH;
-    if width == 32 {
-        read_block::<C, T, u64, N>(code, d, reader, block, &mut [0; 32])
-    } else {
-        read_block::<C, T, u64, N>(code, d, reader, block, &mut [0; 64])
-    }
-}
-
-/// Reads the code of a block of 256 coefficients.
-#[inline(always)]
-fn read_wide<C: BlockCode<T>, T: Lane>(
-    code: &C,
-    d: u8,
-    reader: &mut BitReader<'_>,
-    block: &mut [T],
-) -> Option<()>
-    requires size { 256 ≡ 4 ^ d }
-    requires block { IsBlockOf d block.old }
-    ensures { Decodes (C.len_at code.now (4 ^ d))
-        (StandsFor T.width d (C.back d) (C.planes_at code.now (4 ^ d)) (map T.value block.new))
-        result reader.old reader.new }
-{
-    let width = T::WIDTH;
-    if width == 32 {
-        read_block::<C, T, [u64; 4], 256>(code, d, reader, block, &mut [[0; 4]; 32])
-    } else {
-        read_block::<C, T, [u64; 4], 256>(code, d, reader, block, &mut [[0; 4]; 64])
-    }
 }
 
 /// Reads the code of a block by way of these planes, which are zero.

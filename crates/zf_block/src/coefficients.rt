@@ -38,7 +38,7 @@ pub(crate) fn to_planes_of_first<T: Lane, P: Plane>(
     planes: &mut [P],
 )
     requires dimension { IsDimension d }
-    requires room { IsWorkRoom d P.word_count T.WIDTH digits.old planes.old }
+    requires room { IsWorkRoom (4 ^ d) P.word_count T.WIDTH digits.old planes.old }
     ensures { HoldPlanes (4 ^ d) T.WIDTH (map P.words planes.new) digits.new
         (codes.planes T.width d (T.value first ∷ replicate (4 ^ d - 1) (pos 0))) }
 {
@@ -75,7 +75,7 @@ pub(crate) fn from_planes<T: Lane, P: Plane>(
     digits: &mut [u64],
     coefficients: &mut [T],
 )
-    requires room { IsWorkRoom d P.word_count T.WIDTH digits.old planes.now }
+    requires room { IsWorkRoom (4 ^ d) P.word_count T.WIDTH digits.old planes.now }
     requires coefficients { IsBlockOf d coefficients.old }
     ensures { map T.value coefficients.new
         ≡ coefficients_of T.width d (planes_held (4 ^ d) (map P.words planes.now)) }

@@ -6,6 +6,7 @@
 mod block_code;
 mod codec;
 mod coefficients;
+mod dims;
 mod first_code;
 pub mod laws;
 mod precision;
@@ -17,6 +18,7 @@ mod upper;
 mod whole;
 mod zero_block;
 
+pub use dims::Dims;
 pub use precision::{
     decode_prec, encode_prec, encode_prec_padded, pass_prec_zeros, prec_len_of_zeros,
 };

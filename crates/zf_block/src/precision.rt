@@ -1,50 +1,49 @@
 //! The code of a block at a fixed precision: its top planes are kept whole, and its values come back rounded.
 
-ghost use Rattle.std.specs.Prelude.{◌≡◌, ◌≤◌, ◌<◌, ◌+◌, ◌*◌, ◌^◌, min, map, length, take, OnOk, OnErr};
+ghost use Rattle.std.specs.Prelude.{◌≡◌, ◌≤◌, ◌<◌, ◌+◌, ◌*◌, ◌^◌, ◌↔◌, min, map, length, take, OnOk, OnErr};
 ghost use Rattle.std.specs.Prelude.{IfNone, OnSome, IsTrue, false, pos, replicate};
-ghost use Rattle.zf_spec.specs.Grid.{IsDimension, fours};
+ghost use Rattle.zf_spec.specs.Grid.{fours};
 ghost use Rattle.zf_spec.specs.Codes as codes;
 ghost use Rattle.zf_spec.specs.Lift.{lift, unlift};
 ghost use Rattle.zf_spec.specs.Planes.{code};
 ghost use Rattle.zf_base.specs.Positions.{used_axes, IsExtent};
 ghost use Rattle.zf_bits.specs.Writer.{Appends};
+ghost use Rattle.zf_bits.specs.Reader.{rest};
 ghost use Rattle.zf_lift.proofs.FirstAlone.{lift-zeros, unlift-zeros};
 ghost use Rattle.zf_block.specs.Room.{longest_prec};
+ghost use Rattle.zf_block.specs.Decoding.{ZerosNext, MovesIf};
 ghost use Rattle.zf_block.specs.ReadBlocks.{ReadsPrec, LacksPrec, prec_planes, prec_len};
 
-use crate::Scratch;
 use crate::block_code::BlockCode;
 use crate::codec::{decode, encode, encode_part, len_of_zeros, pass_zeros};
 use crate::first_code::first_code;
 use crate::uncut::{read_uncut, read_uncut_four, write_uncut, write_uncut_four, zeros_above};
 use crate::zero_block::are_zeros;
+use crate::{Dims, Scratch};
 use std::alloc::AllocError;
 use zf_base::{Extent, Lane};
 use zf_bits::{BitReader, BitWriter, Plane};
 
 /// Appends the code of the block's top `prec` planes, or of all where its type has fewer.
 ///
-/// `block` has `4^d` values, x fastest; those outside `e` are not looked at. `s` is work room for `d`
-/// dimensions. The precisions of the format are 1 to 128. `AllocError` means that there was no memory for the
-/// longest code; room for it can be reserved before. zfp's fixed precision (zfp 1.0 documentation).
+/// `block` has `4^d` values, x fastest; those outside `e` are not looked at. `s` is work room. The precisions
+/// of the format are 1 to 128. `AllocError` means that there was no memory for the longest code; room for it
+/// can be reserved before. zfp's fixed precision (zfp 1.0 documentation).
 #[inline(always)]
 pub fn encode_prec<T: Lane>(
-    d: u8,
+    d: Dims,
     e: &Extent,
     prec: u32,
     block: &[T],
     s: &mut Scratch<T>,
     out: &mut BitWriter,
 ) -> Result<(), AllocError>
-    requires dimension { IsDimension d }
-    requires extent { IsExtent d e.now }
-    requires block { length block.now ≡ 4 ^ d }
-    requires scratch { s.old ≡ d }
+    requires extent { IsExtent d.count e.now }
+    requires block { length block.now ≡ 4 ^ d.count }
     ensures ok { OnOk result (Appends out.old out.new
-        (codes.prec T.width prec (used_axes d e.now.size) (map T.value block.now))) }
+        (codes.prec T.width prec (used_axes d.count e.now.size) (map T.value block.now))) }
     ensures err { OnErr result (out.new ≡ out.old) }
-    ensures full { OnErr result (out.old.room < longest_prec T.WIDTH d) }
-    ensures scratch { s.new ≡ d }
+    ensures full { OnErr result (out.old.room < longest_prec T.WIDTH d.count) }
 {
     let size = block.len() as u64;
     out.reserve(size * u64::from(T::WIDTH + 1))?;
@@ -55,20 +54,17 @@ pub fn encode_prec<T: Lane>(
 /// [`encode_prec`] of a block that is padded, so that all its values exist, and becomes anything.
 #[inline(always)]
 pub fn encode_prec_padded<T: Lane>(
-    d: u8,
+    d: Dims,
     prec: u32,
     block: &mut [T],
     s: &mut Scratch<T>,
     out: &mut BitWriter,
 ) -> Result<(), AllocError>
-    requires dimension { IsDimension d }
-    requires block { length block.old ≡ 4 ^ d }
-    requires scratch { s.old ≡ d }
+    requires block { length block.old ≡ 4 ^ d.count }
     ensures ok { OnOk result (Appends out.old out.new
-        (codes.prec T.width prec (fours d) (map T.value block.old))) }
+        (codes.prec T.width prec (fours d.count) (map T.value block.old))) }
     ensures err { OnErr result (out.new ≡ out.old) }
-    ensures full { OnErr result (out.old.room < longest_prec T.WIDTH d) }
-    ensures scratch { s.new ≡ d }
+    ensures full { OnErr result (out.old.room < longest_prec T.WIDTH d.count) }
 {
     let size = block.len() as u64;
     out.reserve(size * u64::from(T::WIDTH + 1))?;
@@ -79,22 +75,22 @@ pub fn encode_prec_padded<T: Lane>(
 /// How many bits the code of a block of zeros of `d` dimensions has at this precision: one a plane. All are
 /// zero.
 #[inline(always)]
-pub fn prec_len_of_zeros<T: Lane>(d: u8, prec: u32) -> u64
-    requires { IsDimension d }
-    ensures code { codes.prec T.width prec (fours d) (replicate (4 ^ d) (pos 0)) ≡ replicate result false }
-    ensures fits { result ≤ longest_prec T.WIDTH d }
+pub fn prec_len_of_zeros<T: Lane>(d: Dims, prec: u32) -> u64
+    ensures code { codes.prec T.width prec (fours d.count) (replicate (4 ^ d.count) (pos 0))
+        ≡ replicate result false }
+    ensures fits { result ≤ longest_prec T.WIDTH d.count }
 {
     len_of_zeros::<Precision, T>(&Precision { prec }, d)
 }
 
-/// Passes the code of a block of zeros of `d` dimensions at this precision, where it is seen that one is next,
-/// and says so.
+/// Passes the code of a block of zeros of `d` dimensions at this precision, where one is next, and says so:
+/// a bit of each plane is zero.
 #[inline(always)]
-pub fn pass_prec_zeros<T: Lane>(d: u8, prec: u32, reader: &mut BitReader<'_>) -> bool
-    requires { IsDimension d }
-    ensures unread { ¬ IsTrue result → reader.new ≡ reader.old }
-    ensures reads { IsTrue result
-        → ReadsPrec T.width d prec reader.old reader.new (replicate (4 ^ d) (pos 0)) }
+pub fn pass_prec_zeros<T: Lane>(d: Dims, prec: u32, reader: &mut BitReader<'_>) -> bool
+    ensures seen { IsTrue result
+        ↔ ZerosNext (min prec T.WIDTH) (min prec T.WIDTH) (rest reader.old) }
+    ensures reads { MovesIf result reader.old reader.new
+        (ReadsPrec T.width d.count prec reader.old reader.new (replicate (4 ^ d.count) (pos 0))) }
 {
     pass_zeros::<Precision, T>(&Precision { prec }, d, reader)
 }
@@ -106,16 +102,16 @@ pub fn pass_prec_zeros<T: Lane>(d: u8, prec: u32, reader: &mut BitReader<'_>) ->
 /// values mean nothing.
 #[inline(always)]
 pub fn decode_prec<T: Lane>(
-    d: u8,
+    d: Dims,
     prec: u32,
     reader: &mut BitReader<'_>,
     block: &mut [T],
 ) -> Option<()>
-    requires dimension { IsDimension d }
-    requires block { length block.old ≡ 4 ^ d }
-    ensures short { IfNone result (LacksPrec T.width d prec reader.old) }
+    requires block { length block.old ≡ 4 ^ d.count }
+    ensures short { IfNone result (LacksPrec T.width d.count prec reader.old) }
     ensures unread { IfNone result (reader.new ≡ reader.old) }
-    ensures reads { OnSome result (ReadsPrec T.width d prec reader.old reader.new (map T.value block.new)) }
+    ensures reads { OnSome result
+        (ReadsPrec T.width d.count prec reader.old reader.new (map T.value block.new)) }
 {
     decode(&Precision { prec }, d, reader, block)
 }
@@ -143,6 +139,8 @@ impl<T: Lane> BlockCode<T> for Precision {
 
     ghost len_at = { λ self size s. prec_len T.width self.prec size s };
 
+    ghost zeros_next = { λ self s. ZerosNext (min self.prec T.WIDTH) (min self.prec T.WIDTH) s };
+
     #[inline(always)]
     fn forward(d: u8, block: &mut [T]) {
         zf_lift::forward(d, block);
@@ -161,10 +159,10 @@ impl<T: Lane> BlockCode<T> for Precision {
         zf_lift::inverse_of_first(d, first, block);
     }
 
+    #[inline(always)]
     fn write<P: Plane>(&self, size: usize, digits: &[u64], planes: &[P], out: &mut BitWriter) {
-        let width = T::WIDTH;
-        let prec = self.prec.min(width);
-        let zeros = zeros_above(prec, width, digits);
+        let prec = self.prec.min(T::WIDTH);
+        let zeros = zeros_above::<T>(prec, digits);
         write_uncut(zeros, prec, size, planes, out);
     }
 
@@ -178,18 +176,16 @@ impl<T: Lane> BlockCode<T> for Precision {
     }
 
     fn write_four(&self, digits: &[u64; 4], out: &mut BitWriter) {
-        let width = T::WIDTH;
-        let prec = self.prec.min(width);
-        let zeros = zeros_above(prec, width, digits);
-        write_uncut_four(zeros, prec, width, digits, out);
+        let prec = self.prec.min(T::WIDTH);
+        let zeros = zeros_above::<T>(prec, digits);
+        write_uncut_four::<T>(zeros, prec, digits, out);
     }
 
     fn read_four(&self, reader: &mut BitReader<'_>, digits: &mut [u64; 4]) -> Option<()> {
-        let width = T::WIDTH;
-        read_uncut_four(self.prec.min(width), width, reader, digits)
+        read_uncut_four::<T>(self.prec.min(T::WIDTH), reader, digits)
     }
 
-    fn pass_zeros(&self, size: usize, reader: &mut BitReader<'_>) -> bool {
+    fn pass_zeros(&self, d: Dims, reader: &mut BitReader<'_>) -> bool {
         let prec = self.prec.min(T::WIDTH);
         if are_zeros(prec, reader) {
             reader.skip(u64::from(prec));
@@ -199,7 +195,7 @@ impl<T: Lane> BlockCode<T> for Precision {
     }
 
     #[inline(always)]
-    fn read_first(&self, size: usize, reader: &mut BitReader<'_>) -> Option<u64> {
+    fn read_first(&self, d: Dims, reader: &mut BitReader<'_>) -> Option<u64> {
         let width = T::WIDTH;
         let prec = self.prec.min(width);
         let first = first_code(prec, reader)?;
@@ -207,7 +203,7 @@ impl<T: Lane> BlockCode<T> for Precision {
         Some(first.digits << (width - prec))
     }
 
-    fn len_of_zeros(&self, size: usize) -> u64 {
+    fn len_of_zeros(&self, d: Dims) -> u64 {
         u64::from(self.prec.min(T::WIDTH))
     }
 }

@@ -1,8 +1,8 @@
 //! The code of a block at a fixed rate: each block has as many bits, and its values come back rounded.
 
-ghost use Rattle.std.specs.Prelude.{◌≡◌, ◌≤◌, ◌<◌, ◌^◌, map, length, take};
+ghost use Rattle.std.specs.Prelude.{◌≡◌, ◌≤◌, ◌<◌, ◌^◌, ◌↔◌, min, map, length, take};
 ghost use Rattle.std.specs.Prelude.{IsTrue, false, pos, replicate};
-ghost use Rattle.zf_spec.specs.Grid.{IsDimension, fours};
+ghost use Rattle.zf_spec.specs.Grid.{fours};
 ghost use Rattle.zf_spec.specs.Codes.{rate};
 ghost use Rattle.zf_spec.specs.Lift.{lift, unlift};
 ghost use Rattle.zf_spec.specs.Planes.{code};
@@ -12,39 +12,37 @@ ghost use Rattle.zf_base.specs.Positions.{used_axes, IsExtent};
 ghost use Rattle.zf_bits.specs.Writer.{Appends};
 ghost use Rattle.zf_bits.specs.Reader.{rest};
 ghost use Rattle.zf_lift.proofs.FirstAlone.{lift-zeros, unlift-zeros};
+ghost use Rattle.zf_block.specs.Decoding.{ZerosNext, MovesIf};
 ghost use Rattle.zf_block.specs.ReadBlocks.{ReadsRate};
 
-use crate::Scratch;
 use crate::block_code::BlockCode;
 use crate::codec::{decode, encode, encode_part, len_of_zeros, pass_zeros};
 use crate::first_code::first_code;
 use crate::upper::{reaches_upper, write_upper};
 use crate::zero_block::are_zeros;
+use crate::{Dims, Scratch};
 use zf_base::{Extent, Lane};
 use zf_bits::{BitReader, BitWriter, Plane};
 
 /// Appends the first `bits` bits of the block's code, filled with zeros, so that each block takes the same
 /// room.
 ///
-/// `block` has `4^d` values, x fastest; those outside `e` are not looked at. `s` is work room for `d`
-/// dimensions. The rates of the format are 1 to 32768. Fixed rate as in Lindstrom 2014.
+/// `block` has `4^d` values, x fastest; those outside `e` are not looked at. `s` is work room. The rates of the
+/// format are 1 to 32768. Fixed rate as in Lindstrom 2014.
 #[inline(always)]
 pub fn encode_rate<T: Lane>(
-    d: u8,
+    d: Dims,
     e: &Extent,
     bits: u32,
     block: &[T],
     s: &mut Scratch<T>,
     out: &mut BitWriter,
 )
-    requires dimension { IsDimension d }
-    requires extent { IsExtent d e.now }
-    requires block { length block.now ≡ 4 ^ d }
-    requires scratch { s.old ≡ d }
+    requires extent { IsExtent d.count e.now }
+    requires block { length block.now ≡ 4 ^ d.count }
     requires fits { bits ≤ out.old.room }
     ensures code { Appends out.old out.new
-        (rate T.width bits (used_axes d e.now.size) (map T.value block.now)) }
-    ensures scratch { s.new ≡ d }
+        (rate T.width bits (used_axes d.count e.now.size) (map T.value block.now)) }
 {
     encode_part(&Rate { bits }, d, e, block, s, out);
 }
@@ -52,18 +50,15 @@ pub fn encode_rate<T: Lane>(
 /// [`encode_rate`] of a block that is padded, so that all its values exist, and becomes anything.
 #[inline(always)]
 pub fn encode_rate_padded<T: Lane>(
-    d: u8,
+    d: Dims,
     bits: u32,
     block: &mut [T],
     s: &mut Scratch<T>,
     out: &mut BitWriter,
 )
-    requires dimension { IsDimension d }
-    requires block { length block.old ≡ 4 ^ d }
-    requires scratch { s.old ≡ d }
+    requires block { length block.old ≡ 4 ^ d.count }
     requires fits { bits ≤ out.old.room }
-    ensures code { Appends out.old out.new (rate T.width bits (fours d) (map T.value block.old)) }
-    ensures scratch { s.new ≡ d }
+    ensures code { Appends out.old out.new (rate T.width bits (fours d.count) (map T.value block.old)) }
 {
     encode(&Rate { bits }, d, block, s, out);
 }
@@ -71,23 +66,22 @@ pub fn encode_rate_padded<T: Lane>(
 /// How many bits the code of a block of zeros of `d` dimensions has at this rate: as many as each. All are
 /// zero.
 #[inline(always)]
-pub fn rate_len_of_zeros<T: Lane>(d: u8, bits: u32) -> u64
-    requires { IsDimension d }
-    ensures code { rate T.width bits (fours d) (replicate (4 ^ d) (pos 0)) ≡ replicate result false }
+pub fn rate_len_of_zeros<T: Lane>(d: Dims, bits: u32) -> u64
+    ensures code { rate T.width bits (fours d.count) (replicate (4 ^ d.count) (pos 0))
+        ≡ replicate result false }
     ensures fits { result ≤ bits }
 {
     len_of_zeros::<Rate, T>(&Rate { bits }, d)
 }
 
 /// Passes the code of a block of zeros of `d` dimensions at this rate, where it is seen that one is next, and
-/// says so.
+/// says so: a bit of each plane is zero, as far as the rate reaches. What fills the code is not looked at.
 #[inline(always)]
-pub fn pass_rate_zeros<T: Lane>(d: u8, bits: u32, reader: &mut BitReader<'_>) -> bool
-    requires { IsDimension d }
-    ensures unread { ¬ IsTrue result → reader.new ≡ reader.old }
+pub fn pass_rate_zeros<T: Lane>(d: Dims, bits: u32, reader: &mut BitReader<'_>) -> bool
+    ensures seen { IsTrue result ↔ ZerosNext bits (min bits T.WIDTH) (rest reader.old) }
     ensures there { IsTrue result → bits ≤ length (rest reader.old) }
-    ensures reads { IsTrue result
-        → ReadsRate T.width d bits reader.old reader.new (replicate (4 ^ d) (pos 0)) }
+    ensures reads { MovesIf result reader.old reader.new
+        (ReadsRate T.width d.count bits reader.old reader.new (replicate (4 ^ d.count) (pos 0))) }
 {
     pass_zeros::<Rate, T>(&Rate { bits }, d, reader)
 }
@@ -97,11 +91,10 @@ pub fn pass_rate_zeros<T: Lane>(d: u8, bits: u32, reader: &mut BitReader<'_>) ->
 /// `block` gets `4^d` values, x fastest. A code does not tell which of them exist; at places that do not, the
 /// values mean nothing.
 #[inline(always)]
-pub fn decode_rate<T: Lane>(d: u8, bits: u32, reader: &mut BitReader<'_>, block: &mut [T])
-    requires dimension { IsDimension d }
-    requires block { length block.old ≡ 4 ^ d }
+pub fn decode_rate<T: Lane>(d: Dims, bits: u32, reader: &mut BitReader<'_>, block: &mut [T])
+    requires block { length block.old ≡ 4 ^ d.count }
     requires enough { bits ≤ length (rest reader.old) }
-    ensures { ReadsRate T.width d bits reader.old reader.new (map T.value block.new) }
+    ensures { ReadsRate T.width d.count bits reader.old reader.new (map T.value block.new) }
 {
     decode(&Rate { bits }, d, reader, block).unwrap();
 }
@@ -128,6 +121,8 @@ impl<T: Lane> BlockCode<T> for Rate {
     ghost planes_at = { λ self size s. kept_planes self.bits (planes_in T.WIDTH size (take self.bits s)) };
 
     ghost len_at = { λ self size s. self.bits };
+
+    ghost zeros_next = { λ self s. ZerosNext self.bits (min self.bits T.WIDTH) s };
 
     #[inline(always)]
     fn forward(d: u8, block: &mut [T]) {
@@ -157,25 +152,26 @@ impl<T: Lane> BlockCode<T> for Rate {
     }
 
     #[inline(always)]
-    fn write_upper<P: Plane>(
+    fn write_digits<P: Plane>(
         &self,
         size: usize,
         digits: &mut [u64],
         planes: &mut [P],
         out: &mut BitWriter,
-    ) -> bool {
+    ) {
         let bits = u64::from(self.bits);
         let width = T::WIDTH;
         // Half as many planes are turned in half the time.
-        if reaches_upper(bits, 16, width, digits) {
-            write_upper(bits, 16, width, digits, planes, out);
-            return true;
+        if reaches_upper::<T>(bits, 16, digits) {
+            write_upper::<T, P>(bits, 16, digits, planes, out);
+            return;
         }
-        if width == 64 && reaches_upper(bits, 32, width, digits) {
-            write_upper(bits, 32, width, digits, planes, out);
-            return true;
+        if width == 64 && reaches_upper::<T>(bits, 32, digits) {
+            write_upper::<T, P>(bits, 32, digits, planes, out);
+            return;
         }
-        false
+        zf_coef::planes_of_digits(digits, planes);
+        BlockCode::<T>::write(self, size, digits, planes, out);
     }
 
     fn read<P: Plane>(
@@ -213,7 +209,7 @@ impl<T: Lane> BlockCode<T> for Rate {
         Some(())
     }
 
-    fn pass_zeros(&self, size: usize, reader: &mut BitReader<'_>) -> bool {
+    fn pass_zeros(&self, d: Dims, reader: &mut BitReader<'_>) -> bool {
         let bits = u64::from(self.bits);
         if bits <= reader.left() && are_zeros(self.bits.min(T::WIDTH), reader) {
             reader.skip(bits);
@@ -223,7 +219,7 @@ impl<T: Lane> BlockCode<T> for Rate {
     }
 
     #[inline(always)]
-    fn read_first(&self, size: usize, reader: &mut BitReader<'_>) -> Option<u64> {
+    fn read_first(&self, d: Dims, reader: &mut BitReader<'_>) -> Option<u64> {
         let bits = u64::from(self.bits);
         let first = first_code(T::WIDTH, reader)?;
         if bits < first.len || reader.left() < bits {
@@ -233,7 +229,7 @@ impl<T: Lane> BlockCode<T> for Rate {
         Some(first.digits)
     }
 
-    fn len_of_zeros(&self, size: usize) -> u64 {
+    fn len_of_zeros(&self, d: Dims) -> u64 {
         u64::from(self.bits)
     }
 }

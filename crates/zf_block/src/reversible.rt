@@ -1,9 +1,9 @@
 //! The reversible code of a block: its values come back exactly.
 
-ghost use Rattle.std.specs.Prelude.{◌≡◌, ◌≤◌, ◌<◌, ◌+◌, ◌-◌, ◌*◌, ◌^◌, max, map, length, take, OnOk, OnErr};
-ghost use Rattle.std.specs.Prelude.{IsTrue, false, pos, replicate};
+ghost use Rattle.std.specs.Prelude.{◌≡◌, ◌≤◌, ◌<◌, ◌+◌, ◌-◌, ◌*◌, ◌^◌, ◌↔◌, max, map, length, take, OnOk};
+ghost use Rattle.std.specs.Prelude.{OnErr, IsTrue, false, pos, replicate};
 ghost use Rattle.std.specs.Prelude.{IfNone, IfSome, OnSome};
-ghost use Rattle.zf_spec.specs.Grid.{IsDimension, fours};
+ghost use Rattle.zf_spec.specs.Grid.{fours};
 ghost use Rattle.zf_spec.specs.Numbers.{field, number};
 ghost use Rattle.zf_spec.specs.Planes.{planes_of, needed_planes};
 ghost use Rattle.zf_coef.specs.HeldDigits.{digits_in};
@@ -12,43 +12,40 @@ ghost use Rattle.zf_spec.specs.Lorenzo.{lorenzo, unlorenzo};
 ghost use Rattle.zf_base.specs.Positions.{used_axes, IsExtent};
 ghost use Rattle.zf_bits.specs.Writer.{Appends};
 ghost use Rattle.zf_bits.specs.Reader.{rest, Reads};
-ghost use Rattle.zf_block.specs.Decoding.{LacksBits};
+ghost use Rattle.zf_block.specs.Decoding.{LacksBits, ZerosNext, MovesIf};
 ghost use Rattle.zf_block.specs.Room.{longest_rev};
 ghost use Rattle.zf_lorenzo.proofs.FirstAlone.{lorenzo-zeros, unlorenzo-zeros};
 ghost use Rattle.zf_block.specs.ReadBlocks.{ReadsRev, LacksRev, rev_planes, rev_len};
 
-use crate::Scratch;
 use crate::block_code::BlockCode;
 use crate::codec::{decode, encode, encode_part, len_of_zeros, pass_zeros};
 use crate::first_code::first_code;
 use crate::uncut::{read_uncut, read_uncut_four, write_uncut, write_uncut_four, zeros_above};
 use crate::zero_block::are_zeros;
+use crate::{Dims, Scratch};
 use std::alloc::AllocError;
 use zf_base::{Extent, Lane};
 use zf_bits::{BitReader, BitWriter, Plane};
 
 /// Appends the reversible code of a block, from which exactly its values come back.
 ///
-/// `block` has `4^d` values, x fastest; those outside `e` are not looked at. `s` is work room for `d`
-/// dimensions. `AllocError` means that there was no memory for the longest code; room for it can be reserved
-/// before. The layout of the code, a count of planes and then the planes, is this project's own.
+/// `block` has `4^d` values, x fastest; those outside `e` are not looked at. `s` is work room. `AllocError`
+/// means that there was no memory for the longest code; room for it can be reserved before. The layout of the
+/// code, a count of planes and then the planes, is this project's own.
 #[inline(always)]
 pub fn encode_rev<T: Lane>(
-    d: u8,
+    d: Dims,
     e: &Extent,
     block: &[T],
     s: &mut Scratch<T>,
     out: &mut BitWriter,
 ) -> Result<(), AllocError>
-    requires dimension { IsDimension d }
-    requires extent { IsExtent d e.now }
-    requires block { length block.now ≡ 4 ^ d }
-    requires scratch { s.old ≡ d }
+    requires extent { IsExtent d.count e.now }
+    requires block { length block.now ≡ 4 ^ d.count }
     ensures ok { OnOk result (Appends out.old out.new
-        (rev T.width (used_axes d e.now.size) (map T.value block.now))) }
+        (rev T.width (used_axes d.count e.now.size) (map T.value block.now))) }
     ensures err { OnErr result (out.new ≡ out.old) }
-    ensures full { OnErr result (out.old.room < longest_rev T.WIDTH d) }
-    ensures scratch { s.new ≡ d }
+    ensures full { OnErr result (out.old.room < longest_rev T.WIDTH d.count) }
 {
     let size = block.len() as u64;
     out.reserve(6 + size * u64::from(T::WIDTH + 1))?;
@@ -59,18 +56,15 @@ pub fn encode_rev<T: Lane>(
 /// [`encode_rev`] of a block that is padded, so that all its values exist, and becomes anything.
 #[inline(always)]
 pub fn encode_rev_padded<T: Lane>(
-    d: u8,
+    d: Dims,
     block: &mut [T],
     s: &mut Scratch<T>,
     out: &mut BitWriter,
 ) -> Result<(), AllocError>
-    requires dimension { IsDimension d }
-    requires block { length block.old ≡ 4 ^ d }
-    requires scratch { s.old ≡ d }
-    ensures ok { OnOk result (Appends out.old out.new (rev T.width (fours d) (map T.value block.old))) }
+    requires block { length block.old ≡ 4 ^ d.count }
+    ensures ok { OnOk result (Appends out.old out.new (rev T.width (fours d.count) (map T.value block.old))) }
     ensures err { OnErr result (out.new ≡ out.old) }
-    ensures full { OnErr result (out.old.room < longest_rev T.WIDTH d) }
-    ensures scratch { s.new ≡ d }
+    ensures full { OnErr result (out.old.room < longest_rev T.WIDTH d.count) }
 {
     let size = block.len() as u64;
     out.reserve(6 + size * u64::from(T::WIDTH + 1))?;
@@ -80,22 +74,21 @@ pub fn encode_rev_padded<T: Lane>(
 
 /// How many bits the reversible code of a block of zeros of `d` dimensions has. All are zero.
 #[inline(always)]
-pub fn rev_len_of_zeros<T: Lane>(d: u8) -> u64
-    requires { IsDimension d }
-    ensures code { rev T.width (fours d) (replicate (4 ^ d) (pos 0)) ≡ replicate result false }
-    ensures fits { result ≤ longest_rev T.WIDTH d }
+pub fn rev_len_of_zeros<T: Lane>(d: Dims) -> u64
+    ensures code { rev T.width (fours d.count) (replicate (4 ^ d.count) (pos 0)) ≡ replicate result false }
+    ensures fits { result ≤ longest_rev T.WIDTH d.count }
 {
     len_of_zeros::<Reversible, T>(&Reversible, d)
 }
 
-/// Passes the reversible code of a block of zeros of `d` dimensions, where it is seen that one is next, and
-/// says so.
+/// Passes the reversible code of a block of zeros of `d` dimensions, where one is next, and says so: the
+/// count of planes less one and the bit of one plane are zero.
 #[inline(always)]
-pub fn pass_rev_zeros<T: Lane>(d: u8, reader: &mut BitReader<'_>) -> bool
-    requires { IsDimension d }
-    ensures unread { ¬ IsTrue result → reader.new ≡ reader.old }
-    ensures reads { IsTrue result
-        → ReadsRev T.width d reader.old reader.new (replicate (4 ^ d) (pos 0)) }
+pub fn pass_rev_zeros<T: Lane>(d: Dims, reader: &mut BitReader<'_>) -> bool
+    ensures seen { IsTrue result
+        ↔ ZerosNext (count_bits T.width + 1) (count_bits T.width + 1) (rest reader.old) }
+    ensures reads { MovesIf result reader.old reader.new
+        (ReadsRev T.width d.count reader.old reader.new (replicate (4 ^ d.count) (pos 0))) }
 {
     pass_zeros::<Reversible, T>(&Reversible, d, reader)
 }
@@ -106,12 +99,11 @@ pub fn pass_rev_zeros<T: Lane>(d: u8, reader: &mut BitReader<'_>) -> bool
 /// `block` gets `4^d` values, x fastest. A code does not tell which of them exist; at places that do not, the
 /// values mean nothing.
 #[inline(always)]
-pub fn decode_rev<T: Lane>(d: u8, reader: &mut BitReader<'_>, block: &mut [T]) -> Option<()>
-    requires dimension { IsDimension d }
-    requires block { length block.old ≡ 4 ^ d }
-    ensures short { IfNone result (LacksRev T.width d reader.old) }
+pub fn decode_rev<T: Lane>(d: Dims, reader: &mut BitReader<'_>, block: &mut [T]) -> Option<()>
+    requires block { length block.old ≡ 4 ^ d.count }
+    ensures short { IfNone result (LacksRev T.width d.count reader.old) }
     ensures unread { IfNone result (reader.new ≡ reader.old) }
-    ensures reads { OnSome result (ReadsRev T.width d reader.old reader.new (map T.value block.new)) }
+    ensures reads { OnSome result (ReadsRev T.width d.count reader.old reader.new (map T.value block.new)) }
 {
     decode(&Reversible, d, reader, block)
 }
@@ -137,6 +129,8 @@ impl<T: Lane> BlockCode<T> for Reversible {
 
     ghost len_at = { λ self size s. rev_len T.width size s };
 
+    ghost zeros_next = { λ self s. ZerosNext (count_bits T.width + 1) (count_bits T.width + 1) s };
+
     fn forward(d: u8, block: &mut [T]) {
         zf_lorenzo::forward(d, block);
     }
@@ -153,9 +147,10 @@ impl<T: Lane> BlockCode<T> for Reversible {
         zf_lorenzo::inverse_of_first(d, first, block);
     }
 
+    #[inline(always)]
     fn write<P: Plane>(&self, size: usize, digits: &[u64], planes: &[P], out: &mut BitWriter) {
         let prec = write_count::<T>(digits, out);
-        let zeros = zeros_above(prec, T::WIDTH, digits);
+        let zeros = zeros_above::<T>(prec, digits);
         write_uncut(zeros, prec, size, planes, out);
     }
 
@@ -179,10 +174,9 @@ impl<T: Lane> BlockCode<T> for Reversible {
     }
 
     fn write_four(&self, digits: &[u64; 4], out: &mut BitWriter) {
-        let width = T::WIDTH;
         let prec = write_count::<T>(digits, out);
-        let zeros = zeros_above(prec, width, digits);
-        write_uncut_four(zeros, prec, width, digits, out);
+        let zeros = zeros_above::<T>(prec, digits);
+        write_uncut_four::<T>(zeros, prec, digits, out);
     }
 
     fn read_four(&self, reader: &mut BitReader<'_>, digits: &mut [u64; 4]) -> Option<()> {
@@ -190,7 +184,7 @@ impl<T: Lane> BlockCode<T> for Reversible {
         // Known by this call: the start is within the bits, so that the reader can go back.
         let _left = reader.left();
         let prec = read_count::<T>(reader)?;
-        match read_uncut_four(prec, T::WIDTH, reader, digits) {
+        match read_uncut_four::<T>(prec, reader, digits) {
             Some(()) => Some(()),
             None => {
                 reader.seek(start);
@@ -200,7 +194,7 @@ impl<T: Lane> BlockCode<T> for Reversible {
     }
 
     // The count of planes less one, and the bit of one plane.
-    fn pass_zeros(&self, size: usize, reader: &mut BitReader<'_>) -> bool {
+    fn pass_zeros(&self, d: Dims, reader: &mut BitReader<'_>) -> bool {
         let count = count_bits::<T>() + 1;
         if are_zeros(count, reader) {
             reader.skip(u64::from(count));
@@ -210,7 +204,7 @@ impl<T: Lane> BlockCode<T> for Reversible {
     }
 
     #[inline(always)]
-    fn read_first(&self, size: usize, reader: &mut BitReader<'_>) -> Option<u64> {
+    fn read_first(&self, d: Dims, reader: &mut BitReader<'_>) -> Option<u64> {
         let mut place = reader.another();
         let prec = read_count::<T>(&mut place)?;
         let first = first_code(prec, &place)?;
@@ -220,7 +214,7 @@ impl<T: Lane> BlockCode<T> for Reversible {
     }
 
     // The count of planes less one, and the bit of one plane.
-    fn len_of_zeros(&self, size: usize) -> u64 {
+    fn len_of_zeros(&self, d: Dims) -> u64 {
         u64::from(count_bits::<T>() + 1)
     }
 }

@@ -1,6 +1,6 @@
 //! The code of planes without a budget.
 
-ghost use Rattle.std.specs.Prelude.{◌≡◌, ◌≤◌, ◌<◌, ◌+◌, ◌*◌, false, map, length, take, replicate};
+ghost use Rattle.std.specs.Prelude.{◌≡◌, ◌≤◌, ◌+◌, ◌*◌, false, map, length, take, replicate};
 ghost use Rattle.zf_spec.specs.Planes.{planes_of, code};
 ghost use Rattle.zf_spec.specs.ReadPlanes.{planes_in};
 ghost use Rattle.zf_spec.specs.HeldPlanes.{planes_held};
@@ -10,18 +10,17 @@ ghost use Rattle.zf_block.specs.Held.{IsHeldSize};
 ghost use Rattle.zf_block.specs.Decoding.{Decodes, HoldsAbove};
 ghost use Rattle.zf_block.specs.ReadBlocks.{uncut_len};
 
+use zf_base::Lane;
 use zf_bits::{BitReader, BitWriter, Plane};
 
 /// How many of the top `prec` planes of these digits have no one, as the digits tell at once.
 #[inline(always)]
-pub(crate) fn zeros_above(prec: u32, width: u32, digits: &[u64]) -> u32
-    requires some { 0 < width }
-    requires in_word { width ≤ 64 }
+pub(crate) fn zeros_above<T: Lane>(prec: u32, digits: &[u64]) -> u32
     ensures within { result ≤ prec }
-    ensures zeros { take result (planes_of width (digits_in width digits.now))
+    ensures zeros { take result (planes_of T.WIDTH (digits_in T.WIDTH digits.now))
         ≡ replicate result (replicate (length digits.now) false) }
 {
-    zf_coef::zero_planes(digits, width).min(prec)
+    zf_coef::zero_planes(digits, T::WIDTH).min(prec)
 }
 
 /// Appends the whole code of the top `prec` planes. The top `zeros` planes have no one.
@@ -47,22 +46,21 @@ pub(crate) fn write_uncut<P: Plane>(
 /// Appends the whole code of the top `prec` planes of four coefficients, from their digits. The top `zeros`
 /// planes have no one.
 #[inline(always)]
-pub(crate) fn write_uncut_four(
+pub(crate) fn write_uncut_four<T: Lane>(
     zeros: u32,
     prec: u32,
-    width: u32,
     digits: &[u64; 4],
     out: &mut BitWriter,
 )
-    requires width { width ≤ 64 }
-    requires planes { prec ≤ width }
+    requires planes { prec ≤ T.WIDTH }
     requires fits { 4 * prec + 4 ≤ out.old.room }
     requires within { zeros ≤ prec }
-    requires zeros { take zeros (planes_of width (digits_in width digits.now))
+    requires zeros { take zeros (planes_of T.WIDTH (digits_in T.WIDTH digits.now))
         ≡ replicate zeros (replicate 4 false) }
-    ensures { Appends out.old out.new (code (take prec (planes_of width (digits_in width digits.now)))) }
+    ensures { Appends out.old out.new
+        (code (take prec (planes_of T.WIDTH (digits_in T.WIDTH digits.now)))) }
 {
-    zf_planes::write_four(zeros, u64::MAX, prec, width, digits, out);
+    zf_planes::write_four(zeros, u64::MAX, prec, T::WIDTH, digits, out);
 }
 
 /// Reads the whole code of the top `prec` planes, or answers `None` where the bits end before it does. The
@@ -89,20 +87,18 @@ pub(crate) fn read_uncut<P: Plane>(
 
 /// Reads the whole code of the top `prec` planes of four coefficients, into their digits.
 #[inline(always)]
-pub(crate) fn read_uncut_four(
+pub(crate) fn read_uncut_four<T: Lane>(
     prec: u32,
-    width: u32,
     reader: &mut BitReader<'_>,
     digits: &mut [u64; 4],
 ) -> Option<()>
-    requires width { width ≤ 64 }
-    requires planes { prec ≤ width }
+    requires planes { prec ≤ T.WIDTH }
     ensures { Decodes (uncut_len prec 4)
-        (HoldsAbove 4 (planes_in prec 4) (planes_of width (digits_in width digits.new)))
+        (HoldsAbove 4 (planes_in prec 4) (planes_of T.WIDTH (digits_in T.WIDTH digits.new)))
         result reader.old reader.new }
 {
     // Known by this call: the greatest budget is more than what is left.
     let _left = reader.left();
-    zf_planes::read_four(u64::MAX, prec, width, reader, digits)?;
+    zf_planes::read_four(u64::MAX, prec, T::WIDTH, reader, digits)?;
     Some(())
 }

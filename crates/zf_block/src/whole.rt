@@ -1,15 +1,14 @@
 //! How far down the code of a block at a fixed rate has its planes whole.
 
 ghost use Rattle.std.specs.Prelude.{◌≡◌, ◌≤◌, ◌*◌, ◌^◌, length, take};
-ghost use Rattle.zf_spec.specs.Grid.{IsDimension};
 ghost use Rattle.zf_spec.specs.ReadPlanes.{planes_in};
 ghost use Rattle.zf_bits.specs.Reader.{rest, Reads};
 ghost use Rattle.zf_block.specs.Held.{IsHeldSize};
 ghost use Rattle.zf_block.specs.WholePlanes.{whole_from, rate_whole_from};
 
-use crate::Scratch;
 use crate::block_code::BlockCode;
 use crate::rate::Rate;
+use crate::{Dims, Scratch};
 use zf_base::{Lane, block_len};
 use zf_bits::{BitReader, Plane};
 
@@ -17,21 +16,18 @@ use zf_bits::{BitReader, Plane};
 /// planes from k up are in it whole: the codes of these planes have at most `bits` bits together. It is the
 /// width of the type where not even the top plane is.
 ///
-/// Planes are numbered by their digit, the lowest is plane 0. `s` is work room for `d` dimensions.
+/// Planes are numbered by their digit, the lowest is plane 0. `s` is work room.
 pub fn whole_planes<T: Lane>(
-    d: u8,
+    d: Dims,
     bits: u32,
     reader: &mut BitReader<'_>,
     s: &mut Scratch<T>,
 ) -> u32
-    requires dimension { IsDimension d }
-    requires scratch { s.old ≡ d }
     requires enough { bits ≤ length (rest reader.old) }
-    ensures plane { result ≡ rate_whole_from T.width d (take bits (rest reader.old)) }
+    ensures plane { result ≡ rate_whole_from T.width d.count (take bits (rest reader.old)) }
     ensures passed { Reads reader.old reader.new (take bits (rest reader.old)) }
-    ensures scratch { s.new ≡ d }
 {
-    let size = block_len(d);
+    let size = block_len(d.count);
     // Planes of up to 64 coefficients lie in one word each.
     if size <= 64 {
         whole_planes_in::<T, u64>(size, bits, reader, &mut s.planes)

@@ -1,7 +1,8 @@
 //! A look for zeros that come next.
 
-ghost use Rattle.std.specs.Prelude.{◌≡◌, ◌≤◌, IsTrue, false, length, take, replicate};
+ghost use Rattle.std.specs.Prelude.{◌≤◌, ◌↔◌, IsTrue};
 ghost use Rattle.zf_bits.specs.Reader.{rest};
+ghost use Rattle.zf_block.specs.Decoding.{ZerosNext};
 
 use zf_bits::BitReader;
 
@@ -9,8 +10,7 @@ use zf_bits::BitReader;
 #[inline(always)]
 pub(crate) fn are_zeros(count: u32, reader: &BitReader<'_>) -> bool
     requires in_word { count ≤ 64 }
-    ensures zeros { IsTrue result → take count (rest reader.now) ≡ replicate count false }
-    ensures there { IsTrue result → count ≤ length (rest reader.now) }
+    ensures { IsTrue result ↔ ZerosNext count count (rest reader.now) }
 {
     u64::from(count) <= reader.left() && count <= reader.peek().trailing_zeros()
 }

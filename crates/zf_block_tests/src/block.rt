@@ -10,8 +10,8 @@ use std::test::Fail;
 use zf_base::{Extent, Lane, Shape, block_len};
 use zf_bits::{BitReader, BitWriter};
 use zf_block::{
-    Scratch, decode_prec, decode_rate, decode_rev, encode_prec, encode_prec_padded, encode_rate,
-    encode_rate_padded, encode_rev, encode_rev_padded, whole_planes,
+    Dims, Scratch, decode_prec, decode_rate, decode_rev, encode_prec, encode_prec_padded,
+    encode_rate, encode_rate_padded, encode_rev, encode_rev_padded, whole_planes,
 };
 use zf_pad::pad;
 
@@ -89,13 +89,12 @@ struct Block<T: Lane> {
     values: Vec<T>,
     scratch: Scratch<T>,
     ghost whole: { vec_len values ≡ 4 ^ part },
-    ghost room: { scratch ≡ part },
 }
 
 /// A block of zeros, of which this part exists.
 fn block_of<T: Lane>(alloc: Global, part: Part) -> Result<Block<T>, AllocError> {
     let values = vec![in alloc; T::zero(); block_len(part.d)]?;
-    let scratch = Scratch::new(alloc, part.d)?;
+    let scratch = Scratch::new(alloc)?;
     Ok(Block {
         part,
         values,
@@ -112,18 +111,20 @@ fn write<T: Lane>(
     match *code {
         Code::Reversible => {
             let Part { d, e } = &block.part;
-            encode_rev(*d, e, &block.values, &mut block.scratch, out)
+            encode_rev(Dims::new(*d), e, &block.values, &mut block.scratch, out)
         }
         Code::Rate(bits, _) => {
             // Before the block is touched: where there is no memory, it is as it was.
             out.reserve(u64::from(bits))?;
             let Part { d, e } = &block.part;
-            encode_rate(*d, e, bits, &block.values, &mut block.scratch, out);
+            let d = Dims::new(*d);
+            encode_rate(d, e, bits, &block.values, &mut block.scratch, out);
             Ok(())
         }
         Code::Precision(prec) => {
             let Part { d, e } = &block.part;
-            encode_prec(*d, e, prec, &block.values, &mut block.scratch, out)
+            let d = Dims::new(*d);
+            encode_prec(d, e, prec, &block.values, &mut block.scratch, out)
         }
     }
 }
@@ -136,6 +137,7 @@ fn write_padded<T: Lane>(
 ) -> Result<(), AllocError> {
     let Part { d, e } = block.part;
     pad(&e, d, &mut block.values);
+    let d = Dims::new(d);
     match *code {
         Code::Reversible => encode_rev_padded(d, &mut block.values, &mut block.scratch, out),
         Code::Rate(bits, _) => {
@@ -160,7 +162,7 @@ fn read_at_rate<T: Lane>(
     if reader.left() < u64::from(bits) {
         return false;
     }
-    let d = block.part.d;
+    let d = Dims::new(block.part.d);
     let mut again = reader.another();
     decode_rate(d, bits, reader, &mut block.values);
     whole_planes(d, bits, &mut again, &mut block.scratch) == plane && again.left() == 0
@@ -169,12 +171,11 @@ fn read_at_rate<T: Lane>(
 /// Reads the block of a code. The answer is whether the code was there, and no more.
 fn read<T: Lane>(block: &mut Block<T>, code: &Code, bits: &BitWriter) -> bool {
     let mut reader = BitReader::new(bits.words(), bits.len());
+    let d = Dims::new(block.part.d);
     let found = match *code {
-        Code::Reversible => decode_rev(block.part.d, &mut reader, &mut block.values).is_some(),
+        Code::Reversible => decode_rev(d, &mut reader, &mut block.values).is_some(),
         Code::Rate(bits, plane) => read_at_rate(block, bits, plane, &mut reader),
-        Code::Precision(prec) => {
-            decode_prec(block.part.d, prec, &mut reader, &mut block.values).is_some()
-        }
+        Code::Precision(prec) => { decode_prec(d, prec, &mut reader, &mut block.values).is_some() }
     };
     found && reader.left() == 0
 }

@@ -50,7 +50,7 @@ pub fn bound<T: Lane>(
 {
     let index = Verbatim::build(alloc, h, file)?;
     let mut excerpt = Excerpt::new(alloc, longest_code::<T>(h))?;
-    let mut room = Scratch::<T>::new(alloc, h.shape.dims())?;
+    let mut room = Scratch::<T>::new(alloc)?;
     let plane = stream_plane(h, &index, file, &mut excerpt, &mut room);
     let error = error_from(h.shape.dims(), plane);
     Ok(Certified {

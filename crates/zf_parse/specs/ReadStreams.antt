@@ -1,14 +1,17 @@
 -- What is read of a stream: its header, and the codes of its blocks.
-use Rattle.std.specs.Prelude.{ℕ, ◌≡◌, ◌≢◌, ◌-◌, ◌*◌, ◌<◌, ◌≤◌, ◌⊎◌, ℤ, List, length, drop, take, Option, Some, None, Result, Err}
+use Rattle.std.specs.Prelude.{ℕ, ◌≡◌, ◌≢◌, ◌+◌, ◌-◌, ◌*◌, ◌<◌, ◌≤◌, ◌⊎◌, min, ℤ, Bool, List, length, drop, take, Option, Some, None, Result, Err}
 use Rattle.std.specs.Int.{Width}
+use mir.Val.{bits}
 use Rattle.zf_spec.specs.Grid.{blocks, block_of, extent_of}
-use Rattle.zf_spec.specs.Codes.{existing_values}
+use Rattle.zf_spec.specs.Codes.{count_bits, existing_values}
 use Rattle.zf_base.specs.Widths.{width_of}
 use Rattle.zf_bits.specs.Reader.{Reader, rest, Reads}
 use Rattle.zf_header.specs.declared.header.Header.{Header}
 use Rattle.zf_header.specs.declared.header.Mode.{Mode}
+use Rattle.zf_header.specs.declared.header.Mode.TheVariants.{Reversible, Rate, Precision}
 use Rattle.zf_header.specs.HeaderBits.{header_bits}
 use Rattle.zf_header.specs.HeaderFaults.{header_fault}
+use Rattle.zf_block.specs.Decoding.{ZerosNext}
 use Rattle.zf_parse.specs.declared.fault.StreamFault.{StreamFault}
 use Rattle.zf_parse.specs.declared.fault.StreamFault.TheVariants as faults
 use Rattle.zf_parse.specs.Parsing.{header_of, read_code}
@@ -39,6 +42,13 @@ pub record ReadsCode (w : Width) (mode : Mode) (d : ℕ) (old new : Reader) (blo
 -- the bits end before the code does
 pub record LacksCode (w : Width) (mode : Mode) (d : ℕ) (old : Reader) : Type 0 where
   pub code : (es : List ℕ) → length es ≡ d → read_code w mode es (rest old) ≡ None
+
+-- bits begin with the code of a block of zeros: a count of one plane and its bit, or a bit of each plane that is
+-- coded. What fills the code of a rate is anything
+abbrev pub ZeroCodeNext : Width → Mode → List Bool → Type 0
+ZeroCodeNext w Reversible s = ZerosNext (count_bits w + 1) (count_bits w + 1) s
+ZeroCodeNext w (Rate budget) s = ZerosNext budget (min budget (bits w)) s
+ZeroCodeNext w (Precision p) s = ZerosNext (min p (bits w)) (min p (bits w)) s
 
 -- the code of block b was read, and the values are those from before but for its block
 pub record ReadsBlock (h : Header) (b : ℕ) (old new : Reader) (before now : List ℤ) : Type 0 where

@@ -1,13 +1,14 @@
 //! The code of a block as its header says, and the fill behind all codes.
 
-ghost use Rattle.std.specs.Prelude.{◌≡◌, ◌≤◌, ◌^◌, pos, map, length, replicate, IsTrue, OnSome, IfNone};
+ghost use Rattle.std.specs.Prelude.{◌≡◌, ◌≤◌, ◌^◌, ◌↔◌, pos, map, length, replicate, IsTrue, OnSome, IfNone};
 ghost use Rattle.zf_bits.specs.Reader.{rest};
 ghost use Rattle.zf_parse.specs.Parsing.{fill_answer};
-ghost use Rattle.zf_parse.specs.ReadStreams.{ReadsCode, LacksCode};
+ghost use Rattle.zf_parse.specs.ReadStreams.{ReadsCode, LacksCode, ZeroCodeNext};
 
 use crate::StreamFault;
 use zf_base::Lane;
 use zf_bits::BitReader;
+use zf_block::Dims;
 use zf_header::{Header, Mode};
 
 /// Reads the code of a block of an array with this header, or answers `None` where the bits end too early.
@@ -21,7 +22,7 @@ pub fn read_code<T: Lane>(h: &Header, reader: &mut BitReader<'_>, block: &mut [T
         (map T.value block.new)) }
     ensures none { IfNone result (LacksCode T.width h.now.mode (length h.now.shape) reader.old) }
 {
-    let d = h.shape.dims();
+    let d = Dims::new(h.shape.dims());
     match h.mode {
         Mode::Reversible => zf_block::decode_rev(d, reader, block),
         Mode::Rate(bits) => read_rate(d, bits, reader, block),
@@ -29,15 +30,15 @@ pub fn read_code<T: Lane>(h: &Header, reader: &mut BitReader<'_>, block: &mut [T
     }
 }
 
-/// Passes the code of a block of zeros of an array with this header, where it is seen that one is next, and
-/// says so.
+/// Passes the code of a block of zeros of an array with this header, where one is next, and says so.
 #[inline(always)]
 pub fn pass_zero_code<T: Lane>(h: &Header, reader: &mut BitReader<'_>) -> bool
+    ensures seen { IsTrue result ↔ ZeroCodeNext T.width h.now.mode (rest reader.old) }
     ensures unread { ¬ IsTrue result → reader.new ≡ reader.old }
     ensures reads { IsTrue result → ReadsCode T.width h.now.mode (length h.now.shape) reader.old reader.new
         (replicate (4 ^ length h.now.shape) (pos 0)) }
 {
-    let d = h.shape.dims();
+    let d = Dims::new(h.shape.dims());
     match h.mode {
         Mode::Reversible => zf_block::pass_rev_zeros::<T>(d, reader),
         Mode::Rate(bits) => zf_block::pass_rate_zeros::<T>(d, bits, reader),
@@ -47,13 +48,11 @@ pub fn pass_zero_code<T: Lane>(h: &Header, reader: &mut BitReader<'_>) -> bool
 
 /// Reads a code of `bits` bits, or answers `None` where fewer are left.
 #[inline(always)]
-fn read_rate<T: Lane>(d: u8, bits: u32, reader: &mut BitReader<'_>, block: &mut [T]) -> Option<()>
-    requires some { 1 ≤ d }
-    requires four_at_most { d ≤ 4 }
-    requires whole { length block.old ≡ 4 ^ d }
-    ensures some { OnSome result (ReadsCode T.width (Mode.Rate bits) d reader.old reader.new
+fn read_rate<T: Lane>(d: Dims, bits: u32, reader: &mut BitReader<'_>, block: &mut [T]) -> Option<()>
+    requires whole { length block.old ≡ 4 ^ d.count }
+    ensures some { OnSome result (ReadsCode T.width (Mode.Rate bits) d.count reader.old reader.new
         (map T.value block.new)) }
-    ensures none { IfNone result (LacksCode T.width (Mode.Rate bits) d reader.old) }
+    ensures none { IfNone result (LacksCode T.width (Mode.Rate bits) d.count reader.old) }
 {
     if reader.left() < u64::from(bits) {
         return None;

@@ -40,7 +40,7 @@ blank_words count all = ap (drop all) (flat_map-field-replicate 64 count) ∙ dr
 pub blank_behind : (bits s : List Bool) (all n : ℕ) → all ≤ length s → bits ≡ take all s ++ replicate n false → drop all bits ≡ replicate n false
 blank_behind bits s all n long is = ap (drop all) is ∙ drop_at (take all s) (replicate n false) all (length-take-le all s long)
 
-module _ (w : Width) (d : ℕ) (h : Header) (words : List ℕ) (room : ℕ) (code head : Writer) (kept : IsKept w d h words room code head) where
+module _ (w : Width) (d : ℕ) (h : Header) (words : List ℕ) (code head : Writer) (kept : IsKept w d h words code head) where
   pub bits_within : blocks h.shape * block_bits h.mode ≤ length (word_bits words)
   bits_within = omega (arith, kept.size, length-word_bits words)
 
@@ -88,5 +88,5 @@ module _ (w : Width) (d : ℕ) (h : Header) (words : List ℕ) (room : ℕ) (cod
       pub codes_put : (λ k. code_at (with_codes h (word_bits new)) k) ≡ with_at (λ k. code_at (with_codes h (word_bits words)) k) b c
       codes_put = codes_in-put (block_bits h.mode) (blocks h.shape) b (word_bits words) (word_bits new) c bits_within below long put
 
-      pub kept_put : (room' : ℕ) (code' : Writer) → room' ≡ d → length code'.bits ≡ block_bits h.mode → IsKept w d h new room' code' head
-      kept_put room' code' is_room is_code = search (rules, bits_within, ends_within, behind_change)
+      pub kept_put : (code' : Writer) → length code'.bits ≡ block_bits h.mode → IsKept w d h new code' head
+      kept_put code' is_code = search (rules, bits_within, ends_within, behind_change)

@@ -23,7 +23,7 @@ with_codes h s = record { header = h; codes = codes_in (block_bits h.mode) (bloc
 abbrev pub all_bits : Header → ℕ
 all_bits h = blocks h.shape * block_bits h.mode
 
-pub record IsKept (w : Width) (d : ℕ) (h : Header) (words : List ℕ) (room : ℕ) (code head : Writer) : Type 0
+pub record IsKept (w : Width) (d : ℕ) (h : Header) (words : List ℕ) (code head : Writer) : Type 0
   where
     pub same_type : w ≡ width_of h.ty
     pub dims : length h.shape ≡ d
@@ -31,7 +31,6 @@ pub record IsKept (w : Width) (d : ℕ) (h : Header) (words : List ℕ) (room : 
     pub rate : IsRate h.mode
     pub size : length words ≡ div_ceil (all_bits h) 64
     pub blank : drop (all_bits h) (word_bits words) ≡ replicate (64 * length words - all_bits h) false
-    pub room_is : room ≡ d
     pub code_fits : block_bits h.mode ≤ length code.bits + code.room
     pub head_is : head.bits ≡ header_bits h
 

@@ -21,7 +21,7 @@ use std::alloc::{AllocError, Global};
 use std::marker::Model;
 use zf_base::{Backing, Lane, Reading, Shape, block_len};
 use zf_bits::{BitReader, BitWriter};
-use zf_block::Scratch;
+use zf_block::{Dims, Scratch};
 use zf_header::{Header, LONG_HEADER_BITS, Mode};
 
 /// The codes of the blocks of an array of `D` dimensions, each of as many bits, seen as the header of their
@@ -57,7 +57,7 @@ impl<T: Lane, const D: usize> Model for Store<T, D> {
       codes = codes_in (block_bits s.header.mode) (blocks s.header.shape) (word_bits s.words.items);
     } };
 
-    ghost invariant = { λ s. IsKept T.width D s.header s.words.items s.room s.code s.head };
+    ghost invariant = { λ s. IsKept T.width D s.header s.words.items s.code s.head };
 }
 
 impl<T: Lane, const D: usize> Store<T, D> {
@@ -119,7 +119,7 @@ impl<T: Lane, const D: usize> Store<T, D> {
             ≡ replicate (64 * vec_len words - all_bits header) false }
         ensures { IfOk result (λ s. s ≡ with_codes header (word_bits words.items)) }
     {
-        let room = Scratch::new(alloc, header.shape.dims())?;
+        let room = Scratch::new(alloc)?;
         let mut code = BitWriter::new(alloc);
         code.reserve(u64::from(rate(&header)))?;
         let mut head = BitWriter::new(alloc);
@@ -194,7 +194,7 @@ impl<T: Lane, const D: usize> Reading<T> for Store<T, D> {
         let bits = rate(&self.header);
         let mut reader = BitReader::new(&self.words, code_bits(&self.header));
         reader.seek(code_place(&self.header, b));
-        zf_block::decode_rate(D as u8, bits, &mut reader, line);
+        zf_block::decode_rate(Dims::new(D as u8), bits, &mut reader, line);
     }
 }
 
@@ -203,7 +203,8 @@ impl<T: Lane, const D: usize> Backing<T> for Store<T, D> {
         let bits = rate(&self.header);
         let e = self.header.shape.extent(b);
         self.code.clear();
-        zf_block::encode_rate(D as u8, &e, bits, line, &mut self.room, &mut self.code);
+        let d = Dims::new(D as u8);
+        zf_block::encode_rate(d, &e, bits, line, &mut self.room, &mut self.code);
         put_run(
             &mut self.words,
             code_place(&self.header, b),

@@ -4,8 +4,8 @@ use Rattle.zf_bits.proofs.Appending.{Appends-same}
 use Rattle.zf_base.proofs.Extents.{length-used_axes}
 use Rattle.zf_block.proofs.rate.encode_rate.Goals as goal
 
-pub returns-clause-code : goal.returns-clause-code
+pub returns : goal.returns
 unfolding rate
-returns-clause-code g c =
-    let d = length-used_axes c.args.d c.args.e.now.size c.requires.dimension.1 in
-    Appends-same c.encode_part.ensures.code (rw d refl)
+returns g c =
+    let d = length-used_axes c.args.d.count c.args.e.now.size c.args.d.range.1 in
+    record { code = Appends-same c.encode_part.ensures (rw d refl) }

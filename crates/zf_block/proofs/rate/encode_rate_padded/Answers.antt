@@ -5,7 +5,7 @@ use Rattle.zf_bits.proofs.Appending.{Appends-same}
 use Rattle.zf_block.proofs.Sizes.{pad-padded}
 use Rattle.zf_block.proofs.rate.encode_rate_padded.Goals as goal
 
-pub returns-clause-code : goal.returns-clause-code
+pub returns : goal.returns
 unfolding rate
-returns-clause-code g c =
-    Appends-same c.encode.ensures.code (rw (length-fours c.args.d, pad-padded c.args.d (map g.T.Lane.value c.args.block.now) (length-map c.args.block.now g.T.Lane.value ∙ c.requires.block)) refl)
+returns g c =
+    record { code = Appends-same c.encode.ensures (rw (length-fours c.args.d.count, pad-padded c.args.d.count (map g.T.Lane.value c.args.block.now) (length-map c.args.block.now g.T.Lane.value ∙ c.requires.block)) refl) }

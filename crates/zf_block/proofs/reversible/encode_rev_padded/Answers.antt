@@ -19,4 +19,4 @@ unfolding rev
 returns-clause-ok g c =
     let long = length-map c.args.block.now g.T.Lane.value ∙ c.requires.block in
     after_reserve c.in_ok-reserve.ensures.bits c.in_ok-reserve.ensures.no_less
-    (Appends-same c.encode.ensures.code (rw (length-fours c.args.d, pad-padded c.args.d (map g.T.Lane.value c.args.block.now) long) refl))
+    (Appends-same c.encode.ensures (rw (length-fours c.args.d.count, pad-padded c.args.d.count (map g.T.Lane.value c.args.block.now) long) refl))

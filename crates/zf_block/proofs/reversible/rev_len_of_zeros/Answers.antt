@@ -7,5 +7,5 @@ use Rattle.zf_block.proofs.reversible.rev_len_of_zeros.Goals as goal
 pub returns-clause-code : goal.returns-clause-code
 unfolding rev
 returns-clause-code g c =
-    let d = c.args.d in
+    let d = c.args.d.count in
     rw (length-fours d, pad-padded d (replicate (4 ^ d) (pos 0)) (length-replicate (4 ^ d) (pos 0))) c.len_of_zeros.ensures.code

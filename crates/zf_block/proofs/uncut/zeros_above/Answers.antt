@@ -3,4 +3,4 @@ use Rattle.zf_block.proofs.Zeros.{alike_fewer}
 use Rattle.zf_block.proofs.uncut.zeros_above.Goals as goal
 
 pub returns-clause-zeros : goal.returns-clause-zeros
-returns-clause-zeros c = search (rules, alike_fewer)
+returns-clause-zeros g c = rw (← c.WIDTH.ensures) (search (rules, alike_fewer))

@@ -6,7 +6,7 @@ use Rattle.zf_block.{specs.WholePlanes.{whole_from, rate_whole_from}, proofs.Siz
 use Rattle.zf_block.proofs.whole.whole_planes.Goals as goal
 
 pub whole_planes_in-requires-clause-size : goal.whole_planes_in-requires-clause-size
-whole_planes_in-requires-clause-size g c = (block_sizes c.args.d c.block_len-size.result c.requires.dimension.0 c.requires.dimension.1 c.block_len-size.ensures.value, omega arith)
+whole_planes_in-requires-clause-size g c = (block_sizes c.args.d.count c.block_len-size.result c.args.d.range.0 c.args.d.range.1 c.block_len-size.ensures.value, omega arith)
 
 -- a code is as long as the budget says
 of_code : (w : Width) (n d size budget : ℕ) (s : List Bool) → n ≡ bits w → size ≡ 4 ^ d → budget ≤ length s
@@ -21,4 +21,4 @@ pub returns-else-size-le64-clause-plane : goal.returns-else-size-le64-clause-pla
 returns-else-size-le64-clause-plane g c = search (rules, of_code)
 
 pub whole_planes_in-requires-else-size-le64-clause-size : goal.whole_planes_in-requires-else-size-le64-clause-size
-whole_planes_in-requires-else-size-le64-clause-size g c = (block_sizes c.args.d c.block_len-size.result c.requires.dimension.0 c.requires.dimension.1 c.block_len-size.ensures.value, omega arith)
+whole_planes_in-requires-else-size-le64-clause-size g c = (block_sizes c.args.d.count c.block_len-size.result c.args.d.range.0 c.args.d.range.1 c.block_len-size.ensures.value, omega arith)

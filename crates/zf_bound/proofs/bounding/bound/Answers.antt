@@ -22,6 +22,6 @@ returns-clause-bound g c holds =
     bound_holds c.args.file.now c.args.h.now c.in_ok-index.index c.in_ok-index.ensures.ok c.requires.rate
     c.args.m c.stream_plane-plane.result c.error_from-error.result g.T.Lane.WIDTH (is_header c.args.file.now c.args.h.now c.requires.header).shape
     (c.stream_plane-plane.ensures.value ∙ ap (λ v. plane_of v (length c.args.h.now.shape) (codes_in c.in_ok-index.index (to_bits c.args.file.now))) c.requires.same_type)
-    (c.error_from-error.ensures.value ∙ ap (λ n. error_of n c.stream_plane-plane.result) c.dims-2.ensures.value)
+    (c.error_from-error.ensures.value ∙ ap (λ n. error_of n c.stream_plane-plane.result) c.dims.ensures.value)
     (g.met.T.Lane.bits_of_width ∙ ap bits c.requires.same_type)
     (subst (λ n. IsSmallEnough n c.args.m c.error_from-error.result) c.WIDTH.ensures (c.is_small_enough.ensures.0 holds))

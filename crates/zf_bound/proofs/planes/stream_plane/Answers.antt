@@ -17,6 +17,5 @@ loop-b-preserved g c =
     record {
       so_far = greater ∙ ap (max c.loop-b.plane) code ∙ plane_of-more w d (code_in c.args.index.now bits) c.loop-b.b c.loop-b.plane c.loop-b.invariant.so_far;
       most = omega (arith, greater, c.loop-b.invariant.most, c.code_plane-own.ensures.bound);
-      room = c.code_plane-own.ensures.scratch ∙ c.dims.ensures.value;
       excerpt = c.code_plane-own.ensures.room ∙ c.loop-b.invariant.excerpt;
     }

@@ -8,6 +8,5 @@ abbrev pub invariant-loop-b : goal.invariant-loop-b
 invariant-loop-b g l = record {
   so_far : l.plane ≡ plane_of g.T.Lane.width (length l.h.shape) (map (code_in l.index (to_bits l.file)) (upto l.b));
   most : l.plane ≤ g.T.Lane.WIDTH;
-  room : l.room ≡ length l.h.shape;
   excerpt : l.excerpt.room ≡ l.fn.excerpt.room;
 }

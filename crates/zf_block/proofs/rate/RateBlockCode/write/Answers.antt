@@ -11,6 +11,6 @@ returns g c =
     let all = map g.P.Plane.words c.args.planes.now in
     let planes = planes_held c.args.size all in
     let bits = code (take c.WIDTH-width.result planes) in
-    let whole : take c.WIDTH-width.result planes ≡ planes = take_all c.WIDTH-width.result planes (omega (arith, length-planes_held c.args.size all, length-map c.args.planes.now g.P.Plane.words, c.requires.planes, c.WIDTH-width.ensures)) in
+    let whole : take c.WIDTH-width.result planes ≡ planes = take_all c.WIDTH-width.result planes (omega (arith, length-planes_held c.args.size all, length-map c.args.planes.now g.P.Plane.words, c.requires.room.2, c.WIDTH-width.ensures)) in
     let left : c.from-bits.result - c.write_planes_below-written.result ≡ c.from-bits.result - length bits = omega (arith, c.write_planes_below-written.ensures.count) in
     Appends-same (Appends-append c.write_planes_below-written.ensures.bits c.write_zeros_reserved.ensures.bits) (search (rules, first_bits-take))

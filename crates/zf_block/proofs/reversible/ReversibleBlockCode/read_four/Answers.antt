@@ -8,7 +8,7 @@ pub returns-in-Some : goal.returns-in-Some
 returns-in-Some g c =
     let count = c.in_ok-prec.ensures in
     let held = held-behind_count g.T.Lane.width 4 c.in_ok-prec.prec c.args.reader.now c.read_count.new.reader count.value count.reads in
-    rw (← c.WIDTH.ensures) (tt, held c.read_uncut_four.new.reader _ c.in-Some.ensures.1)
+    (tt, held c.read_uncut_four.new.reader _ c.in-Some.ensures.1)
 
 pub returns-in-None : goal.returns-in-None
 returns-in-None g c =

@@ -4,4 +4,4 @@ use Rattle.zf_block.proofs.reversible.ReversibleBlockCode.write_four.Goals as go
 
 pub returns : goal.returns
 unfolding rev_of_planes
-returns g c = rw (← c.write_count-prec.ensures.value, ← c.WIDTH-width.ensures) (Appends-append c.write_count-prec.ensures.bits c.write_uncut_four.ensures)
+returns g c = rw (← c.write_count-prec.ensures.value) (Appends-append c.write_count-prec.ensures.bits c.write_uncut_four.ensures)
