@@ -5,8 +5,9 @@
 
 Output is handed on in pieces of 64 KiB, and what is read to its end comes in such pieces, so that a
 thousand replies take few writes. Files that are compared are read in pieces of 4 KiB. `info` takes the 19
-bytes of a header and no more, however many come, and a command that reads nothing takes nothing. Counts
-need strace; what is taken does not.
+bytes of a header and no more, however many come, and a command that reads nothing takes nothing. Of the reads
+of an input one at most finds it at its end, which a terminal would have to give again. Counts need strace;
+what is taken does not.
 """
 
 import os
@@ -42,22 +43,26 @@ class Counts:
         counts = {}
         for line in self.log.read_text(errors="replace").splitlines():
             if found := CALL.match(line):
-                key = (found[1].rstrip("v").removesuffix("64"), int(found[2]))
-                counts[key] = counts.get(key, 0) + 1
+                call = found[1].rstrip("v").removesuffix("64")
+                for it in (call, "end") if call == "read" and found[3] == "0" else (call,):
+                    key = (it, int(found[2]))
+                    counts[key] = counts.get(key, 0) + 1
         return ended, counts
 
-    def few(self, words, data=b"", files=None):
+    def few(self, words, data=b"", files=None, codes=(0, 1)):
         """Whether a command makes no more reads and writes than its pieces ask for."""
         files = files or {}
         ended, counts = self.calls(words, data, files)
         what = f"{words}, {len(data)} bytes of input, {len(ended.out)} of output"
         most_read, most_written = pieces(len(data)) + ROOM, pieces(len(ended.out)) + 1
         reads, writes = counts.get(("read", 0), 0), counts.get(("write", 1), 0)
-        self.check.expect(ended.code in (0, 1), f"{what}: it is done", ended.code, ended.line)
+        self.check.expect(ended.code in codes, f"{what}: it is done", ended.code, ended.line)
         self.check.expect(reads <= most_read, f"{what}: {reads} reads of the input, at most {most_read}")
+        ends = counts.get(("end", 0), 0)
+        self.check.expect(ends <= 1, f"{what}: {ends} reads find the input at its end, at most one")
         self.check.expect(writes <= most_written, f"{what}: {writes} writes, at most {most_written}")
         # A file is read and written in few pieces, and compared in small ones.
-        others = sum(count for (_, file), count in counts.items() if file > 2)
+        others = sum(count for (call, file), count in counts.items() if file > 2 and call != "end")
         most = 2 * ROOM + 2 * sum(len(file) // COMPARED for file in files.values())
         self.check.expect(others <= most, f"{what}: {others} reads and writes of files, at most {most}")
 
@@ -75,6 +80,11 @@ class Counts:
         self.few("run a", b"set 1 7\nget 1\n" * 8 * REPLIES, files)
         self.few("bound a 99", files=files)
         self.few(f"new b int32 {VALUES} 128", files=files)
+        # Inputs that end before all of them was asked for.
+        stream = self.check.run("compress int32 90 reversible".split(), NUMBERS[:360]).out
+        for data in (b"", stream[:15], stream[:-1], stream + b"a"):
+            for words in ("info", "restore", "restore uint16", "compress int32 90 rate 64", "run a"):
+                self.few(words, data, {}, (answer(words.split(), data, {}).code,))
 
 
 def pieces(count):

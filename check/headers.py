@@ -1,18 +1,19 @@
 #!/usr/bin/env python3
 """A header and little behind it take no memory for values that the stream cannot hold, nor does a longer stream of a
 large shape, and lines of a cache none beyond the number of blocks. A long file that is no stream is refused by its
-first bytes.
+first bytes, of which as many are looked at as the longest header has.
 
     python3 check/headers.py [PROGRAM] [--seed N] [--quick]
 
-Needs the program `time`.
+Needs the program `time`, for the memory.
 """
 
 from definition.codes import PRECISION, RATE
+from definition.commands import answer
 from definition.header import Header, header_bits
 from definition.planes import bytes_of_bits
 from measure import Measure
-from shared import Check, error_line
+from shared import Check, error_line, put_files
 
 # kilobytes
 ROOM = 16 * 1024
@@ -120,8 +121,29 @@ def files_of_no_stream(check):
         check.expect(fits and ended.code == 4 and ended.line == error_line("header: magic"), what, ended)
 
 
+# Arrays whose headers have 12 bytes, 19, and 12; of each the command that makes its file.
+FRONTS = ("new a int32 9x5 2048", "new a int64 3x2x5 2049", "compress int64 9x5 reversible")
+ENDS = (0, 3, 11, 12, 15, 18, 19, 20, 24)
+
+
+def fronts(check):
+    """The look at the first bytes of a file sees all of its header: those of a whole file, and of one that is cut."""
+    for words in FRONTS:
+        folder = check.folder()
+        made = check.run(words.split(), bytes(range(180)) * 2, folder)
+        whole = made.out or (folder / "a").read_bytes()
+        for data in [whole, *(whole[:end] for end in ENDS)]:
+            for command in ("look a", "run a", "bound a 9"):
+                put_files(folder, {"a": data})
+                ended = check.run(command.split(), b"stats\n", folder)
+                told = answer(command.split(), b"stats\n", {"a": data})
+                same = (ended.code, ended.out) == (told.code, told.text)
+                check.expect(same, f"{command} of {words}, of which there are {len(data)} bytes", ended, told)
+
+
 def main():
     check = Check(__doc__)
+    fronts(check)
     peaks(check)
     longer_peaks(check)
     lines_beyond(check)

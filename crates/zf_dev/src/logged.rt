@@ -47,6 +47,8 @@ impl<S: Source> Source for LoggedSource<S> {
 
     ghost ended = { λ s. source_ended s };
 
+    ghost is_exact = { λ s. S.is_exact (source_below s) };
+
     ghost faults = { λ s. S.faults (source_below s) };
 
     ghost ends_seen = { λ s. S.ends_seen (source_below s) };

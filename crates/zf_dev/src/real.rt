@@ -65,6 +65,9 @@ impl<R: Read> Source for RealSource<R> {
 
     ghost faults = { λ s. source_faults s };
 
+    // Where it was not told that it will be read to its end.
+    ghost is_exact = { λ s. ¬ IsTrue (source_ahead s) };
+
     ghost ends_seen = { λ s. source_ends s };
 
     ghost never_fails = { λ _. ⊥ };

@@ -22,6 +22,10 @@ pub trait Source {
     /// nothing.
     ghost ended: { Self → Bool } = { λ _. true };
 
+    /// It takes no more of what it reads than it gives: what it did not give is left there. By default it
+    /// says nothing.
+    ghost is_exact: { Self → Type 0 } = { λ _. Unit {0} };
+
     /// How many faults there were. It stands still at the last value of a `u64`.
     ghost faults: { Self → ℕ };
 
@@ -48,13 +52,14 @@ pub trait Source {
         ensures ungiven { OnErr result (Gives (gave self.old) (gave self.new) []) }
         ensures seen { IfOk result (λ n. SeesEnd (n ≡ 0) (ends_seen self.old) (ends_seen self.new)) }
         ensures unseen { OnErr result (ends_seen self.new ≤ ends_seen self.old) }
+        ensures still_exact { is_exact self.old → is_exact self.new }
         ensures unchanged { OnOk result (faults self.new ≡ faults self.old) }
         ensures kept { kept self.new ≡ kept self.old }
         ensures cause { HasCause (IsErr result) (faults self.old) (faults self.new) }
         ensures sure { never_fails self.old → IsOk result × never_fails self.new };
 
     /// Says that this source will be read to its end, so it may take more of what it reads from than it is
-    /// asked for.
+    /// asked for: it need not be exact any more.
     fn read_ahead(&mut self)
         ensures contents_stay { contents self.new ≡ contents self.old }
         ensures ungiven { Gives (gave self.old) (gave self.new) [] }

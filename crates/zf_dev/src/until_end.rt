@@ -44,6 +44,8 @@ impl<'a, S: Source, K: Begun> Source for UntilEnd<'a, S, K> {
 
     ghost ended = { λ u. S.ended u.src.now };
 
+    ghost is_exact = { λ u. S.is_exact u.src.now };
+
     ghost faults = { λ u. S.faults u.src.now };
 
     ghost ends_seen = { λ u. S.ends_seen u.src.now };
@@ -80,6 +82,7 @@ fn read_on<S: Source>(src: &mut S, ended: &mut bool, buf: &mut [u8]) -> Result<u
     ensures ungiven { OnErr result (Gives (S.gave src.old) (S.gave src.new) []) }
     ensures seen { IfOk result (λ n. SeesEnd (n ≡ 0) (S.ends_seen src.old) (S.ends_seen src.new)) }
     ensures unseen { OnErr result (S.ends_seen src.new ≤ S.ends_seen src.old) }
+    ensures still_exact { S.is_exact src.old → S.is_exact src.new }
     ensures unchanged { OnOk result (S.faults src.new ≡ S.faults src.old) }
     ensures same_source { S.kept src.new ≡ S.kept src.old }
     ensures cause { HasCause (IsErr result) (S.faults src.old) (S.faults src.new) }

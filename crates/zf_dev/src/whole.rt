@@ -29,6 +29,7 @@ pub fn fill<S: Source>(src: &mut S, buf: &mut [u8]) -> Result<usize, Failed>
     // It reads no more once it saw the end.
     ensures seen { IfOk result (λ n. SeesEnd (n < length buf.old) (S.ends_seen src.old) (S.ends_seen src.new)) }
     ensures unseen { OnErr result (S.ends_seen src.new ≤ S.ends_seen src.old) }
+    ensures still_exact { S.is_exact src.old → S.is_exact src.new }
     ensures source { AsksSource S.Source result src.old src.new }
 {
     let mut filled = 0;

@@ -6,11 +6,13 @@ use std::io::{ErrorKind, Read, Write};
 use std::test::Fail;
 use zf_dev::{RealSink, RealSource, Sink, Source, write_all};
 
-// How many bytes each call of a stream moved, and whether each byte was one more than the one before.
+// How many bytes each call of a stream moved, how often it was flushed, and whether each byte was one more
+// than the one before.
 #[derive(Drop)]
 struct Log {
     sizes: [usize; 4],
     calls: usize,
+    flushes: usize,
     next: u8,
     in_order: bool,
 }
@@ -20,6 +22,7 @@ impl Log {
         Log {
             sizes: [0; 4],
             calls: 0,
+            flushes: 0,
             next: 0,
             in_order: true,
         }
@@ -58,6 +61,7 @@ impl Write for Taking<'_> {
     }
 
     fn flush(&mut self) -> io::Result<()> {
+        self.log.flushes = self.log.flushes.saturating_add(1);
         Ok(())
     }
 }
@@ -86,9 +90,9 @@ impl Read for Giving<'_> {
 const NEVER: usize = usize::MAX;
 
 // The most bytes that the stream takes a call, and which call of it fails; pieces of so many bytes that are
-// written, and a flush at each 0; how many of these steps fail, and how many bytes each call of the stream
-// moves.
-static WRITES: [(usize, usize, [usize; 4], u64, [usize; 4]); 7] = [
+// written, and a flush at each 0; how many of these steps fail, how many bytes each call of the stream moves,
+// and how often it is flushed: once by each flush that does not fail.
+static WRITES: [(usize, usize, [usize; 4], u64, [usize; 4], usize); 7] = [
     // Small pieces are held, up to 65,536 bytes.
     (
         NEVER,
@@ -96,8 +100,9 @@ static WRITES: [(usize, usize, [usize; 4], u64, [usize; 4]); 7] = [
         [30_000, 30_000, 30_000, 0],
         0,
         [65_536, 24_464, 0, 0],
+        1,
     ),
-    (NEVER, NEVER, [1, 2, 3, 4], 0, [0, 0, 0, 0]),
+    (NEVER, NEVER, [1, 2, 3, 4], 0, [0, 0, 0, 0], 0),
     // A large one is handed on as it is, behind what was held.
     (
         NEVER,
@@ -105,13 +110,21 @@ static WRITES: [(usize, usize, [usize; 4], u64, [usize; 4]); 7] = [
         [100, 65_536, 100_000, 0],
         0,
         [100, 65_536, 100_000, 0],
+        1,
     ),
-    (40_000, NEVER, [65_535, 1, 0, 0], 0, [40_000, 25_536, 0, 0]),
+    (
+        40_000,
+        NEVER,
+        [65_535, 1, 0, 0],
+        0,
+        [40_000, 25_536, 0, 0],
+        2,
+    ),
     // What was not handed on is held still.
-    (NEVER, 0, [5, 0, 3, 0], 1, [0, 8, 0, 0]),
-    (40_000, 1, [65_535, 0, 1, 0], 1, [40_000, 0, 25_536, 0]),
+    (NEVER, 0, [5, 0, 3, 0], 1, [0, 8, 0, 0], 1),
+    (40_000, 1, [65_535, 0, 1, 0], 1, [40_000, 0, 25_536, 0], 1),
     // There is no room for the last byte.
-    (NEVER, 0, [65_535, 2, 0, 0], 1, [0, 65_536, 0, 0]),
+    (NEVER, 0, [65_535, 2, 0, 0], 1, [0, 65_536, 0, 0], 2),
 ];
 
 // Writes pieces of so many of these bytes, and flushes at each 0; says how many steps fail.
@@ -140,7 +153,7 @@ fn a_sink_hands_on_large_pieces(rt: HostRuntime) -> Result<(), Fail> {
         bytes.push((k % 256) as u8)?;
     }
     for row in WRITES.iter() {
-        let (most, fail, steps, failed, sizes) = *row;
+        let (most, fail, steps, failed, sizes, flushes) = *row;
         let mut log = Log::new();
         let mut out = RealSink::new(Taking {
             log: &mut log,
@@ -148,25 +161,42 @@ fn a_sink_hands_on_large_pieces(rt: HostRuntime) -> Result<(), Fail> {
             fail,
         });
         assert!(rt; play(&mut out, &bytes, &steps) == failed && out.faults() == failed);
-        assert!(rt; log.sizes == sizes && log.in_order);
+        assert!(rt; log.sizes == sizes && log.in_order && log.flushes == flushes);
     }
     Ok(())
 }
 
 // Whether the source is told that it will be read to its end; for how many bytes it is asked, how many it
-// gives, and how many each call of the stream moves.
-static READS: [(bool, [usize; 4], [usize; 4], [usize; 4]); 2] = [
+// gives, how many each call of the stream moves, and how many calls these are. At the end, too, the stream is
+// asked once where the source is.
+static READS: [(bool, [usize; 4], [usize; 4], [usize; 4], usize); 4] = [
     (
         false,
         [3, 10, 70_000, 5],
         [3, 10, 65_536, 5],
         [3, 10, 65_536, 5],
+        4,
     ),
     (
         true,
         [3, 10, 70_000, 70_000],
         [3, 10, 65_523, 34_464],
         [65_536, 34_464, 0, 0],
+        2,
+    ),
+    (
+        false,
+        [70_000, 70_000, 5, 5],
+        [65_536, 34_464, 0, 0],
+        [65_536, 34_464, 0, 0],
+        4,
+    ),
+    (
+        true,
+        [70_000, 70_000, 5, 5],
+        [65_536, 34_464, 0, 0],
+        [65_536, 34_464, 0, 0],
+        4,
     ),
 ];
 
@@ -195,7 +225,7 @@ fn gives<S: Source>(
 fn a_source_reads_ahead_where_it_is_told(rt: HostRuntime) -> Result<(), Fail> {
     let mut buf = zeros(rt.alloc(), 70_000)?;
     for row in READS.iter() {
-        let (ahead, asked, given, sizes) = *row;
+        let (ahead, asked, given, sizes, calls) = *row;
         let mut log = Log::new();
         let mut src = RealSource::new(Giving {
             log: &mut log,
@@ -208,7 +238,7 @@ fn a_source_reads_ahead_where_it_is_told(rt: HostRuntime) -> Result<(), Fail> {
         for (count, wanted) in asked.iter().zip(given.iter()) {
             assert!(rt; gives(&mut src, &mut buf, *count, *wanted, &mut seen));
         }
-        assert!(rt; seen.in_order && log.sizes == sizes);
+        assert!(rt; seen.in_order && log.sizes == sizes && log.calls == calls);
     }
     Ok(())
 }

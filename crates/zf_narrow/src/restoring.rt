@@ -4,7 +4,7 @@ ghost use Rattle.std.specs.Prelude.{◌≡◌, true, Err, OnOk};
 ghost use Rattle.zf_dev.specs.Devices.{Reads, Writes};
 ghost use Rattle.zf_dev.specs.Source.{Gives};
 ghost use Rattle.zf_parse.specs.declared.fault.StreamFault.TheVariants.{Read, Write};
-ghost use Rattle.zf_narrow.specs.declared.fault.NarrowFault.TheVariants.{Stream};
+ghost use Rattle.zf_narrow.specs.declared.fault.NarrowFault.TheVariants.{NotNarrow, Stream};
 ghost use Rattle.zf_narrow.specs.Texts.{RestoredNarrow, RestoredNarrowGiven};
 
 use crate::begun::Begun;
@@ -37,6 +37,7 @@ pub fn restore_narrow<S: Source, O: Sink>(
     ensures given { RestoredNarrowGiven n result (Gives (S.gave src.old) (S.gave src.new))
         (O.contents out.old) (O.contents out.new) }
     ensures ended { OnOk result (S.ended src.new ≡ true) }
+    ensures still_exact { result ≡ Err NotNarrow → S.is_exact src.old → S.is_exact src.new }
     ensures source { Reads S.Source (result ≡ Err (Stream Read)) src.old src.new }
     ensures sink { Writes O.Sink (result ≡ Err (Stream Write)) out.old out.new }
 {
@@ -57,6 +58,7 @@ fn restore_begun<S: Source, O: Sink, K: Begun>(
     ensures given { RestoredNarrowGiven n result (Gives (S.gave src.old) (S.gave src.new))
         (O.contents out.old) (O.contents out.new) }
     ensures ended { OnOk result (S.ended src.new ≡ true) }
+    ensures still_exact { result ≡ Err NotNarrow → S.is_exact src.old → S.is_exact src.new }
     ensures source { Reads S.Source (result ≡ Err (Stream Read)) src.old src.new }
     ensures sink { Writes O.Sink (result ≡ Err (Stream Write)) out.old out.new }
 {

@@ -14,14 +14,14 @@ module _ {X : Type 0} {l : Lane X} {e : PartialEq X} where
 
   -- it is kept room for the array
   pub room_kept : {h : Header} {a b : Room X l e} → IsRoomFor h a → Keeps a b → IsRoomFor h b
-  room_kept {h} {a} {b} room keeps = record { scratch = keeps.scratch ∙ room.scratch; fits = omega (arith, room.fits, keeps.most, keeps.room) }
+  room_kept {h} {a} {b} room keeps = record { dims = keeps.dims ∙ room.dims; fits = omega (arith, room.fits, keeps.most, keeps.room) }
 
   pub array_kept : {w : Width} {h : Header} {n m : ℕ} {a b : Room X l e} → IsRoomOf w h n a → Keeps a b → m ≡ n → IsRoomOf w h m b
   array_kept {w} {h} {n} {m} {a} {b} room keeps same = search (rules, room_kept)
 
   -- and is room for some rows of it
   pub room_part : {h : Header} {room : Room X l e} (shape : List ℕ) → length shape ≡ length h.shape → IsRoomFor h room → IsRoomFor (with_shape h shape) room
-  room_part {h} {room} shape same fits = record { scratch = fits.scratch ∙ sym same; fits = omega (arith, fits.fits, longest_part h shape same) }
+  room_part {h} {room} shape same fits = record { dims = fits.dims ∙ sym same; fits = omega (arith, fits.fits, longest_part h shape same) }
 
   -- ---- restoring
 

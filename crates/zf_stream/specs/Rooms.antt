@@ -17,7 +17,7 @@ use Rattle.zf_stream.specs.declared.restore_room.RestoreRoom.{RestoreRoom}
 -- the fill
 pub record IsRoomFor {X : Type 0} {l : Lane X} {e : PartialEq X} (h : Header)
     (room : Room X l e) : Type 0 where
-  pub scratch : room.scratch ≡ length h.shape
+  pub dims : room.dims.count ≡ length h.shape
   pub fits : room.most + longest_code h + 64 ≤ length room.codes.bits + room.codes.room
 
 -- with as many values beside it, it is one for this array of values of such a width
@@ -31,7 +31,7 @@ pub record IsRoomOf {X : Type 0} {l : Lane X} {e : PartialEq X} (w : Width) (h :
 -- it is the same room, and codes have no less of it
 pub record Keeps {X : Type 0} {l : Lane X} {e : PartialEq X} (old new : Room X l e) : Type 0 where
   pub rows : new.rows ≡ old.rows
-  pub scratch : new.scratch ≡ old.scratch
+  pub dims : new.dims.count ≡ old.dims.count
   pub most : new.most ≡ old.most
   pub room : length old.codes.bits + old.codes.room ≤ length new.codes.bits + new.codes.room
 

@@ -15,14 +15,13 @@ ghost use Rattle.zf_stream.specs.Flows.{Flows, Spills};
 ghost use Rattle.zf_stream.specs.Rooms.{IsRoomFor, Keeps};
 ghost use Rattle.zf_parse.specs.Parsing.{longest_code};
 ghost use Rattle.zf_parse.specs.declared.fault.StreamFault.TheVariants.{Write};
-ghost use Rattle.zf_spec.specs.Grid.{IsDimension};
 
 use crate::StreamFault;
 use crate::room::Room;
 use crate::writing::write_whole_words;
 use zf_base::Lane;
 use zf_bits::BitWriter;
-use zf_block::Scratch;
+use zf_block::{Dims, Scratch};
 use zf_dev::Sink;
 use zf_header::{Header, Mode};
 use zf_pad::Layout;
@@ -66,7 +65,7 @@ fn len_of_zeros<T: Lane>(h: &Header) -> u64
         (replicate (4 ^ length h.now.shape) (pos 0)) ≡ replicate result false }
     ensures fits { result ≤ longest_code h.now }
 {
-    let d = h.shape.dims();
+    let d = Dims::new(h.shape.dims());
     match h.mode {
         Mode::Reversible => zf_block::rev_len_of_zeros::<T>(d),
         Mode::Rate(bits) => zf_block::rate_len_of_zeros::<T>(d, bits),
@@ -107,7 +106,7 @@ fn write_code<T: Lane>(
     requires zeros { block_code T.width (coding h.now.mode) (fours (length h.now.shape))
         (replicate (4 ^ length h.now.shape) (pos 0)) ≡ replicate zeros false }
     requires few { zeros ≤ longest_code h.now }
-    requires scratch { room.old.scratch ≡ length h.now.shape }
+    requires dims { room.old.dims.count ≡ length h.now.shape }
     requires fits { longest_code h.now ≤ room.old.codes.room }
     ensures code { Appends room.old.codes room.new.codes (block_code T.width (coding h.now.mode)
         (extent_of h.now.shape b) (block_of h.now.shape (map T.value values.now) b)) }
@@ -117,25 +116,26 @@ fn write_code<T: Lane>(
         room.codes.write_zeros_reserved(zeros);
         return;
     }
-    // Known by this call: there are one to four dimensions.
-    let _dims = h.shape.dims();
     let _part = zf_pad::gather_block(layout, &h.shape, b, values, &mut room.block);
-    encode(h, &mut room.block, &mut room.scratch, &mut room.codes);
+    encode(
+        h,
+        room.dims,
+        &mut room.block,
+        &mut room.scratch,
+        &mut room.codes,
+    );
 }
 
 /// Appends the code of a block, which is padded and becomes anything.
 #[inline(always)]
-fn encode<T: Lane>(h: &Header, block: &mut [T], s: &mut Scratch<T>, codes: &mut BitWriter)
+fn encode<T: Lane>(h: &Header, d: Dims, block: &mut [T], s: &mut Scratch<T>, codes: &mut BitWriter)
     requires same_type { T.width ≡ width_of h.now.ty }
-    requires dimension { IsDimension (length h.now.shape) }
+    requires dims { d.count ≡ length h.now.shape }
     requires whole { length block.old ≡ 4 ^ length h.now.shape }
-    requires scratch { s.old ≡ length h.now.shape }
     requires fits { longest_code h.now ≤ codes.old.room }
-    ensures code { Appends codes.old codes.new (block_code T.width (coding h.now.mode)
+    ensures { Appends codes.old codes.new (block_code T.width (coding h.now.mode)
         (fours (length h.now.shape)) (map T.value block.old)) }
-    ensures scratch { s.new ≡ s.old }
 {
-    let d = h.shape.dims();
     let done = match h.mode {
         Mode::Reversible => zf_block::encode_rev_padded(d, block, s, codes),
         Mode::Rate(bits) => {

@@ -29,6 +29,8 @@ pub fn read_header<S: Source>(src: &mut S) -> Result<(Header, u32), StreamFault>
     ensures lacking { IfErr result (GivesNoHeader (Gives (S.gave src.old) (S.gave src.new))) }
     // It reads no more once it saw the end.
     ensures seen { S.ends_seen src.new ≤ S.ends_seen src.old + 1 }
+    // What is behind these bytes is left to who reads next.
+    ensures still_exact { S.is_exact src.old → S.is_exact src.new }
     ensures source { Reads S.Source (result ≡ Err Read) src.old src.new }
 {
     let mut bytes = [0; FULL_HEADER_BYTES];

@@ -96,6 +96,7 @@ pub(crate) fn read_into<S: Source>(src: &mut S, buf: &mut [u8]) -> Result<usize,
     ensures seen { IfOk result (λ n. SeesEnd (n < length buf.old) (S.ends_seen src.old)
         (S.ends_seen src.new)) }
     ensures unseen { OnErr result (S.ends_seen src.new ≤ S.ends_seen src.old) }
+    ensures still_exact { S.is_exact src.old → S.is_exact src.new }
     ensures source { ReadsOnly S.Source result src.old src.new }
 {
     match fill(src, buf) {

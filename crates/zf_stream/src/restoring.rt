@@ -1,6 +1,6 @@
 //! From a stream to raw values.
 
-ghost use Rattle.std.specs.Prelude.{◌≡◌, true, IfOk, IfErr, OnOk, OnErr, Err};
+ghost use Rattle.std.specs.Prelude.{◌≡◌, true, false, IfOk, IfErr, OnOk, OnErr, Err};
 ghost use Rattle.zf_pad.specs.Slabs.{rows_of};
 ghost use Rattle.zf_base.specs.Widths.{width_of};
 ghost use Rattle.zf_dev.specs.Devices.{Reads, Writes};
@@ -74,6 +74,7 @@ pub fn restore_where<S: Source, O: Sink>(
     ensures given { RestoredWhereGiven wanted result (Gives (S.gave src.old) (S.gave src.new))
         (O.contents out.old) (O.contents out.new) }
     ensures ended { IfOk result (λ is. is ≡ true → S.ended src.new ≡ true) }
+    ensures still_exact { IfOk result (λ is. is ≡ false → S.is_exact src.old → S.is_exact src.new) }
     ensures source { Reads S.Source (result ≡ Err Read) src.old src.new }
     ensures sink { Writes O.Sink (result ≡ Err Write) out.old out.new }
 {

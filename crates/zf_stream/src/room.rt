@@ -11,7 +11,7 @@ use crate::slabs::{most_rows, rows_of, with_rows};
 use std::alloc::{AllocError, Global};
 use zf_base::{Lane, Shape, block_len};
 use zf_bits::BitWriter;
-use zf_block::Scratch;
+use zf_block::{Dims, Scratch};
 use zf_header::{Header, LONG_HEADER_BITS};
 use zf_pad::value_len;
 use zf_parse::longest_code;
@@ -25,6 +25,7 @@ pub(crate) const PIECE: u64 = 1 << 18;
 pub(crate) struct Room<T: Lane> {
     pub(crate) rows: u64,
     /// The values of a block, and what its code is made in.
+    pub(crate) dims: Dims,
     pub(crate) block: Vec<T>,
     pub(crate) scratch: Scratch<T>,
     /// Codes that are not written yet. Where as many as `most` bits are at hand, whole words are written.
@@ -32,7 +33,7 @@ pub(crate) struct Room<T: Lane> {
     pub(crate) most: u64,
     /// Bytes on their way from the source or to the sink.
     pub(crate) piece: Vec<u8>,
-    ghost whole: { vec_len block ≡ 4 ^ scratch },
+    ghost whole: { vec_len block ≡ 4 ^ dims.count },
     ghost some: { 64 ≤ most },
     ghost wide: { 8 ≤ vec_len piece },
 }
@@ -44,7 +45,7 @@ pub(crate) fn room_for<T: Lane>(alloc: Global, h: &Header) -> Result<(Vec<T>, Ro
     requires same_type { T.width ≡ width_of h.now.ty }
     ensures rows { IfOk result (λ found. ArePieces h.now.shape found.1.rows) }
     ensures values { IfOk result (λ found. vec_len found.0 ≡ row_len h.now.shape * found.1.rows) }
-    ensures scratch { IfOk result (λ found. found.1.scratch ≡ length h.now.shape) }
+    ensures dims { IfOk result (λ found. found.1.dims.count ≡ length h.now.shape) }
     ensures header { IfOk result (λ found. found.1.codes.bits ≡ header_bits h.now) }
     ensures fits { IfOk result (λ found. found.1.most + longest_code h.now + 64
         ≤ length found.1.codes.bits + found.1.codes.room) }
@@ -56,13 +57,14 @@ pub(crate) fn room_for<T: Lane>(alloc: Global, h: &Header) -> Result<(Vec<T>, Ro
     let most = 64 + (8 * PIECE).min(slab.blocks() * longest);
     let values = vec![in alloc; T::zero(); slab.values() as usize]?;
     let block = vec![in alloc; T::zero(); block_len(dims)]?;
-    let scratch = Scratch::new(alloc, dims)?;
+    let scratch = Scratch::new(alloc)?;
     let piece = vec![in alloc; 0; piece_len::<T>(&slab)]?;
     let mut codes = BitWriter::new(alloc);
     codes.reserve(most + longest + u64::from(LONG_HEADER_BITS))?;
     zf_header::write(h, &mut codes);
     let room = Room {
         rows,
+        dims: Dims::new(dims),
         block,
         scratch,
         codes,

@@ -1,6 +1,6 @@
 //! How an array is cut into slabs: some rows along its last axis, which are an array of their own.
 
-ghost use Rattle.std.specs.Prelude.{◌≡◌, ◌≤◌, ◌%◌, ◌<◌, length, slice_index_or};
+ghost use Rattle.std.specs.Prelude.{◌≡◌, ◌≢◌, ◌≤◌, ◌%◌, ◌<◌, length, slice_index_or};
 ghost use Rattle.zf_pad.specs.Slabs.{rows_of, with_rows};
 
 use zf_base::Shape;
@@ -15,6 +15,8 @@ pub(crate) fn most_rows(shape: &Shape) -> u64
     ensures whole { result % 4 ≡ 0 }
     ensures some { 4 ≤ result }
     ensures bound { result ≤ 4096 }
+    // More would be held, and of a large shape much more.
+    ensures few { length shape.now ≢ 1 → result ≡ 4 }
 {
     if shape.dims() == 1 { VALUES } else { ROWS }
 }

@@ -150,6 +150,7 @@ fn more_places<T: Lane>(held: usize, places: &mut Vec<T>)
     requires held { held ≤ vec_len places.old }
     requires more { vec_len places.old < held + READY }
     ensures ready { (held + READY ≤ vec_len places.new) ⊎ (vec_capacity places.old ≤ vec_len places.new) }
+    ensures few { vec_len places.new ≤ held + READY }
     ensures held { take held places.new.items ≡ take held places.old.items }
     ensures room { vec_capacity places.old ≤ vec_capacity places.new }
 {

@@ -70,6 +70,7 @@ impl Window {
         ensures place { IfOk result (λ w. w.reader.at ≡ at) }
         ensures room { IfOk result (λ w. most + 64 ≤ 64 * w.room) }
         ensures ended { IfOk result (λ w. w.ended ≡ true → length prefix.now < 24) }
+        ensures told { IfOk result (λ w. length prefix.now < 24 → w.ended ≡ true) }
     {
         let count = most.div_ceil(64) as usize + SPARE;
         let mut words = vec![in alloc; 0; count]?;

@@ -1,5 +1,5 @@
 -- What a command wrote is handed on once it has ended: what stays of what is known of it, and what a fault makes of it.
-use Rattle.std.proofs.Common.{rules, ◌≡◌, ◌≢◌, ℕ, ◌≤◌, true, false, List, [], take, inl, inr, Option, None, Result, Ok, IsOk, IsErr, refl, ap, sym, subst, append-nil, arith}
+use Rattle.std.proofs.Common.{rules, ◌≡◌, ◌≢◌, ℕ, ◌≤◌, true, false, List, [], take, inl, inr, Option, None, Result, Ok, IsOk, IsErr, refl, ap, sym, subst, ◌∙◌, append-nil, arith}
 use Rattle.std.{specs.Prelude.{OnOk}, proofs.lemmas.Bool.{false≢true}}
 use Rattle.zf_dev.{specs.Faults.{IsQuiet, HasCause}, specs.declared.faults.Failed.{Failed}}
 use Rattle.zf_dev.{specs.declared.faults.LoadError.{LoadError}, specs.Shelf.{Files}}
@@ -11,7 +11,7 @@ use Rattle.zf_parse.specs.Parsing.{Said}
 use Rattle.zfpi.{specs.declared.status.Status.{Status}, specs.declared.command.Command.{Command}}
 use Rattle.zfpi.specs.declared.status.Status.TheVariants.{Done, WriteFault, LoadFault, SaveFault}
 use Rattle.zfpi.specs.declared.command.Command.TheVariants.{New, Run, Look, Bound}
-use Rattle.zfpi.{specs.Faults.{load_status}, specs.Opened.{array_in, opened}, specs.Answer.{meaning, OfUsed}}
+use Rattle.zfpi.{specs.Faults.{load_status}, specs.Opened.{array_in, opened}, specs.Answer.{meaning, reads_on, OfUsed}}
 use Rattle.zfpi.{specs.Certified.{certified_status}, specs.World.{Seen, seen, counts}}
 use Rattle.zfpi.{proofs.Ends.{IsPossible}, specs.Sending.{IsDone, EndsSent, HandsOn}}
 use Rattle.zfpi.{specs.Steps.{IsShelfless}, specs.Fetching.{Fetches}, specs.Calls.{Streams, Fulfils}}
@@ -91,6 +91,12 @@ reads_cut c unsaved status m n idle = search rules
 sees_cut : (c : Command) → IsSentAfter c → (status : Status) (m n : ℕ) → ((meaning c).sees_end status ≡ false → n ≤ m) → (meaning c).sees_end WriteFault ≡ false → n ≤ m
 sees_cut c unsaved status m n unseen = search rules
 
+-- and where the source may have been told that it is read to its end, it may have been by each
+told_alike : (c : Command) → IsSentAfter c → (status ended : Status) → reads_on (meaning c) status ≡ reads_on (meaning c) ended
+told_alike (Run name caching) unsaved status ended = absurd unsaved
+told_alike (Look name lines) unsaved status ended = absurd unsaved
+told_alike c unsaved status ended = refl
+
 module _ (c : Command) (status ended : Status) (unsaved : IsSentAfter c) where
   -- what such a command did once what it wrote was handed on
   pub Behaves-sent : (before : Seen) (src mid now : Option (List ℕ)) (shelf : Option Files) {m n : ℕ} {Flushed : Type 0} → Behaves c status before (seen src mid shelf) → HandsOn status ended mid now m n Flushed → Behaves c ended before (seen src now shelf)
@@ -143,6 +149,7 @@ module _ (c : Command) (status ended : Status) (unsaved : IsSentAfter c) where
         behaves = behaves (F.files shelf);
         causes = HasCauses-sent _ _ _ _ _ s.causes sends;
         stops = StopsAtEnd-sent _ _ s.stops sends;
+        exact = λ told. s.exact (told_alike c unsaved status ended ∙ told);
         steps = Steps-none (Fetches F.fronts F.loads) F.saves F.faults c _ _ _ ended shelf unloaded unchanged shelfless (told_sent _ _ _ _ s.told sends);
         sure_shelf = λ sure. (shelfless.no_load, sure);
         sure_saves = λ sure. (shelfless.no_save, sure);

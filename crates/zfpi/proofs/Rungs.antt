@@ -24,9 +24,9 @@ use Rattle.zfpi.{specs.Sending.{HandsOn}, specs.Statuses.{is_work_done}, specs.S
 use Rattle.zfpi.{specs.Rungs.{WorksOn, Answers, Closes}, proofs.Stepping.{SavesOnce-none, SavesOnce-take, SavesOnce-by}}
 use Rattle.zfpi.proofs.Opening.{array_in-header, stream_in-header, array_in-no_rate}
 use Rattle.zfpi.proofs.Causes.{HasCauses-refused, HasCauses-untaken, HasCauses-wrote, reads_take}
-use Rattle.zfpi.proofs.Stopping.{StopsAtEnd-same, StopsAtEnd-unseen}
+use Rattle.zfpi.proofs.Stopping.{StopsAtEnd-same, StopsAtEnd-unseen, StaysExact-told}
 use Rattle.zfpi.proofs.Loading.{ComesFirst, world_with, found_with, opened-held, Behaves-starved, Behaves-refused}
-use Rattle.zfpi.proofs.Scripting.{text_is, status_is as stated_so, by_lines, by_end, IsScripted-on, loads-on, Behaves-untaken, Behaves-closed, Behaves-cut_script}
+use Rattle.zfpi.proofs.Scripting.{text_is, status_is as stated_so, by_lines, by_end, IsScripted-on, loads-on, to_end-on, Behaves-untaken, Behaves-closed, Behaves-cut_script}
 use Rattle.zfpi.proofs.HandedOn.{Appends-stays, Behaves-stays, cut_sent, IsSent-later, IsSent-cut}
 
 -- ---- files that are refused
@@ -84,6 +84,7 @@ module _ {A B C : Type 0} {S : Source A} {O : Sink B} {F : Shelf C} (access : Ac
         ];
         causes = HasCauses-refused c status (S.faults src) (O.faults out) r.no_read r.no_write;
         stops = StopsAtEnd-same ((meaning c).reads status) ((meaning c).sees_end status) (S.ends_seen src);
+        exact = λ told exact. exact;
         once = λ size. SavesOnce-none F.saves F.faults c (Ok file) _ _ _ status shelf r.undone;
         no_load = r.no_load;
         sent = λ flushed why. flushed;
@@ -98,6 +99,7 @@ module _ {A B C : Type 0} {S : Source A} {O : Sink B} {F : Shelf C} (access : Ac
     behaves = search rules;
     causes = search rules;
     stops = search rules;
+    exact = StaysExact-told ((meaning (command_on access name)).to_end) ((meaning (command_on access name)).reads status) (to_end-on access name) a.read;
     once = λ size.
         let c = command_on access name in
         let given : Gave S c src src_now script = record { given = gave; ended = λ to_end. ended; taken = λ loads. takes } in
@@ -119,6 +121,7 @@ module _ {A B C : Type 0} {S : Source A} {O : Sink B} {F : Shelf C} (access : Ac
         behaves = λ known holds kept. Behaves-untaken c name (reading_of access) (answers_of access) (file_of access) is known (F.files shelf) file stands.said holds stands.opened kept e (S.contents src) (S.contents src_now) (O.contents out) long took;
         causes = HasCauses-untaken c e (S.faults src) (S.faults src_now) (O.faults out) (is.reads_script_by (take_status e) ∙ reads_take e) cause sure;
         stops = StopsAtEnd-unseen ((meaning c).reads (take_status e)) ((meaning c).sees_end (take_status e)) (S.ends_seen src) (S.ends_seen src_now) (is.reads_script_by (take_status e) ∙ reads_take e) seen;
+        exact = StaysExact-told ((meaning c).to_end) ((meaning c).reads (take_status e)) (to_end-on access name) (is.reads_script_by (take_status e) ∙ reads_take e);
         once = λ size. SavesOnce-take F.saves F.faults c (Ok file) _ _ _ e shelf;
         no_load = no_load_taken e;
         sent = λ flushed why. flushed;

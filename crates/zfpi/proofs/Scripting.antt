@@ -57,6 +57,9 @@ IsScripted-on _ name = search rules
 pub loads-on : (access : Access) (name : List ℕ) → (meaning (command_on access name)).loads ≡ true
 loads-on _ name = search rules
 
+pub to_end-on : (access : Access) (name : List ℕ) → (meaning (command_on access name)).to_end ≡ true
+to_end-on _ name = search rules
+
 pub name-on : (access : Access) (name : List ℕ) → (meaning (command_on access name)).name ≡ name
 name-on _ name = search rules
 

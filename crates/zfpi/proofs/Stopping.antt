@@ -1,7 +1,7 @@
 -- How often a command sees the end of its source.
-use Rattle.std.proofs.Common.{◌≡◌, ℕ, ◌+◌, ◌≤◌, Bool, true, false, sym, ◌∙◌, arith}
+use Rattle.std.proofs.Common.{◌≡◌, ℕ, ◌+◌, ◌≤◌, ◌&&◌, Bool, true, false, sym, ap, ◌∙◌, arith}
 use Rattle.std.proofs.lemmas.Bool.{true≢false}
-use Rattle.zfpi.{specs.Headline.{StopsAtEnd}, proofs.Causes.{IsIdle-same, IsIdle-used}}
+use Rattle.zfpi.{specs.Headline.{StopsAtEnd, StaysExact}, proofs.Causes.{IsIdle-same, IsIdle-used}}
 
 -- it was not used
 pub StopsAtEnd-same : (used sees : Bool) (n : ℕ) → StopsAtEnd used sees n n
@@ -16,3 +16,7 @@ StopsAtEnd-used used sees m n is saw once =
 pub StopsAtEnd-unseen : (used sees : Bool) (m n : ℕ) → used ≡ true → n ≤ m → StopsAtEnd used sees m n
 StopsAtEnd-unseen used sees m n is unseen =
     record { once = omega (arith, unseen); unused = IsIdle-used used m n is; unseen = λ none. unseen }
+
+-- it was told that it is read to its end, so nothing is said of what it takes
+pub StaysExact-told : {Before Now : Type 0} (to_end reads : Bool) → to_end ≡ true → reads ≡ true → StaysExact (to_end && reads) Before Now
+StaysExact-told to_end reads is read = λ none. absurd (true≢false (sym (ap (λ b. b && reads) is ∙ read) ∙ none))

@@ -1,5 +1,5 @@
 -- What a command is: one record a command, over a world of an input and files. A new command is one more.
-use Rattle.std.specs.Prelude.{◌≡◌, Bool, true, false, ℕ, List, [], take, Option, Some, None, Result, IsOk}
+use Rattle.std.specs.Prelude.{◌≡◌, ◌&&◌, Bool, true, false, ℕ, List, [], take, Option, Some, None, Result, IsOk}
 use Rattle.zf_spec.specs.Grid.{IsShape}
 use Rattle.zf_base.specs.declared.lane.Ty.TheVariants.{I32}
 use Rattle.zf_header.specs.declared.header.Mode.TheVariants.{Rate}
@@ -77,6 +77,10 @@ abbrev pub TakesStream : Status → List ℕ → List ℕ → Type 0
 TakesStream statuses.Done input taken = taken ≡ input
 TakesStream statuses.NotNarrow input taken = taken ≡ take prefix_room input
 TakesStream status input taken = Unit {0}
+
+-- by this status the source may have been told that it is read to its end
+abbrev pub reads_on : Meaning → Status → Bool
+reads_on m status = m.to_end && m.reads status
 
 -- Done, with nothing read, written or saved; memory is taken
 abbrev pub plain : Meaning

@@ -11,14 +11,14 @@ use Rattle.zfpi.specs.declared.status.Status.{Status}
 use Rattle.zfpi.specs.declared.status.Status.TheVariants.{LoadFault, SaveFault}
 use Rattle.zfpi.specs.Statuses.{is_work_done}
 use Rattle.zfpi.specs.World.{seen, counts}
-use Rattle.zfpi.specs.Answer.{meaning}
+use Rattle.zfpi.specs.Answer.{meaning, reads_on}
 use Rattle.zfpi.specs.Steps.{Gave, Told, Steps, IsShelfless}
 use Rattle.zfpi.specs.Fetching.{Fetches}
 use Rattle.zfpi.specs.Loaded.{HoldsFile}
-use Rattle.zfpi.specs.Headline.{OfCommand, OnUsage, RefusesWords, Behaves, HasCauses, StopsAtEnd, IsSent}
+use Rattle.zfpi.specs.Headline.{OfCommand, OnUsage, RefusesWords, Behaves, HasCauses, StopsAtEnd, StaysExact, IsSent}
 
 -- over a source and a sink alone: what it did, whatever the files are, what its faults come from, that nothing
--- was read behind the end that was seen, and what is told of it
+-- was read behind the end that was seen, or ahead, and what is told of it
 pub record Streams {A B : Type 0} (S : Source A) (O : Sink B) (c : Command) (status : Status)
     (src src_now : A) (out out_now : B) : Type 0 where
   pub behaves : (files : Option Files) → Behaves c status (seen (S.contents src) (O.contents out) files)
@@ -26,6 +26,7 @@ pub record Streams {A B : Type 0} (S : Source A) (O : Sink B) (c : Command) (sta
   pub causes : HasCauses c status (counts (S.faults src) (O.faults out))
       (counts (S.faults src_now) (O.faults out_now)) (S.never_fails src) (S.never_fails src_now)
   pub stops : StopsAtEnd ((meaning c).reads status) ((meaning c).sees_end status) (S.ends_seen src) (S.ends_seen src_now)
+  pub exact : StaysExact (reads_on (meaning c) status) (S.is_exact src) (S.is_exact src_now)
   pub told : is_work_done status ≡ true → Told c (Ok []) (Gave S c src src_now)
       (O.contents out) (O.contents out_now) status None
 
@@ -38,6 +39,7 @@ pub record Fulfils {A B C : Type 0} (S : Source A) (O : Sink B) (F : Shelf C) (c
   pub causes : HasCauses c status (counts (S.faults src) (O.faults out))
       (counts (S.faults src_now) (O.faults out_now)) (S.never_fails src) (S.never_fails src_now)
   pub stops : StopsAtEnd ((meaning c).reads status) ((meaning c).sees_end status) (S.ends_seen src) (S.ends_seen src_now)
+  pub exact : StaysExact (reads_on (meaning c) status) (S.is_exact src) (S.is_exact src_now)
   pub steps : Steps (Fetches F.fronts F.loads) F.saves F.faults c (Gave S c src src_now)
       (O.contents out) (O.contents out_now) status shelf shelf_now
   pub sure_shelf : F.never_fails shelf → (status ≢ LoadFault) × F.never_fails shelf_now

@@ -94,6 +94,10 @@ pub record StopsAtEnd (used sees : Bool) (before now : ℕ) : Type 0 where
   pub unused : IsIdle used before now
   pub unseen : sees ≡ false → now ≤ before
 
+-- a source that took no more of what it reads than it gave still does, unless it was told that it is read to its end
+abbrev pub StaysExact : Bool → Type 0 → Type 0 → Type 0
+StaysExact told before now = told ≡ false → before → now
+
 -- all that was written was handed on, unless the sink failed before the work was done
 abbrev pub IsSent : Status → Type 0 → Type 0 → Type 0
 IsSent status Quiet Sent = ((is_work_done status ≡ true) ⊎ Quiet) → Sent

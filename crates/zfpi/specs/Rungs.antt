@@ -13,12 +13,12 @@ use Rattle.zfpi.specs.declared.command.Command.{Command}
 use Rattle.zfpi.specs.declared.status.Status.{Status}
 use Rattle.zfpi.specs.declared.status.Status.TheVariants.{WriteFault, LoadFault, SaveFault}
 use Rattle.zfpi.specs.World.{seen, counts}
-use Rattle.zfpi.specs.Answer.{meaning}
+use Rattle.zfpi.specs.Answer.{meaning, reads_on}
 use Rattle.zfpi.specs.Scripts.{max_script}
 use Rattle.zfpi.specs.Statuses.{is_work_done}
 use Rattle.zfpi.specs.Steps.{Gave, Makes, Saving, SavesOnce}
 use Rattle.zfpi.specs.Loaded.{HoldsFile}
-use Rattle.zfpi.specs.Headline.{Saves, Behaves, HasCauses, StopsAtEnd, IsSent}
+use Rattle.zfpi.specs.Headline.{Saves, Behaves, HasCauses, StopsAtEnd, StaysExact, IsSent}
 
 module _ {B C : Type 0} (O : Sink B) (F : Shelf C) where
   -- the file of this name that was loaded has these bytes, and the rest of the command did what the command
@@ -31,6 +31,7 @@ module _ {B C : Type 0} (O : Sink B) (F : Shelf C) where
     pub causes : HasCauses c status (counts (S.faults src) (O.faults out))
         (counts (S.faults src_now) (O.faults out_now)) (S.never_fails src) (S.never_fails src_now)
     pub stops : StopsAtEnd ((meaning c).reads status) ((meaning c).sees_end status) (S.ends_seen src) (S.ends_seen src_now)
+    pub exact : StaysExact (reads_on (meaning c) status) (S.is_exact src) (S.is_exact src_now)
     pub once : length file ≤ max_file → SavesOnce F.saves F.faults c (Ok file)
         (Gave S c src src_now) (O.contents out) (O.contents out_now) status shelf shelf_now
     pub no_load : status ≢ LoadFault

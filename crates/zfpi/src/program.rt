@@ -4,11 +4,11 @@ ghost use Rattle.std.specs.Prelude.{◌≡◌, ◌≢◌, map, string_bytes};
 ghost use Rattle.zf_dev.specs.Faults.{IsQuiet};
 ghost use Rattle.zfpi.specs.Statuses.{error_line};
 ghost use Rattle.zfpi.specs.World.{seen, counts};
-ghost use Rattle.zfpi.specs.Answer.{meaning};
+ghost use Rattle.zfpi.specs.Answer.{meaning, reads_on};
 ghost use Rattle.zfpi.specs.Fetching.{Fetches};
 ghost use Rattle.zfpi.specs.Steps.{Gave, Steps};
 ghost use Rattle.zfpi.specs.Calls.{Fulfils, HeedsWords};
-ghost use Rattle.zfpi.specs.Headline.{OfCommand, OnUsage, RefusesWords, Behaves, HasCauses, StopsAtEnd, IsSent, AreQuiet, IsComplete, GivesBack, Sends};
+ghost use Rattle.zfpi.specs.Headline.{OfCommand, OnUsage, RefusesWords, Behaves, HasCauses, StopsAtEnd, StaysExact, IsSent, AreQuiet, IsComplete, GivesBack, Sends};
 
 use crate::command::{Access, Command};
 use crate::commands::bound::bound;
@@ -49,6 +49,10 @@ pub fn zfpi<S: Source, O: Sink, E: Sink, F: Shelf>(
     ensures stops { OfCommand (map string_bytes words.now) (λ c.
         StopsAtEnd ((meaning c).reads result) ((meaning c).sees_end result)
         (S.ends_seen src.old) (S.ends_seen src.new)) }
+    // A source that takes no more of what it reads than it gives still does, where the input is not read to its
+    // end: `info` leaves what is behind a header.
+    ensures exact { OfCommand (map string_bytes words.now) (λ c.
+        StaysExact (reads_on (meaning c) result) (S.is_exact src.old) (S.is_exact src.new)) }
     // Also over devices that expose nothing: what was loaded, given, answered, written and saved is told of
     // one world.
     ensures steps { OfCommand (map string_bytes words.now)

@@ -19,6 +19,7 @@ loop-filled-preserved g c =
       taken = rw (take-put_mid_part buf part at (length buf - at) count in_buf in_part) (Takes-append _ _ _ _ _ c.loop-filled.invariant.taken c.in_ok-n.ensures.taken);
       gave = rw (take-put_mid_part buf part at (length buf - at) count in_buf in_part) (Gives-append _ _ c.loop-filled.invariant.gave c.in_ok-n.ensures.gave);
       unseen = omega (arith, c.in_ok-n.ensures.seen.1 c.if-n-eq0.false, c.loop-filled.invariant.unseen);
+      still_exact = λ exact. c.in_ok-n.ensures.still_exact (c.loop-filled.invariant.still_exact exact);
       rest = rest_more c.args.buf.now buf part at count in_buf in_part c.loop-filled.invariant.rest c.in_ok-n.ensures.rest;
       same = c.in_ok-n.ensures.unchanged ∙ c.loop-filled.invariant.same;
       same_source = c.in_ok-n.ensures.kept ∙ c.loop-filled.invariant.same_source;

@@ -8,6 +8,7 @@ invariant-loop-filled g l = record {
   taken : Takes (g.S.Source.contents l.initial.src) (g.S.Source.contents l.src) (take l.filled l.buf);
   gave : Gives (g.S.Source.gave l.initial.src) (g.S.Source.gave l.src) (take l.filled l.buf);
   unseen : g.S.Source.ends_seen l.src ≤ g.S.Source.ends_seen l.initial.src;
+  still_exact : g.S.Source.is_exact l.initial.src → g.S.Source.is_exact l.src;
   rest : drop l.filled l.buf ≡ drop l.filled l.initial.buf;
   same : g.S.Source.faults l.src ≡ g.S.Source.faults l.initial.src;
   same_source : g.S.Source.kept l.src ≡ g.S.Source.kept l.initial.src;

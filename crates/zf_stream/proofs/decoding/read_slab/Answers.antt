@@ -16,7 +16,7 @@ use Rattle.zf_stream.proofs.decoding.read_slab.Goals as goal
 pub loop-b-init : goal.loop-b-init
 loop-b-init g c = record {
   within = omega arith;
-  look = c.has_whole_blocks-whole.ensures;
+  look = c.has_whole_blocks-whole.ensures.whole;
   bytes = [];
   goes = Goes-none _ _;
   read = record {
@@ -112,7 +112,7 @@ loop-b-preserved g c =
     let read = run_none h b _ _ _ _ _ _ c.if-zeros-gt0.false zeros.read (read_refilled h b c.args.room.now.window so_far.bytes _ so_far.read refill) in
     record {
       within = omega (arith, c.loop-b-test.true, c.blocks-blocks.ensures.value);
-      look = λ is. c.has_whole_blocks-whole.ensures (c.may_go_on-look.ensures is);
+      look = λ is. c.has_whole_blocks-whole.ensures.whole (c.may_go_on-look.ensures is);
       bytes = so_far.bytes ++ refill.bytes;
       goes = Goes-read {w = c.read_block-read.new.window} (Goes-read {w = c.read_zeros-zeros.new.window} (Goes-next so_far.goes refill.goes) zeros.place) c.in-Some.ensures.place;
       read = read_more h b _ _ _ _ _ c.in-Some.ensures.some read;

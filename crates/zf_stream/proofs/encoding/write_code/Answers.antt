@@ -7,9 +7,6 @@ use Rattle.zf_header.specs.HeaderBits.{coding}
 use Rattle.zf_stream.proofs.Padded.{code_of_padded}
 use Rattle.zf_stream.proofs.encoding.write_code.Goals as goal
 
-pub encode-requires-clause-dimension : goal.encode-requires-clause-dimension
-encode-requires-clause-dimension g c = (c.dims-dims.ensures.shape.some_dimension, c.dims-dims.ensures.shape.four_at_most)
-
 pub returns-clause-code : goal.returns-clause-code
 returns-clause-code g c =
     let w = g.T.Lane.width in
@@ -18,7 +15,7 @@ returns-clause-code g c =
     let es = extent_of ns c.args.b in
     let value = g.T.Lane.value in
     let here : c.deref_mut-2.result.now ≡ c.gather_block-part.new.block = search (rules, with_items_is, places) in
-    Appends-same c.encode.ensures.code
+    Appends-same c.encode.ensures
     (ap (λ vs. block_code w mode (fours (length ns)) (map value vs)) here
     ∙ ap (block_code w mode (fours (length ns))) c.gather_block-part.ensures.padded
     ∙ ap (λ d. block_code w mode (fours d) (pad es (block_of ns (map value c.args.values.now) c.args.b))) (sym (length-extent_of ns c.args.b))

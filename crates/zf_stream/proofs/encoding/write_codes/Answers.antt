@@ -55,8 +55,8 @@ returns-in_err-write_where_many-clause-sink g c = search (rules, err_from_is_err
 pub loop-b-init : goal.loop-b-init
 loop-b-init g c = search (rules, append-nil)
 
-pub write_code-requires-clause-scratch : goal.write_code-requires-clause-scratch
-write_code-requires-clause-scratch g c = (room_kept c.requires.room c.loop-b.invariant.keeps).scratch
+pub write_code-requires-clause-dims : goal.write_code-requires-clause-dims
+write_code-requires-clause-dims g c = (room_kept c.requires.room c.loop-b.invariant.keeps).dims
 
 pub write_code-requires-clause-fits : goal.write_code-requires-clause-fits
 write_code-requires-clause-fits g c = omega (arith, (room_kept c.requires.room c.loop-b.invariant.keeps).fits, c.loop-b.invariant.few)

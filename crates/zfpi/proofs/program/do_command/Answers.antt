@@ -27,6 +27,7 @@ returns-in-Sample g c = rw c.in-Sample.is (Fulfils-sent (Sample c.in-Sample.head
   behaves = λ files. c.sample.ensures.behaves _ files;
   causes = HasCauses-sure _ _ _ _ (c.sample.ensures.causes _);
   stops = StopsAtEnd-same _ _ _;
+  exact = λ told exact. exact;
   told = λ work.
       let sample = Sample c.in-Sample.header c.in-Sample.seed in
       Told-behaves sample (Ok []) (Gave g.S.Source sample _ _) _ _ c.sample.result work (c.sample.ensures.behaves (Some []) None) (λ w starved taken. refl) (Gave-none g.S.Source sample _ [] refl refl) tt;
@@ -41,6 +42,7 @@ returns-in-Bound g c =
       behaves = behaves;
       causes = HasCauses-sent bound _ _ tt _ _ _ _ _ (HasCauses-sure _ _ _ _ (c.bound.ensures.causes _)) sends;
       stops = StopsAtEnd-same _ _ _;
+      exact = λ told exact. exact;
       steps = Steps-by (λ bytes. bytes ≡ []) _ (λ bytes is. Gave-none g.S.Source bound _ bytes refl is) (Steps-sent (Fetches g.F.Shelf.fronts g.F.Shelf.loads) g.F.Shelf.saves g.F.Shelf.faults bound _ _ _ _ _ _ _ _ refl sends.ends (λ text written. Appends-stays _ _ _ text written sends.stays) c.bound.ensures.steps);
       sure_shelf = λ sure. let loaded = c.bound.ensures.sure_shelf sure in (unloaded_sent _ _ loaded.0 sends, loaded.1);
       sure_saves = λ sure. let saved = c.bound.ensures.sure_saves sure in (unsaved_sent _ _ saved.0 sends, saved.1);
@@ -52,6 +54,7 @@ returns-in-New g c = rw c.in-New.is (record {
   behaves = c.new.ensures.behaves _ _;
   causes = HasCauses-sure _ _ _ _ (c.new.ensures.causes _ _);
   stops = StopsAtEnd-same _ _ _;
+  exact = λ told exact. exact;
   steps = Steps-by (λ bytes. bytes ≡ []) _ (λ bytes is. Gave-none g.S.Source (New c.in-New.name c.in-New.ty c.in-New.shape c.in-New.bits) _ bytes refl is) (c.new.ensures.steps _);
   sure_shelf = c.new.ensures.sure_shelf;
   sure_saves = c.new.ensures.sure_saves;

@@ -13,6 +13,7 @@ returns g c =
       command = λ d spelled. (fulfils d spelled).behaves;
       causes = λ d spelled. (fulfils d spelled).causes;
       stops = λ d spelled. (fulfils d spelled).stops;
+      exact = λ d spelled. (fulfils d spelled).exact;
       steps = λ d spelled. (fulfils d spelled).steps;
       sure_shelf = c.answer-status.ensures.sure_shelf;
       sure_saves = c.answer-status.ensures.sure_saves;

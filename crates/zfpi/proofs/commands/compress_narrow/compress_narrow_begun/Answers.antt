@@ -13,7 +13,7 @@ returns-in-Ok g c =
     let call = c.in-Ok.ensures in
     let done = call.outcome.ok in
     let moved = c.src-1.given.1 (sym (ap (λ (q : _). q.0) c.compress_narrow.ensures.source.same)) in
-    Streams-begun g.S.Source g.O.Sink command Done refl refl refl moved c.requires.begun c.compress_narrow.new.src.once call.source.cause call.sink.cause call.source.sure (λ fault. absurd (cc)) (λ fault. absurd (cc))
+    Streams-begun g.S.Source g.O.Sink command Done refl refl refl moved c.requires.begun c.compress_narrow.new.src.once call.source.cause call.sink.cause call.source.sure (λ told. absurd (cc)) (λ fault. absurd (cc)) (λ fault. absurd (cc))
     (λ work. Told-done command (Gave g.S.Source command _ _) _ _ call.given.ok.bytes is refl (Gave-whole g.S.Source command _ _ _ refl call.given.ok.given call.ended) (ap status_of (sym call.given.ok.good)) call.given.ok.written)
     (λ files. Behaves-done command done.bytes _ _ _ _ files is (ap status_of (sym done.good)) done.taken done.ended done.written)
 
@@ -25,6 +25,6 @@ returns-in-Err g c =
     let call = c.in-Err.ensures in
     let done = call.outcome in
     let moved = c.src-1.given.1 (sym (ap (λ (q : _). q.0) c.compress_narrow.ensures.source.same)) in
-    rw c.from.ensures (Streams-begun g.S.Source g.O.Sink command (fault_status e) refl refl refl moved c.requires.begun c.compress_narrow.new.src.once call.source.cause call.sink.cause call.source.sure (λ fault. ap Err (read_named e fault)) (λ fault. ap Err (write_named e fault))
+    rw c.from.ensures (Streams-begun g.S.Source g.O.Sink command (fault_status e) refl refl refl moved c.requires.begun c.compress_narrow.new.src.once call.source.cause call.sink.cause call.source.sure (λ told. absurd (cc)) (λ fault. ap Err (read_named e fault)) (λ fault. ap Err (write_named e fault))
     (untold_fault e) (λ files. Behaves-fault command (compress_narrow_answer c.args.narrow c.args.h) e [] done.err.bytes _ _ _ _ files is (λ w. refl) done.answer done.possible tt (λ input exposed memory. tt) done.err.taken
     (λ w. compress_prefix e (narrow_text c.args.narrow c.args.h done.err.bytes) _ _ done.err.written (λ starved. done.unwritten (ap Err starved)))))
