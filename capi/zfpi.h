@@ -21,7 +21,7 @@ extern "C" {
 #endif
 
 /* The version that this file belongs to: 10000 times the first number, 100 times the second, and the third. */
-#define ZFPI_VERSION 10000
+#define ZFPI_VERSION 10100
 
 /* Types of values. The stream of one of the last four says int32: restore it by zfpi_restore_narrow, with the type. */
 enum { ZFPI_INT32 = 1, ZFPI_INT64 = 2, ZFPI_INT8 = 3, ZFPI_UINT8 = 4, ZFPI_INT16 = 5, ZFPI_UINT16 = 6 };
@@ -45,7 +45,8 @@ enum {
     ZFPI_PAD = 10,        /* a bit of the fill behind the last block is one */
     ZFPI_TRAILING = 11,   /* a byte follows the stream */
     ZFPI_NOT_NARROW = 12, /* the stream's values are int64 */
-    ZFPI_PART = 13        /* the array has no such block or window */
+    ZFPI_PART = 13,       /* the array has no such block or window */
+    ZFPI_INDEX = 14       /* the places are not those of this stream */
 };
 
 /* An array: its type, its shape, the fastest-varying axis first, and the mode of its stream. Sizes of axes that are
@@ -120,6 +121,24 @@ uint32_t zfpi_read_block(const uint8_t *stream, size_t stream_len, uint64_t bloc
 /* Reads `count` blocks, in the order of the list, one behind the other. */
 uint32_t zfpi_read_blocks(const uint8_t *stream, size_t stream_len, const uint64_t *list, size_t count, uint8_t *out,
                           size_t out_len);
+
+/* Over an index no code is looked at but those of the part, whatever the mode: it is made once by a walk over all codes,
+ * in the caller's memory, and holds as long as the stream stays as it is. No index can make a call read or write
+ * outside of what it was lent: over places of another stream it answers ZFPI_INDEX, or ZFPI_OK with values that mean
+ * nothing. So does a stream that is damaged behind its header, whose fill and length are not looked at here. */
+
+/* Writes the bit of the stream at which the code of each block begins, of block 0 first, to the start of `places`. All
+ * behind them stays. ZFPI_ROOM: there are more blocks than `count`, which is the product over the axes of their sizes
+ * divided by 4, rounded up. After each status but ZFPI_OK `places` is as before. */
+uint32_t zfpi_index(const uint8_t *stream, size_t stream_len, uint64_t *places, size_t count);
+
+/* As zfpi_read, over the places that zfpi_index wrote for this stream. ZFPI_INDEX: they are not those, or fewer. */
+uint32_t zfpi_read_at(const uint8_t *stream, size_t stream_len, const uint64_t *places, size_t count,
+                      const zfpi_axes *origin, const zfpi_axes *size, uint8_t *out, size_t out_len);
+
+/* As zfpi_read_blocks, over them. */
+uint32_t zfpi_read_blocks_at(const uint8_t *stream, size_t stream_len, const uint64_t *places, size_t count,
+                             const uint64_t *list, size_t list_len, uint8_t *out, size_t out_len);
 
 /* Makes the code of a block of a stream at a rate that of these raw values. All other bits of the stream stay.
  * ZFPI_MODE: the stream has no rate. ZFPI_RAW_SHORT, ZFPI_RAW_LONG: there are fewer or more bytes than a block has. */

@@ -151,6 +151,65 @@ static void parts(uint8_t *stream, size_t len, const uint8_t *all, size_t all_le
     free(other), free(back), free(out - GUARD), free(block - GUARD);
 }
 
+/* Windows and blocks over an index are those without one. Over other places there is a status, or values that mean nothing,
+ * and in either case nothing outside of what is lent: the stream stands at the end of its memory here, for valgrind. */
+static void over_index(const uint8_t *whole, size_t len) {
+    uint8_t *stream = malloc(len);
+    WANT(stream);
+    memcpy(stream, whole, len);
+    zfpi_info info;
+    WANT(zfpi_header(stream, len, &info) == ZFPI_OK);
+    size_t wide = info.field.type == ZFPI_INT64 ? 8 : 4, size = (size_t)1 << (2 * info.field.dims);
+    uint64_t n[4] = {info.field.nx, info.field.ny, info.field.nz, info.field.nw}, from[4] = {0}, many[4] = {1, 1, 1, 1};
+    uint64_t room = wide, blocks = 1, drawn = 1;
+    for (uint32_t axis = 0; axis < info.field.dims; axis++) {
+        from[axis] = n[axis] / 3, many[axis] = n[axis] - from[axis];
+        room *= many[axis], blocks *= (n[axis] + 3) / 4;
+    }
+    zfpi_axes origin = {from[0], from[1], from[2], from[3]}, sizes = {many[0], many[1], many[2], many[3]};
+    uint64_t *places = (uint64_t *)guarded((blocks + 1) * 8), *other = malloc(blocks * 8);
+    uint64_t list[4] = {blocks - 1, 0, blocks / 2, blocks - 1};
+    uint8_t *bytes = (uint8_t *)places, *with = guarded(room), *without = guarded(room);
+    size_t listed = 4 * size * wide;
+    uint8_t *some = guarded(listed), *same = guarded(listed);
+    WANT(other);
+    WANT(zfpi_index(stream, len, places, blocks - 1) == ZFPI_ROOM && zfpi_index(stream, 8, places, blocks) == ZFPI_HEADER);
+    WANT(zfpi_index(stream, len - 8, places, blocks) == ZFPI_TRUNCATED && stays(bytes, 0, (blocks + 1) * 8));
+    WANT(zfpi_index(stream, len, places, blocks + 1) == ZFPI_OK && stays(bytes, blocks * 8, (blocks + 1) * 8));
+    WANT(guards_hold(bytes, (blocks + 1) * 8));
+    WANT(zfpi_read(stream, len, &origin, &sizes, without, room) == ZFPI_OK);
+    WANT(zfpi_read_at(stream, len, places, blocks, &origin, &sizes, with, room - 1) == ZFPI_ROOM);
+    WANT(zfpi_read_at(stream, len, places, blocks - 1, &origin, &sizes, with, room) == ZFPI_INDEX);
+    WANT(zfpi_read_at(stream, 8, places, blocks, &origin, &sizes, with, room) == ZFPI_HEADER && stays(with, 0, room));
+    WANT(zfpi_read_at(stream, len, places, blocks, &origin, &sizes, with, room) == ZFPI_OK && guards_hold(with, room));
+    WANT(memcmp(with, without, room) == 0);
+    WANT(zfpi_read_blocks(stream, len, list, 4, same, listed) == ZFPI_OK);
+    WANT(zfpi_read_blocks_at(stream, len, places, blocks, list, 4, some, listed - 1) == ZFPI_ROOM && stays(some, 0, listed));
+    WANT(zfpi_read_blocks_at(stream, len, places, blocks, list, 4, some, listed) == ZFPI_OK && guards_hold(some, listed));
+    WANT(memcmp(some, same, listed) == 0);
+    sizes.x++, list[1] = blocks;
+    WANT(zfpi_read_at(stream, len, places, blocks, &origin, &sizes, with, room) == ZFPI_PART);
+    WANT(zfpi_read_blocks_at(stream, len, places, blocks, list, 4, some, listed) == ZFPI_PART);
+    sizes.x--, list[1] = 0;
+    for (unsigned turn = 0; turn < 60; turn++) {
+        for (uint64_t k = 0; k < blocks; k++) {
+            drawn = drawn * 6364136223846793005u + 1442695040888963407u;
+            uint64_t within = drawn % (8 * len + 1), end = 8 * len - turn;
+            uint64_t wrong[6] = {places[k] + turn, places[blocks - 1 - k], drawn >> 33, within, drawn, end};
+            other[k] = turn < 12 ? (uint64_t[]){8 * len, 8 * len + 1, UINT64_MAX, 0}[turn % 4] : wrong[turn % 6];
+        }
+        memset(with, 0xA5, room), memset(some, 0xA5, listed);
+        uint32_t window = zfpi_read_at(stream, len, other, blocks, &origin, &sizes, with, room);
+        uint32_t block = zfpi_read_blocks_at(stream, len, other, blocks, list, 4, some, listed);
+        WANT(window == ZFPI_OK || (window == ZFPI_INDEX && stays(with, 0, room)));
+        WANT(block == ZFPI_OK || (block == ZFPI_INDEX && stays(some, 0, listed)));
+        WANT(turn >= 12 || turn % 4 == 3 || (window == ZFPI_INDEX && block == ZFPI_INDEX));
+        WANT(guards_hold(with, room) && guards_hold(some, listed));
+    }
+    free(stream), free(other), free(bytes - GUARD), free(with - GUARD), free(without - GUARD);
+    free(some - GUARD), free(same - GUARD);
+}
+
 int main(int argc, char **argv) {
     WANT(argc == 11);
     size_t raw_len;
@@ -186,6 +245,7 @@ int main(int argc, char **argv) {
     uint8_t *all = guarded(all_len);
     WANT(zfpi_restore(exact, len, all, all_len, &n) == ZFPI_OK);
     parts(exact, len, all, all_len);
+    over_index(exact, len);
     free(all - GUARD);
 
     FILE *file = fopen(argv[10], "wb");

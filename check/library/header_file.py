@@ -9,6 +9,7 @@ RUST_TO_C = {
     "u32": ["uint32_t"],
     "u64": ["uint64_t"],
     "&[u64]": ["const uint64_t *", "size_t"],
+    "&mut [u64]": ["uint64_t *", "size_t"],
     "&Axes": ["const zfpi_axes *"],
     "&Field": ["const zfpi_field *"],
     "&mut Info": ["zfpi_info *"],
@@ -43,9 +44,9 @@ def cases(top):
     """Cases, each with whether it holds, what it is and what was seen."""
     header = (top / "capi/zfpi.h").read_text()
     source = top / "crates/zfpi_c/src"
-    calls, parts, rest = ((source / f"{name}.rt").read_text() for name in ("calls", "parts", "fields"))
+    calls, parts, over, rest = ((source / f"{name}.rt").read_text() for name in ("calls", "parts", "over", "fields"))
     bare = re.sub(r"/\*.*?\*/", "", header, flags=re.S)
-    ours, theirs = exports(calls + parts), declared(bare)
+    ours, theirs = exports(calls + parts + over), declared(bare)
     theirs = {name: [kind.replace(" *", " *").rstrip() for kind in kinds] for name, kinds in theirs.items()}
     yield ours == theirs, "zfpi.h declares the exports", f"{ours} {theirs}"
     codes = dict(re.findall(r"Status::(\w+) => (\d+)", (top / "crates/zfpi_c/src/status.rt").read_text()))

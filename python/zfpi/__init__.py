@@ -25,7 +25,7 @@ import pathlib
 
 import numpy
 
-__version__ = "1.0.0"
+__version__ = "1.1.0"
 __all__ = ["Refused", "compress", "compress_into", "decompress", "decompress_into", "greatest_error", "info", "most_bytes", "open"]
 
 
@@ -55,9 +55,12 @@ _CAUSES = {
     11: "stream: a byte follows it",
     12: "type: the stream's values are int64",
     13: "part: the array has no such block or window",
+    14: "index: it is not that of this stream",
 }
 _TYPES = {order + name: number for number, name in enumerate("i4 i8 i1 u1 i2 u2".split(), 1) for order in "<>|"}
 _NARROW = (3, 4, 5, 6)
+# looked up once, as small arrays take no longer than what is asked about them here
+_from_buffer, _addressof = ctypes.c_char.from_buffer, ctypes.addressof
 _REVERSIBLE, _RATE, _PRECISION = 1, 2, 3
 _INSTEAD = {
     "b": "use array.view('u1')",
@@ -83,16 +86,18 @@ def _loaded():
     beside = pathlib.Path(__file__).resolve().parents[3] / "libzfpi.so.1"
     name = os.environ.get("ZFPI_LIBRARY") or (str(beside) if beside.exists() else "libzfpi.so.1")
     library = ctypes.CDLL(name)
-    pointer, size, count = ctypes.c_void_p, ctypes.c_size_t, ctypes.POINTER(ctypes.c_uint64)
-    library.zfpi_compress.argtypes = [ctypes.POINTER(_Field), pointer, size, pointer, size, count]
-    library.zfpi_restore.argtypes = [pointer, size, pointer, size, count]
-    library.zfpi_restore_narrow.argtypes = [ctypes.c_uint32, pointer, size, pointer, size, count]
-    library.zfpi_header.argtypes = [pointer, size, ctypes.POINTER(_Info)]
-    axes = ctypes.POINTER(_Axes)
-    library.zfpi_read.argtypes = [pointer, size, axes, axes, pointer, size]
-    library.zfpi_most.argtypes = [ctypes.POINTER(_Field), count]
+    # of what is written or read here the address is given: a pointer takes longer to be made
+    pointer, size = ctypes.c_void_p, ctypes.c_size_t
+    library.zfpi_compress.argtypes = [pointer, pointer, size, pointer, size, pointer]
+    library.zfpi_restore.argtypes = [pointer, size, pointer, size, pointer]
+    library.zfpi_restore_narrow.argtypes = [ctypes.c_uint32, pointer, size, pointer, size, pointer]
+    library.zfpi_header.argtypes = [pointer, size, pointer]
+    library.zfpi_read.argtypes = [pointer, size, pointer, pointer, pointer, size]
+    library.zfpi_index.argtypes = [pointer, size, pointer, size]
+    library.zfpi_read_at.argtypes = [pointer, size, pointer, size, pointer, pointer, pointer, size]
+    library.zfpi_most.argtypes = [pointer, pointer]
     library.zfpi_version.argtypes = []
-    if library.zfpi_version() // 10000 != 1:
+    if not 10100 <= library.zfpi_version() < 20000:
         raise ImportError(f"{name} is of another version")
     return library
 
@@ -107,6 +112,7 @@ def _check(status):
         raise Refused(status)
 
 
+@functools.lru_cache(256)
 def _number_of(dtype):
     """The library's number of a type in either byte order, or a `TypeError` that says what to do."""
     number = _TYPES.get(dtype.str)
@@ -133,57 +139,76 @@ def _mode_of(dims, reversible, rate, precision):
     return _REVERSIBLE, 0
 
 
+class _Described:
+    """What the library is told of an array: its field, which no call writes to, where that is, and whether the bytes of
+    its values are to be turned."""
+
+    def __init__(self, dtype, shape, mode):
+        dims = len(shape)
+        if not 1 <= dims <= 4:
+            raise ValueError(f"an array of zfpi has one to four axes, and not {dims}")
+        sizes = [*shape[::-1], 0, 0, 0][:4]
+        self.field = _Field(_number_of(dtype), dims, *sizes, *_mode_of(dims, *mode))
+        self.address = _addressof(self.field)
+        self.is_swapped = dtype.str[0] == ">"
+
+    @functools.cached_property
+    def most(self):
+        most = ctypes.c_uint64()
+        _check(_library.zfpi_most(self.address, _addressof(most)))
+        return most.value
+
+
 @functools.lru_cache(256)
-def _field(number, shape, reversible, rate, precision):
-    """The field of an array, which no call writes to."""
-    dims = len(shape)
-    if not 1 <= dims <= 4:
-        raise ValueError(f"an array of zfpi has one to four axes, and not {dims}")
-    sizes = [*shape[::-1], 0, 0, 0][:4]
-    return _Field(number, dims, *sizes, *_mode_of(dims, reversible, rate, precision))
+def _described(dtype, shape, *mode):
+    return _Described(dtype, shape, mode)
 
 
-def _field_of(array, reversible, rate, precision):
-    return _field(_number_of(array.dtype), array.shape, reversible, rate, precision)
+def _place(array):
+    """Where the bytes of a contiguous array are, and how many. They are there as long as it is."""
+    try:
+        # a third of the time that array.ctypes takes, for what may be written to and has bytes
+        return _addressof(_from_buffer(array)), array.nbytes
+    except (BufferError, TypeError, ValueError):
+        if not array.flags.c_contiguous:
+            raise ValueError("the bytes are not contiguous") from None
+        return array.ctypes.data, array.nbytes
 
 
-def _bytes_of(stream):
-    """A stream as an array of bytes, with no copy."""
-    return numpy.frombuffer(stream, "u1")
+def _place_to_write(out):
+    """The same of an output."""
+    try:
+        return _addressof(_from_buffer(out)), out.nbytes
+    except (BufferError, TypeError, ValueError):
+        if not (out.flags.c_contiguous and out.flags.writeable):
+            raise ValueError("the output is not contiguous, or not writable") from None
+        return out.ctypes.data, out.nbytes
 
 
-def _most(field):
-    most = ctypes.c_uint64()
-    _check(_library.zfpi_most(field, most))
-    return most.value
+def _words(numbers):
+    """The same of numbers of 8 bytes, which are counted."""
+    return numbers.ctypes.data, numbers.size
+
+
+def _place_of_stream(stream):
+    """The same of a stream, which is not copied. The library takes bytes as they are."""
+    if type(stream) is bytes:
+        return stream, len(stream)
+    return _place(stream if type(stream) is numpy.ndarray else numpy.frombuffer(stream, "u1"))
 
 
 def most_bytes(array, *, reversible=None, rate=None, precision=None):
     """The most bytes that the stream of an array of this type and shape can have."""
-    return _most(_field_of(array, reversible, rate, precision))
-
-
-def _raw_of(array):
-    """The array little-endian and contiguous: itself, where it is so already."""
-    if array.flags.c_contiguous and array.dtype.str[0] != ">":
-        return array
-    return numpy.ascontiguousarray(array, dtype=array.dtype.newbyteorder("<"))
-
-
-def _place(array):
-    """Where the bytes of a contiguous array are, and how many."""
-    if array.flags.writeable and array.nbytes:
-        # a third of the time that array.ctypes takes
-        return ctypes.addressof(ctypes.c_char.from_buffer(array)), array.nbytes
-    return array.ctypes.data, array.nbytes
+    return _described(array.dtype, array.shape, reversible, rate, precision).most
 
 
 def compress_into(array, out, *, reversible=None, rate=None, precision=None):
     """Writes the stream of an array to the start of `out`, a writable array of bytes, and says how long it is."""
-    field, raw = _field_of(array, reversible, rate, precision), _raw_of(array)
-    _check_writable(out)
+    described = _described(array.dtype, array.shape, reversible, rate, precision)
+    if described.is_swapped or not array.flags.c_contiguous:
+        array = numpy.ascontiguousarray(array, dtype=array.dtype.newbyteorder("<"))
     length = ctypes.c_uint64()
-    _check(_library.zfpi_compress(field, *_place(raw), *_place(out), length))
+    _check(_library.zfpi_compress(described.address, *_place(array), *_place_to_write(out), _addressof(length)))
     return length.value
 
 
@@ -197,14 +222,13 @@ def compress(array, *, reversible=None, rate=None, precision=None):
 
 def _header(place):
     found = _Info()
-    _check(_library.zfpi_header(*place, found))
+    _check(_library.zfpi_header(*place, _addressof(found)))
     return found
 
 
 def info(stream):
     """What the header of a stream says: a dict of `dtype`, `shape` and the mode, `reversible`, `rate` or `precision`."""
-    data = _bytes_of(stream)
-    field = _header(_place(data)).field
+    field = _header(_place_of_stream(stream)).field
     shape = (field.nx, field.ny, field.nz, field.nw)[: field.dims][::-1]
     mode = {
         _REVERSIBLE: {"reversible": True},
@@ -214,25 +238,18 @@ def info(stream):
     return {"dtype": numpy.dtype("<i4" if field.type == 1 else "<i8"), "shape": shape, **mode}
 
 
-def _check_writable(out):
-    if not (out.flags.c_contiguous and out.flags.writeable):
-        raise ValueError("the output is not contiguous, or not writable")
-
-
 def decompress_into(stream, out):
     """Writes the values of a stream to a contiguous little-endian array. Its type of 8 or 16 bits is that of the values."""
     number = _number_of(out.dtype)
-    if out.dtype.str[0] == ">":
+    if out.dtype.byteorder == ">":
         raise TypeError("the output is not little-endian")
-    _check_writable(out)
-    data, length = _bytes_of(stream), ctypes.c_uint64()
-    place = _place(data)
+    to, place, length = _place_to_write(out), _place_of_stream(stream), ctypes.c_uint64()
     if number in _NARROW:
-        _check(_library.zfpi_restore_narrow(number, *place, *_place(out), length))
+        _check(_library.zfpi_restore_narrow(number, *place, *to, _addressof(length)))
     elif _header(place).field.type != number:
         raise TypeError("the stream's values are of another type")
     else:
-        _check(_library.zfpi_restore(*place, *_place(out), length))
+        _check(_library.zfpi_restore(*place, *to, _addressof(length)))
     return out
 
 
@@ -248,10 +265,24 @@ class _Opened:
     """The array of a stream of which parts are read as they are asked for: `array[2, 10:20, ...]`."""
 
     def __init__(self, stream):
-        self._stream = _bytes_of(stream)
+        self._stream = numpy.frombuffer(stream, "u1")
         said = info(self._stream)
         self.dtype, self.shape = said["dtype"], said["shape"]
         self.ndim, self.size = len(self.shape), int(numpy.prod(self.shape))
+        self._has_rate = "rate" in said
+
+    @functools.cached_property
+    def _places(self):
+        """Where the code of each block begins. It is found once, and only where there is no rate that tells it."""
+        places = numpy.empty(int(numpy.prod([-(-size // 4) for size in self.shape])), "u8")
+        _check(_library.zfpi_index(*_place(self._stream), *_words(places)))
+        return places
+
+    def _read(self, origin, many, out):
+        args = _addressof(origin), _addressof(many), *_place(out)
+        if self._has_rate:
+            return _library.zfpi_read(*_place(self._stream), *args)
+        return _library.zfpi_read_at(*_place(self._stream), *_words(self._places), *args)
 
     def __getitem__(self, key):
         keys = list(key) if isinstance(key, tuple) else [key]
@@ -273,16 +304,15 @@ class _Opened:
             first, sizes = [*first, place % size], [*sizes, 1]
         out = numpy.empty(sizes, self.dtype)
         if out.size:
-            data = self._stream
-            window = _Axes(*first[::-1]), _Axes(*sizes[::-1])
-            _check(_library.zfpi_read(*_place(data), *window, *_place(out)))
+            origin, many = _Axes(*first[::-1]), _Axes(*sizes[::-1])
+            _check(self._read(origin, many, out))
         return out.reshape(kept)[()]
 
 
 def open(path):
     """The array of a stream in a file, which is mapped and only read: `zfpi.open(path)[10:20, :, 3]` reads that part.
 
-    At a rate no other codes are looked at. Steps are 1. The file stays as it is while the array is used.
+    No other codes are looked at, but without a rate all are walked over once, before the first part. Steps are 1. The file stays as it is while the array is used.
     """
     with io.open(path, "rb") as file:
         return _Opened(mmap.mmap(file.fileno(), 0, access=mmap.ACCESS_READ))

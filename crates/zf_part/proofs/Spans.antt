@@ -1,16 +1,17 @@
 -- A block that is read where its code stands has the values that the stream says.
-use Rattle.std.proofs.Common.{◌≡◌, sym, ap, subst, ◌∙◌, ℕ, zero, suc, ◌+◌, ◌*◌, ◌<◌, ◌≤◌, ℤ, pos, Bool, true, false, List, [], if◌then◌else◌, Option, Some, None, map, length, get_or, take, drop, suc-mul, arith}
+use Rattle.std.proofs.Common.{◌≡◌, refl, sym, ap, subst, ◌∙◌, ℕ, zero, suc, ◌+◌, ◌*◌, ◌<◌, ◌≤◌, ℤ, pos, Bool, true, false, List, [], if◌then◌else◌, Ok, Option, Some, None, OnSome, IfNone, map, length, get_or, take, drop, suc-mul, arith}
 use Rattle.std.{specs.Int.{Width}}
 use Rattle.zf_spec.{specs.Grid.{product, upto, blocks, extent_of, raster, coordinates, is_inside}, specs.Stream.{to_bits}}
 use Rattle.zf_spec.{proofs.Counting.{get_or-map-upto}, proofs.Raster.{coordinates-raster, raster_below}}
 use Rattle.zf_base.{specs.Places.{block_number, place_of}, proofs.Places.{IsAt-position}, specs.Widths.{width_of}, proofs.Extents.{length-extent_of}}
 use Rattle.zf_bits.specs.Reader.{Reader, rest}
 use Rattle.zf_header.{specs.declared.header.Header.{Header}, specs.declared.header.Mode.TheVariants.{Rate}, specs.HeaderBits.{header_bits, block_bits}}
-use Rattle.zf_parse.{specs.Parsing.{read_code, longest_code, values_of_blocks}, specs.ReadStreams.{ReadsCode, LacksCode}}
+use Rattle.zf_parse.{specs.Parsing.{Said, parse, read_code, longest_code, values_of_blocks}, specs.ReadStreams.{ReadsCode, LacksCode}}
 use Rattle.zf_parse.proofs.Excerpts.{cut_told}
 use Rattle.zf_index.{specs.Spans.{Index, place, len_at, codes_in}, proofs.Places.{place-le, ends_within}, proofs.Read.{read_parts}}
 use Rattle.zf_index.specs.Files.{IsIndexOf, found, block_read, len_read, blocks_found}
-use Rattle.zf_part.specs.Blocks.{IsBlockOf, code_place}
+use Rattle.zf_part.{specs.Blocks.{IsBlockOf, code_place}, specs.Readings.{place_in, AreRight}}
+use Rattle.zf_part.{specs.declared.places.Places.{Places}, specs.declared.places.Places.TheVariants.{Own, Lent}}
 
 nothing : {A : Type 0} {a : A} → None ≡ Some a → ⊥
 nothing e = absurd cc
@@ -61,6 +62,47 @@ module _ (bytes : List ℕ) (h : Header) (i : Index) (is : IsIndexOf bytes h i) 
               ∙ ap (λ k. get_or (f k) (place_of ps) (pos 0)) (sym at)
               ∙ sym (value_there h.shape ps f (length i.lens) is.count there.dims there.inside);
         }
+
+-- ---- over places that may be right
+
+record Begins (bytes : List ℕ) (h : Header) (b at : ℕ) : Type 0 where
+  index : Index
+  is : IsIndexOf bytes h index
+  at_is : at ≡ place index b
+
+begins : (bytes : List ℕ) (h : Header) (b : ℕ) → b < blocks h.shape → (p : Places) → AreRight bytes h p → Begins bytes h b (place_in p b)
+begins bytes h b below (Own index) right = record { index = index; is = right; at_is = refl }
+begins bytes h b below (Lent places) right = record { index = right.index; is = right.is; at_is = right.each b below }
+
+-- and what is said
+pub right_said : (bytes : List ℕ) (h : Header) (p : Places) → AreRight bytes h p → (said : Said) × (parse bytes ≡ Ok said)
+right_said bytes h (Own index) right = (_, right.said)
+right_said bytes h (Lent places) right = (_, right.is.said)
+
+module _ (bytes : List ℕ) (h : Header) (b : ℕ) (below : b < blocks h.shape) (p : Places) (at : ℕ) (at_is : at ≡ place_in p b) where
+  here : AreRight bytes h p → Begins bytes h b at
+  here right = subst (Begins bytes h b) (sym at_is) (begins bytes h b below p right)
+
+  pub right_within : AreRight bytes h p → at ≤ length (to_bits bytes)
+  right_within right = let it = here right in omega (arith, it.at_is, within bytes h it.index it.is b below)
+
+  module _ (r : Reader) (m : ℕ) (enough : longest_code h ≤ m) (left : rest r ≡ take m (drop at (to_bits bytes))) (w : Width) (same : w ≡ width_of h.ty) (o : Option (Unit {0})) where
+    left_there : (right : AreRight bytes h p) → rest r ≡ take m (drop (place (here right).index b) (to_bits bytes))
+    left_there right = left ∙ ap (λ k. take m (drop k (to_bits bytes))) (here right).at_is
+
+    pub right_none : IfNone o (LacksCode w h.mode (length h.shape) r) → IfNone o (AreRight bytes h p → ⊥)
+    right_none lacks = by o lacks
+      where
+        by : (o : Option (Unit {0})) → IfNone o (LacksCode w h.mode (length h.shape) r) → IfNone o (AreRight bytes h p → ⊥)
+        by None lacks = λ right. not_none bytes h (here right).index (here right).is b below r m enough (left_there right) w same lacks
+        by (Some done) lacks = tt
+
+    pub right_block : (new : Reader) (block : List ℤ) → OnSome o (ReadsCode w h.mode (length h.shape) r new block) → OnSome o (AreRight bytes h p → IsBlockOf bytes h b block)
+    right_block new block reads = by o reads
+      where
+        by : (o : Option (Unit {0})) → OnSome o (ReadsCode w h.mode (length h.shape) r new block) → OnSome o (AreRight bytes h p → IsBlockOf bytes h b block)
+        by None reads = tt
+        by (Some done) reads = λ right. block_is bytes h (here right).index (here right).is b below r m enough (left_there right) w same new block reads
 
 -- ---- at a rate
 

@@ -1,6 +1,7 @@
 //! Blocks of a stream.
 
 ghost use Rattle.std.specs.Prelude.{◌≡◌, ◌<◌, ◌*◌, ◌^◌, All, map, length, IfErr, OnOk};
+ghost use Rattle.std.specs.Prelude.{OnSome, IfNone};
 ghost use Rattle.zf_spec.specs.Grid.{blocks};
 ghost use Rattle.zf_base.specs.Widths.{width_of};
 ghost use Rattle.zf_header.specs.HeaderBits.{IsRate};
@@ -8,13 +9,16 @@ ghost use Rattle.zf_parse.specs.Parsing.{parse};
 ghost use Rattle.zf_parse.specs.ReadStreams.{IsFault};
 ghost use Rattle.zf_index.specs.Files.{HasHeader, stream_fault};
 ghost use Rattle.zf_part.specs.Blocks.{IsBlockOf, AreBlocksOf, IsWritten};
+ghost use Rattle.zf_part.specs.Places.{ArePlacesOf, IsPlaceFault};
+ghost use Rattle.zf_part.specs.Readings.{IsReading, AreRight};
 
+use crate::places::PlaceFault;
 use crate::put::put_run;
-use crate::reading::{begin, read};
+use crate::reading::{Reading, begin, begin_at, read};
 use std::alloc::Global;
 use zf_base::{Lane, block_len};
 use zf_bits::BitWriter;
-use zf_block::Scratch;
+use zf_block::{Dims, Scratch};
 use zf_header::{Header, Mode};
 use zf_index::{IndexFault, Verbatim};
 
@@ -37,7 +41,9 @@ pub fn read_block<T: Lane>(
     ensures fault { IfErr result (λ e. IsFault (parse stream.now) (stream_fault e)) }
 {
     let mut reading = begin::<T>(alloc, h, stream)?;
-    read(&mut reading, h, stream, b, block);
+    let Some(()) = read(&mut reading, h, stream, b, block) else {
+        unreachable!()
+    };
     Ok(())
 }
 
@@ -58,12 +64,59 @@ pub fn read_blocks<T: Lane>(
     ensures fault { IfErr result (λ e. IsFault (parse stream.now) (stream_fault e)) }
 {
     let mut reading = begin::<T>(alloc, h, stream)?;
+    let Some(()) = read_all(&mut reading, h, stream, list, values) else {
+        unreachable!()
+    };
+    Ok(())
+}
+
+/// The same over the places that `write_places` wrote for this stream: of the stream only the codes of these
+/// blocks are looked at. Over other places the values mean nothing, or `Foreign` is answered.
+pub fn read_blocks_at<T: Lane>(
+    alloc: Global,
+    h: &Header,
+    stream: &[u8],
+    places: &[u64],
+    list: &[u64],
+    values: &mut [T],
+) -> Result<(), PlaceFault>
+    requires header { HasHeader stream.now h.now }
+    requires same_type { T.width ≡ width_of h.now.ty }
+    requires in_array { All (λ b. b < blocks h.now.shape) list.now }
+    requires whole { length values.old ≡ length list.now * 4 ^ length h.now.shape }
+    ensures blocks { OnOk result (ArePlacesOf stream.now h.now places.now
+        → AreBlocksOf stream.now h.now list.now (map T.value values.new)) }
+    ensures fault { IfErr result (IsPlaceFault stream.now h.now places.now) }
+{
+    let mut reading = begin_at::<T>(alloc, h, places)?;
+    let Some(()) = read_all(&mut reading, h, stream, list, values) else {
+        return Err(PlaceFault::Foreign);
+    };
+    Ok(())
+}
+
+// The blocks of a list, or `None` where a code is not at its place.
+fn read_all<T: Lane>(
+    reading: &mut Reading<'_>,
+    h: &Header,
+    stream: &[u8],
+    list: &[u64],
+    values: &mut [T],
+) -> Option<()>
+    requires reading { IsReading h.now reading.old }
+    requires same_type { T.width ≡ width_of h.now.ty }
+    requires in_array { All (λ b. b < blocks h.now.shape) list.now }
+    requires whole { length values.old ≡ length list.now * 4 ^ length h.now.shape }
+    ensures blocks { OnSome result (AreRight stream.now h.now reading.old.places
+        → AreBlocksOf stream.now h.now list.now (map T.value values.new)) }
+    ensures none { IfNone result (AreRight stream.now h.now reading.old.places → ⊥) }
+{
     let size = block_len(h.shape.dims());
     for k in 0..list.len() {
         let at = k * size;
-        read(&mut reading, h, stream, list[k], &mut values[at..at + size]);
+        read(reading, h, stream, list[k], &mut values[at..at + size])?;
     }
-    Ok(())
+    Some(())
 }
 
 /// Makes the code of block `b` of a stream at a rate that of these values, x fastest; those that do not exist
@@ -88,8 +141,8 @@ pub fn write_block<T: Lane>(
         unreachable!()
     };
     let index = Verbatim::build(alloc, h, stream)?;
-    let d = h.shape.dims();
-    let mut room = Scratch::new(alloc, d)?;
+    let d = Dims::new(h.shape.dims());
+    let mut room = Scratch::new(alloc)?;
     let mut code = BitWriter::new(alloc);
     code.reserve(u64::from(bits))?;
     let e = h.shape.extent(b);

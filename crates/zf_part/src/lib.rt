@@ -3,9 +3,11 @@
 #![tactic(auto)]
 
 mod block;
+mod places;
 mod put;
 mod reading;
 mod window;
 
-pub use block::{read_block, read_blocks, write_block};
-pub use window::read_window;
+pub use block::{read_block, read_blocks, read_blocks_at, write_block};
+pub use places::{PlaceFault, write_places};
+pub use window::{read_window, read_window_at};

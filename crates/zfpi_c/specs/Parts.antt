@@ -11,6 +11,7 @@ use Rattle.zf_header.specs.declared.header.Header.{Header}
 use Rattle.zf_header.specs.HeaderBits.{IsRate}
 use Rattle.zf_header.specs.HeaderFaults.{header_fault}
 use Rattle.zf_part.specs.Blocks.{AreBlocksOf, IsWritten}
+use Rattle.zf_part.specs.Places.{ArePlacesOf}
 use Rattle.zf_part.specs.Windows.{IsWindowOf}
 use Rattle.zfpi_c.specs.declared.parts.Axes.{Axes}
 use Rattle.zfpi_c.specs.declared.status.Status.{Status}
@@ -86,6 +87,44 @@ pub record ReadsWindow (h : Header) (stream : List ℕ) (w : Window) (text : Lis
 abbrev pub LacksWindow : Header → List ℕ → Window → ℕ → Status → Type 0
 LacksWindow h stream w room =
     Lacks stream (IsSome (view_fault h.shape w)) (product w.size * byte_len (width_of h.ty)) room
+
+-- ---- over an index
+
+-- so many bytes of a part that lies in the array, which are its own where the places are those of the stream
+pub record ReadsOver (Right Lies : Type 0) (Is : List ℕ → Type 0) (count : ℕ) (text : List ℕ) : Type 0 where
+  pub lies : Lies
+  pub count_is : length text ≡ count
+  pub are : Right → Is text
+
+-- why a part is not read: nothing of the stream is looked at but what is read, so it is not refused as a whole; but
+-- where the places are not those of the stream, that may be seen
+abbrev pub LacksOver : Type 0 → List ℕ → Type 0 → ℕ → ℕ → Status → Type 0
+LacksOver Right stream Missing needed room statuses.Memory = Unit {0}
+LacksOver Right stream Missing needed room statuses.Header = IsSome (header_fault stream)
+LacksOver Right stream Missing needed room statuses.Part = (header_fault stream ≡ None) × Missing
+LacksOver Right stream Missing needed room statuses.Room = (header_fault stream ≡ None) × (room < needed)
+LacksOver Right stream Missing needed room statuses.Index = (header_fault stream ≡ None) × (Right → ⊥)
+LacksOver Right stream Missing needed room status = ⊥
+
+abbrev pub ReadsBlocksAt : Header → List ℕ → List ℕ → List ℕ → List ℕ → Type 0
+ReadsBlocksAt h stream places list = ReadsOver (ArePlacesOf stream h places) (All (λ b. b < blocks h.shape) list)
+    (ReadsBlocks h stream list) (length list * block_bytes h)
+
+abbrev pub LacksBlocksAt : Header → List ℕ → List ℕ → List ℕ → ℕ → Status → Type 0
+LacksBlocksAt h stream places list room =
+    LacksOver (ArePlacesOf stream h places) stream (IsMissing h.shape list) (length list * block_bytes h) room
+
+-- how many raw bytes a window has
+abbrev pub window_bytes : Header → Window → ℕ
+window_bytes h w = product w.size * byte_len (width_of h.ty)
+
+abbrev pub ReadsWindowAt : Header → List ℕ → List ℕ → Window → List ℕ → Type 0
+ReadsWindowAt h stream places w = ReadsOver (ArePlacesOf stream h places) (LiesIn h.shape w) (ReadsWindow h stream w)
+    (window_bytes h w)
+
+abbrev pub LacksWindowAt : Header → List ℕ → List ℕ → Window → ℕ → Status → Type 0
+LacksWindowAt h stream places w room =
+    LacksOver (ArePlacesOf stream h places) stream (IsSome (view_fault h.shape w)) (window_bytes h w) room
 
 -- ---- a block that is written
 

@@ -5,8 +5,10 @@ use Rattle.zf_parse.specs.declared.fault.StreamFault.{StreamFault}
 use Rattle.zf_parse.specs.declared.fault.StreamFault.TheVariants as faults
 use Rattle.zf_narrow.specs.declared.fault.NarrowFault.{NarrowFault}
 use Rattle.zf_narrow.specs.declared.fault.NarrowFault.TheVariants as narrow
+use Rattle.zf_part.specs.declared.places.PlaceFault.{PlaceFault}
+use Rattle.zf_part.specs.declared.places.PlaceFault.TheVariants as places
 use Rattle.zfpi_c.specs.declared.status.Status.{Status}
-use Rattle.zfpi_c.specs.declared.status.Status.TheVariants.{Scalar, Shape, Mode, RawShort, RawLong, Room, Memory, Header, Truncated, Pad, Trailing, NotNarrow, Part, Device}
+use Rattle.zfpi_c.specs.declared.status.Status.TheVariants.{Scalar, Shape, Mode, RawShort, RawLong, Room, Memory, Header, Truncated, Pad, Trailing, NotNarrow, Part, Index, Device}
 
 abbrev pub code_of : Status → ℕ
 code_of Scalar = 1
@@ -22,7 +24,8 @@ code_of Pad = 10
 code_of Trailing = 11
 code_of NotNarrow = 12
 code_of Part = 13
-code_of Device = 14
+code_of Index = 14
+code_of Device = 15
 
 abbrev pub of_stream : StreamFault → Status
 of_stream (faults.RawShort n) = RawShort
@@ -38,6 +41,10 @@ of_stream faults.Memory = Memory
 abbrev pub of_narrow : NarrowFault → Status
 of_narrow (narrow.Stream e) = of_stream e
 of_narrow narrow.NotNarrow = NotNarrow
+
+abbrev pub of_places : PlaceFault → Status
+of_places places.Foreign = Index
+of_places places.Memory = Memory
 
 -- the answer, with a fault as its status
 abbrev pub as_status : {E : Type 0} → (E → Status) → Result (Unit {0}) E → Result (Unit {0}) Status

@@ -20,12 +20,12 @@ use zf_lent::{compress_into, compress_narrow_into, restore_into, restore_narrow_
 use zf_stream::{StreamFault, most_bytes};
 
 // The version: 10000 times the first number, 100 times the second, and the third.
-const VERSION: u32 = 10_000;
+const VERSION: u32 = 10_100;
 
-/// The version of the library, 10000 for 1.0.0.
+/// The version of the library, 10100 for 1.1.0.
 #[unsafe(no_mangle)]
 pub extern "C" fn zfpi_version() -> u32
-    ensures { result ≡ 10000 }
+    ensures { result ≡ 10100 }
 {
     VERSION
 }

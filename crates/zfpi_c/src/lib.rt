@@ -4,6 +4,7 @@
 
 mod calls;
 mod fields;
+mod over;
 mod parts;
 mod status;
 mod values;

@@ -82,7 +82,7 @@ fn read_list(alloc: Global, stream: &[u8], list: &[u64], out: &mut [u8]) -> Resu
 }
 
 // Whether all of a list are blocks of an array of this shape.
-fn has_all(shape: &Shape, list: &[u64]) -> bool
+pub(crate) fn has_all(shape: &Shape, list: &[u64]) -> bool
     ensures all { IsTrue result → All (λ b. b < blocks shape.now) list.now }
     ensures missing { ¬ IsTrue result → IsMissing shape.now list.now }
 {
@@ -122,7 +122,7 @@ fn list_of<T: Lane>(
 }
 
 // Whether so many things of `size` bytes have room.
-fn has_room(count: usize, size: usize, room: usize) -> bool
+pub(crate) fn has_room(count: usize, size: usize, room: usize) -> bool
     requires some { 0 < size }
     ensures { IsTrue result ↔ count * size ≤ room }
 {
@@ -178,7 +178,7 @@ fn read_part(
 }
 
 // The window of an array of this shape that is asked for.
-fn window_of(shape: &Shape, origin: &Axes, size: &Axes) -> Result<Window, ViewFault>
+pub(crate) fn window_of(shape: &Shape, origin: &Axes, size: &Axes) -> Result<Window, ViewFault>
     ensures window { IfOk result (λ w. w ≡ asked shape.now origin.now size.now) }
     ensures lies { IfOk result (LiesIn shape.now) }
     ensures fault { IfErr result (λ f. view_fault shape.now (asked shape.now origin.now size.now) ≡ Some f) }

@@ -6,6 +6,7 @@ ghost use Rattle.zfpi_c.specs.Statuses.{code_of};
 use std::alloc::AllocError;
 use zf_index::IndexFault;
 use zf_narrow::NarrowFault;
+use zf_part::PlaceFault;
 use zf_stream::StreamFault;
 
 /// Why a call did not do what it was asked.
@@ -37,6 +38,8 @@ pub(crate) enum Status {
     NotNarrow,
     /// The array has no such block or window.
     Part,
+    /// The places are not those of this stream.
+    Index,
     /// A device failed. Lent memory is none, so no call answers this.
     Device,
 }
@@ -60,7 +63,8 @@ impl Status {
             Status::Trailing => 11,
             Status::NotNarrow => 12,
             Status::Part => 13,
-            Status::Device => 14,
+            Status::Index => 14,
+            Status::Device => 15,
         }
     }
 }
@@ -113,6 +117,20 @@ impl From<IndexFault> for Status {
             IndexFault::Pad => Status::Pad,
             IndexFault::Trailing => Status::Trailing,
             IndexFault::Memory => Status::Memory,
+        }
+    }
+}
+
+impl From<PlaceFault> for Status {
+    ghost use Rattle.std.specs.Prelude.{◌≡◌};
+    ghost use Rattle.zfpi_c.specs.Statuses.{of_places};
+
+    ghost from_gives = { λ fault status. status ≡ of_places fault };
+
+    fn from(fault: PlaceFault) -> Status {
+        match fault {
+            PlaceFault::Foreign => Status::Index,
+            PlaceFault::Memory => Status::Memory,
         }
     }
 }

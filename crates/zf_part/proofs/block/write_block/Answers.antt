@@ -41,8 +41,8 @@ put_run-requires-clause-code g c =
 
 pub returns-clause-block : goal.returns-clause-block
 returns-clause-block g c =
-    let es = used_axes c.dims-d.result c.extent-e.result.size in
-    let at : es ≡ extent_of c.args.h.now.shape c.args.b = ap (λ d. used_axes d c.extent-e.result.size) c.dims-d.ensures.value ∙ c.extent-e.ensures.used_size in
+    let es = used_axes c.new-d.result.count c.extent-e.result.size in
+    let at : es ≡ extent_of c.args.h.now.shape c.args.b = ap (λ d. used_axes d c.extent-e.result.size) (c.new-d.ensures ∙ c.dims.ensures.value) ∙ c.extent-e.ensures.used_size in
     let is = code_is _ _ _ c.encode_rate.ensures.code.bits (writer_bits _ c.new-code.result c.in_ok-reserve.ensures.bits c.new-code.ensures) in
     let values = map g.T.Lane.value c.args.block.now in
     let meant = is ∙ code_means c.args.h.now c.args.b values c.in-Rate.bits c.in-Rate.is g.T.Lane.width es c.requires.same_type at in
