@@ -6,9 +6,9 @@
 #     ./install.sh [FOLDER]
 #
 # FOLDER is where bin, lib, include and share are, by default ~/.local. It needs `rt`, Python 3.10, and for
-# the library cc and objcopy. The library is built for this processor; for all of them where ZFPI_CPU=x86-64
-# is set. The proofs run in a folder of their own, which goes at the end, and without planted bugs and tests,
-# which `rt ci` tries at the top of the repository. FOLDER/share/zfpi/installed lists what was installed.
+# the library cc and objcopy. Both are built for this processor; for all of them where ZFPI_CPU=x86-64 is set.
+# The proofs run in a folder of their own, which goes at the end, and without planted bugs and tests, which
+# `rt ci` tries at the top of the repository. FOLDER/share/zfpi/installed lists what was installed.
 set -eu
 
 lacks() { echo "install.sh: $1" >&2; exit 2; }
@@ -44,17 +44,34 @@ ended() {
     exit 0
 }
 
-python3 "$top/examples/take_crates.py" "$room" zfpi zfpi_c
+cpu=${ZFPI_CPU:-x86-64-v3}
+for feature in avx2 bmi1 bmi2 fma f16c movbe abm; do
+    grep -qw "$feature" /proc/cpuinfo || cpu=x86-64
+done
+flag="--cpu $cpu"
+[ "$cpu" != x86-64 ] || flag=
+jobs=$(nproc)
+[ "$jobs" -le 4 ] || jobs=4
+
+# Ends with what a step has said, where it went wrong.
+failed() { tail -n 40 "$1"; exit 1; }
+
+# All that the program and the library stand on is proved once, for every processor. They are the two crates that
+# are built for one: each is proved as it is built.
+below=$(sed -n 's/^zfpi: //p; s/^zfpi_c staticlib: //p' "$top/crates.txt" | tr ' ' '\n' | grep '^zf' | sort -u)
+# shellcheck disable=SC2086 # a name each
+python3 "$top/examples/take_crates.py" "$room" $below
 cp "$top/HANDLES" "$room"
 cp -r "$top/capi" "$top/bench" "$room"
 echo "proving in $room"
 (cd "$room" && rt ci) 2>&1 | tee "$room/log" | grep '^rt: .* proved$' || true
-if ! tail -n 1 "$room/log" | grep ' 0 failed$'; then
-    tail -n 40 "$room/log"
-    exit 1
-fi
+tail -n 1 "$room/log" | grep ' 0 failed$' || failed "$room/log"
+python3 "$top/examples/take_crates.py" "$room" zfpi zfpi_c > /dev/null
+# shellcheck disable=SC2086 # no word for the processor that is the default
+python3 "$room/bench/over.py" "$room" program zfpi --jobs "$jobs" $flag > "$room/log" 2>&1 || failed "$room/log"
+echo "zfpi proved, and built for $cpu"
 
-put 755 "$room/crates/zfpi/out/zfpi" bin/zfpi
+put 755 "$room/crates/zfpi/out/over/zfpi" bin/zfpi
 put 644 "$top/docs/zfpi.1" share/man/man1/zfpi.1
 put 644 "$top/docs/zfpi.bash" share/bash-completion/completions/zfpi
 put 644 "$top/docs/_zfpi" share/zsh/site-functions/_zfpi
@@ -65,17 +82,8 @@ if ! command -v cc > /dev/null || ! command -v objcopy > /dev/null; then
     echo 'left out: the library, since there is no cc, or no objcopy'
     ended
 fi
-cpu=${ZFPI_CPU:-x86-64-v3}
-for feature in avx2 bmi1 bmi2 fma f16c movbe abm; do
-    grep -qw "$feature" /proc/cpuinfo || cpu=x86-64
-done
-flag="--cpu $cpu"
-[ "$cpu" != x86-64 ] || flag=
 # shellcheck disable=SC2086 # no word for the processor that is the default
-if ! "$room/capi/build.sh" "$room" "$room/made" $flag > "$room/library.log" 2>&1; then
-    tail -n 40 "$room/library.log"
-    exit 1
-fi
+"$room/capi/build.sh" "$room" "$room/made" --jobs "$jobs" $flag > "$room/log" 2>&1 || failed "$room/log"
 
 put 644 "$room/made/libzfpi.a" lib/libzfpi.a
 put 755 "$room/made/libzfpi.so.1" lib/libzfpi.so.1

@@ -6,7 +6,7 @@
     python3 bench/over.py BUILT library NAME [FLAG..]    proves it, and keeps its statements for the crates above it
     python3 bench/over.py BUILT program NAME [FLAG..]    proves a program and links it: crates/NAME/out/over/NAME
     python3 bench/over.py BUILT archive NAME [FLAG..]    proves a static library and builds it: crates/NAME/out/over/libNAME.a;
-                                                         --cpu x86-64-v3 for processors with AVX2
+                                                         both take --cpu x86-64-v3, for processors with AVX2
 
 BUILT is the top of a clone in which `rt ci` has proved the crates below: it leaves their statements in crates/*/out/rlib. What
 `library` has made in this clone counts in place of those. One job, unless FLAG says another. It gives no verdict: `rt ci` does.
@@ -99,9 +99,11 @@ class Crate:
 
     def program(self, flags):
         made, tools = self.over / self.name, ["--toolchain", f"{self.kit}/toolchain"]
+        # code is made for the processor that the crate was checked for
+        cpu = flags[flags.index("--cpu") :][:2] if "--cpu" in flags else []
         with tempfile.TemporaryDirectory() as room:
             status = self.rattle("check", *self.checked(flags), "-o", f"{room}/checked")
-            status = status or self.rattle("build", "--crate-checked", f"{room}/checked", *tools, "--backend", "llvm", "-o", f"{made}.o")
+            status = status or self.rattle("build", "--crate-checked", f"{room}/checked", *tools, *cpu, "--backend", "llvm", "-o", f"{made}.o")
         libraries = [f"{self.kit}/c/libos_c.a", f"{self.kit}/c/liblibc_c.a"]
         words = ["--target", TRIPLE, *tools, "-o", str(made), f"{made}.o", *libraries]
         return status or subprocess.run([f"{self.kit}/bin/rattle-link", *words], check=False).returncode
