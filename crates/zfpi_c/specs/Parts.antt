@@ -90,6 +90,11 @@ LacksWindow h stream w room =
 
 -- ---- over an index
 
+-- these are the places of the blocks of a stream, one of each and no more
+pub record WritesIndex (h : Header) (stream text : List ℕ) : Type 0 where
+  pub count : length text ≡ blocks h.shape
+  pub are : ArePlacesOf stream h text
+
 -- so many bytes of a part that lies in the array, which are its own where the places are those of the stream
 pub record ReadsOver (Right Lies : Type 0) (Is : List ℕ → Type 0) (count : ℕ) (text : List ℕ) : Type 0 where
   pub lies : Lies

@@ -6,8 +6,7 @@ ghost use Rattle.zf_base.specs.Widths.{width_of};
 ghost use Rattle.zf_cached.specs.Windows.{LiesIn};
 ghost use Rattle.zf_parse.specs.Parsing.{header_of};
 ghost use Rattle.zf_index.specs.Files.{HasHeader};
-ghost use Rattle.zf_part.specs.Places.{ArePlacesOf};
-ghost use Rattle.zfpi_c.specs.Parts.{EndsPart, Wrote, Lacks, asked};
+ghost use Rattle.zfpi_c.specs.Parts.{EndsPart, Wrote, Lacks, WritesIndex, asked};
 ghost use Rattle.zfpi_c.specs.Parts.{ReadsBlocksAt, LacksBlocksAt, ReadsWindowAt, LacksWindowAt};
 
 use crate::parts::{Axes, has_all, has_room, window_of};
@@ -23,7 +22,7 @@ use zf_window::Window;
 /// them stays.
 #[unsafe(no_mangle)]
 pub extern "C" fn zfpi_index(alloc: Global, stream: &[u8], places: &mut [u64]) -> u32
-    ensures { EndsPart (ArePlacesOf stream.now (header_of stream.now))
+    ensures { EndsPart (WritesIndex (header_of stream.now) stream.now)
         (Lacks stream.now ⊥ (blocks (header_of stream.now).shape) (length places.old))
         places.old places.new result }
 {
@@ -34,7 +33,7 @@ pub extern "C" fn zfpi_index(alloc: Global, stream: &[u8], places: &mut [u64]) -
 }
 
 fn index(alloc: Global, stream: &[u8], places: &mut [u64]) -> Result<(), Status>
-    ensures ok { OnOk result (Wrote (ArePlacesOf stream.now (header_of stream.now)) places.old places.new) }
+    ensures ok { OnOk result (Wrote (WritesIndex (header_of stream.now) stream.now) places.old places.new) }
     ensures err { IfErr result (Lacks stream.now ⊥ (blocks (header_of stream.now).shape)
         (length places.old)) }
     ensures stays { IfErr result (λ status. places.new ≡ places.old) }

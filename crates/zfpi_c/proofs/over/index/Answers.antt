@@ -7,6 +7,6 @@ returns-clause-ok c =
     let size : length c.write_places.new.places ≡ c.blocks-count.result = search (rules, length-take-le) in
     record {
       text = c.write_places.new.places;
-      is = search rules;
+      is = record { count = search (rules, size); are = search rules };
       written = ap (λ k. c.write_places.new.places ++ drop k c.args.places.now) (sym size);
     }
