@@ -1,9 +1,9 @@
 -- A list that is written in parts, as far as a budget of bits reaches.
-use Rattle.std.proofs.Common.{rules, ◌≡◌, ℕ, suc, zero, ◌+◌, ◌-◌, ◌<◌, ◌≤◌, min, Bool, List, [], ◌∷◌, ◌++◌, length, take, refl, ap, subst, arith, append_assoc, length-append}
-use Rattle.std.proofs.lemmas.List.{length-take, append-nil}
+use Rattle.std.proofs.Common.{rules, ◌≡◌, ℕ, suc, zero, ◌+◌, ◌-◌, ◌<◌, ◌≤◌, min, Bool, List, [], ◌∷◌, ◌++◌, length, take, refl, sym, ap, subst, arith, append_assoc, length-append}
+use Rattle.std.proofs.lemmas.List.{length-take, append-nil, take_all, nil_from_length}
 use Rattle.zf_spec.{specs.Numbers.{field}, proofs.Fields.{length-field}}
 use Rattle.zf_bits.specs.Writer.{Writer, Appends}
-use Rattle.zf_planes.specs.Writes.{Remains}
+use Rattle.zf_planes.specs.Writes.{Remains, Writes}
 
 pub take_append : {A : Type 0} (k : ℕ) (xs ys : List A) → take k (xs ++ ys) ≡ take k xs ++ take (k - length xs) ys
 take_append {A} zero [] ys = refl
@@ -50,22 +50,22 @@ Remains-part {old} {now} {new} {budget} {left} {after} {whole} len bits rest rem
 -- the next bit is written
 pub Remains-bit : {old now new : Writer} {budget left : ℕ} {whole : List Bool} (b : Bool) (rest : List Bool) → 0 < left → Remains old now budget left whole (b ∷ rest) → Appends now new (b ∷ [])
     → Remains old new budget (left - 1) whole rest
-Remains-bit {old} {now} {new} {budget} {left} {whole} b rest some remains appends =
-    let P : List Bool → Type 0 = λ xs. Appends now new xs in
-    Remains-more (b ∷ []) rest remains (subst P (one left some) appends)
-  where
-    one : (left : ℕ) → 0 < left → b ∷ [] ≡ take left (b ∷ [])
-    one zero some = absurd (omega arith)
-    one (suc zero) some = refl
-    one (suc (suc k)) some = refl
+Remains-bit {old} {now} {new} {budget} {left} {whole} b rest some remains appends = Remains-more (b ∷ []) rest remains (rw (take_all left (b ∷ []) some) appends)
 
 -- nothing is left of the budget, or of the list
-nothing_taken : (left : ℕ) (rest : List Bool) → min left (length rest) ≡ 0 → take left rest ≡ []
-nothing_taken (suc left) (b ∷ rest) none = absurd (omega arith)
-nothing_taken left rest none = refl
-
 pub Remains-end : {old now : Writer} {budget left : ℕ} {whole rest : List Bool} → Remains old now budget left whole rest → min left (length rest) ≡ 0 → Appends old now (take budget whole)
-Remains-end {old} {now} {budget} {left} {whole} {rest} remains none = search (rules, append-nil, nothing_taken, length-take)
+Remains-end {old} {now} {budget} {left} {whole} {rest} remains none = search (rules, append-nil, nil_from_length, length-take)
+
+-- all that remains is written
+pub Remains-all : {old now new : Writer} {budget left after : ℕ} {whole : List Bool} (rest : List Bool) → Remains old now budget left whole rest → Writes left after now new rest → Writes budget after old new whole
+Remains-all rest remains writes =
+    let ended = Remains-more rest [] (Remains-same remains (sym (append-nil rest))) writes.bits in
+    record { bits = Remains-end ended (omega arith); left = omega (arith, writes.left, remains.spent) }
+
+-- and it is the bits of a number
+pub Remains-last : {old now new : Writer} {budget left after : ℕ} {whole : List Bool} (len bits : ℕ) → Remains old now budget left whole (field len bits) → Appends now new (take left (field len bits)) → after ≡ left - len
+    → Writes budget after old new whole
+Remains-last len bits remains appends is = Remains-all _ remains (record { bits = appends; left = omega (arith, length-field len bits) })
 
 -- a part of the rest is written but for its end
 pub Remains-through : {old now new : Writer} {budget left after : ℕ} {whole : List Bool} (code rest more : List Bool) → Remains old now budget left whole (code ++ more) → Remains now new left after code rest

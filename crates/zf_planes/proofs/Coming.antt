@@ -1,27 +1,18 @@
 -- Planes that come one behind another, from state to state.
-use Rattle.std.proofs.Common.{◌≡◌, ℕ, zero, suc, ◌⊎◌, ◌++◌, ◌+◌, ◌-◌, ◌<◌, ◌≤◌, max, Bool, false, List, [], ◌∷◌, length, take, drop, replicate, refl, sym, ap, subst, ◌∙◌, arith}
+use Rattle.std.proofs.Common.{◌≡◌, ℕ, zero, suc, ◌⊎◌, ◌++◌, ◌+◌, ◌-◌, ◌<◌, ◌≤◌, max, Bool, false, List, [], ◌∷◌, length, take, drop, replicate, refl, sym, ap, subst, ◌∙◌, arith, rules}
 use Rattle.std.{proofs.lemmas.List.Elements.{All-head, All-tail, All-replicate}}
 use Rattle.std.proofs.lemmas.List.{append_assoc, append-nil, length-append, length-take, drop-take, drop-drop, take-take, take_at, drop_at, length-replicate}
 use Rattle.zf_spec.specs.Planes.{reach, reach_of_all, plane_code, code_from, AreOfSize}
 use Rattle.zf_spec.proofs.Reach.{reach_within, reach_none, has_one-zeros}
 use Rattle.zf_bits.specs.Reader.{rest}
 use Rattle.zf_planes.{specs.Decoding.{Takes, plane_ahead, plane_bits, planes_ahead, IsSpent}, proofs.PlaneAhead.{whole_plane}}
-use Rattle.zf_planes.proofs.PlanesAhead.{next_plane, one_bits-le, planes_ahead-none, planes_bits-none, planes_over}
+use Rattle.zf_planes.proofs.PlanesAhead.{next_plane, one_bits-le, planes_none, planes_over}
 use Rattle.zf_planes.{specs.States.{State, to_come, bits_to_come, Lack, Comes}, proofs.Passing.{long, Takes-rest}, proofs.Zeros.{zero_code}}
 
 -- ---- one behind another
 
 pub comes_none : {size : ℕ} {s t : State} (planes : List (List Bool)) → t.above ≡ s.above → Takes s.reader t.reader s.left t.left 0 → Comes size 0 s planes t planes
-comes_none {size} {s} {t} planes above takes =
-    let left : t.left ≡ s.left = omega (arith, takes.spent) in
-    let none : s.left - t.left ≡ 0 = omega (arith, takes.spent) in
-    record {
-      planes = λ p q e. let same : p ≡ q = omega (arith, e) in rw (same, Takes-rest takes, left, above) refl;
-      bits = λ p q e. let same : p ≡ q = omega (arith, e) in rw (none, same, Takes-rest takes, left, above) (omega arith);
-      passed = rw none takes;
-      risen = omega arith;
-      ranks = λ within. rw above within;
-    }
+comes_none {size} {s} {t} planes above takes = search rules
 
 pub comes_then : {size m n : ℕ} {s t u : State} {a b c : List (List Bool)} → Comes size m s a t b → Comes size n t b u c → Comes size (m + n) s a u c
 comes_then {size} {m} {n} {s} {t} {u} {a} {b} {c} one two =
@@ -40,26 +31,11 @@ comes_then {size} {m} {n} {s} {t} {u} {a} {b} {c} one two =
 
 -- to a state that is the same
 pub comes_there : {size n : ℕ} {s t u : State} {a b : List (List Bool)} → Comes size n s a t b → u.above ≡ t.above → Takes s.reader u.reader s.left u.left (s.left - t.left) → Comes size n s a u b
-comes_there {size} {n} {s} {t} {u} one above takes =
-    let left : u.left ≡ t.left = omega (arith, takes.spent, one.passed.spent) in
-    let place : rest u.reader ≡ rest t.reader = Takes-rest takes ∙ sym (Takes-rest one.passed) in
-    record {
-      planes = λ p q e. rw (left, above, place) (one.planes p q e);
-      bits = λ p q e. rw (left, above, place) (one.bits p q e);
-      passed = rw (← left) at takes;
-      risen = omega (arith, one.risen);
-      ranks = λ within. rw above (one.ranks within);
-    }
+comes_there {size} {n} {s} {t} {u} one above takes = search rules
 
 -- behind planes before them
 pub comes_behind : {size n : ℕ} {s t : State} {after : List (List Bool)} (before : List (List Bool)) → Comes size n s [] t after → Comes size n s before t (before ++ after)
-comes_behind {size} {n} {s} {t} {after} before one = record {
-  planes = λ p q e. ap (λ (ps : List (List Bool)). before ++ ps) (one.planes p q e) ∙ sym (append_assoc before after (to_come size q t));
-  bits = one.bits;
-  passed = one.passed;
-  risen = one.risen;
-  ranks = one.ranks;
-}
+comes_behind {size} {n} {s} {t} {after} before one = search (rules, append_assoc)
 
 -- what lacks behind them lacks in all
 pub comes_lack : {size n : ℕ} {s t : State} {a b : List (List Bool)} (p q : ℕ) → Comes size n s a t b → n + q ≡ p → Lack size q t → Lack size p s
@@ -117,8 +93,8 @@ next_come {size} {s} {t} ds planes c k len some within full is bits few takes be
 pub all_come : (c size len : ℕ) (s t : State) (planes : List (List Bool)) → 1 ≤ size → s.above ≤ size → AreOfSize size planes → to_come size c s ≡ planes → bits_to_come size c s ≡ len
     → t.above ≡ max s.above (reach_of_all planes) → Takes s.reader t.reader s.left t.left len → Comes size c s [] t planes
 all_come zero size len s t [] some within sizes is bits reached takes =
-    let none : len ≡ 0 = omega (arith, bits, planes_bits-none s.left size s.above (rest s.reader)) in comes_none [] (omega (arith, reached)) (rw none at takes)
-all_come zero size len s t (ds ∷ planes) some within sizes is bits reached takes = let none = sym (planes_ahead-none s.left size s.above (rest s.reader)) ∙ is in cc
+    let none : len ≡ 0 = omega (arith, bits, planes_none s.left size s.above (rest s.reader)) in comes_none [] (omega (arith, reached)) (rw none at takes)
+all_come zero size len s t (ds ∷ planes) some within sizes is bits reached takes = let none = sym (planes_none s.left size s.above (rest s.reader)).1 ∙ is in cc
 all_come (suc c) size len s t [] some within sizes is bits reached takes = absurd (not_none s.left c size s.above (rest s.reader) is)
 all_come (suc c) size len s t (ds ∷ planes) some within sizes is bits reached takes =
     let full : length ds ≡ size = All-head (λ es. length es ≡ size) ds planes sizes in
@@ -167,12 +143,7 @@ zeros_come size k s t some none low zeros takes =
 pub comes_over : {size i : ℕ} {s t : State} {planes : List (List Bool)} (p : ℕ) → 1 ≤ size → s.above ≤ size → Comes size i s [] t planes → i ≤ p → (t.left ≡ 0) ⊎ (p - i ≡ 0)
     → IsSpent s.left t.left (bits_to_come size p s) (rest s.reader) × (to_come size p s ≡ planes ++ replicate (p - i) (replicate size false))
 comes_over {size} {i} {s} {t} {planes} p some within comes below none =
-    let over = planes_over t.left (p - i) size t.above (rest t.reader) some (comes.ranks within) none in
-    let parts : i + (p - i) ≡ p = omega arith in
-    let bits = comes.bits p (p - i) parts in (
-      record { enough = omega (arith, bits, over.0, comes.passed.enough); spent = omega (arith, bits, over.0, comes.passed.spent) },
-      comes.planes p (p - i) parts ∙ ap (λ (ps : List (List Bool)). planes ++ ps) over.1,
-    )
+    let over = planes_over t.left (p - i) size t.above (rest t.reader) some (comes.ranks within) none in search rules
 
 -- where the bits of one plane are not there, those of more are not
 pub lack_of_one : (size p : ℕ) (s : State) → 0 < p → Lack size 1 s → Lack size p s

@@ -203,3 +203,6 @@ reach_in_word size end w ws some within is long zeros one fits =
 
 pub reach_none_from : (ds : List Bool) → IsZeroFrom ds 0 → 0 ≡ reach ds
 reach_none_from ds zeros = reach_only ds 0 zeros (λ k e. absurd (omega arith))
+
+-- what is known of a plane's end, word by word from the last
+pub ruleset from_the_end = (past_size, none_in_word, reach_none_from)

@@ -82,17 +82,13 @@ test_double digits e = same_digits (field (e / 65536) (e % 65536)) (doubled (fie
 test_doubles : each_below (λ digits. test_double digits (get_or DOUBLED digits 0)) 256 ≡ true
 test_doubles = refl
 
-pub record IsDouble (digits e : ℕ) : Type 0 where
-  pub bits : field (e / 65536) (e % 65536) ≡ doubled (field 8 digits)
-  pub small : e % 65536 < 2 ^ (e / 65536)
-  pub len : e / 65536 < 17
-
-pub double_of_entry : (digits e : ℕ) → digits < 256 → e ≡ get_or DOUBLED digits 0 → IsDouble digits e
-double_of_entry digits e eight is =
-    let test : test_double digits e ≡ true = ap (test_double digits) is ∙ each_below-true (λ j. test_double j (get_or DOUBLED j 0)) 256 digits test_doubles eight in
+pub double_of_entry : (digits : ℕ) → digits < 256 → let e = get_or DOUBLED digits 0 in (e / 65536 < 17) × (e % 65536 < 2 ^ (e / 65536)) × (field (e / 65536) (e % 65536) ≡ doubled (field 8 digits))
+double_of_entry digits eight =
+    let e = get_or DOUBLED digits 0 in
+    let test = each_below-true (λ j. test_double j (get_or DOUBLED j 0)) 256 digits test_doubles eight in
     let one = and_parts (same_digits (field (e / 65536) (e % 65536)) (doubled (field 8 digits))) _ test in
     let two = and_parts (ltb (e % 65536) (2 ^ (e / 65536))) _ one.1 in
-    record { bits = same_digits-true _ _ one.0; small = ltb-true _ _ two.0; len = ltb-true _ _ two.1 }
+    (ltb-true _ _ two.1, ltb-true _ _ two.0, same_digits-true _ _ one.0)
 
 -- the one of the last digit has no bit, and nothing follows it
 abbrev pub implied : ℕ → ℕ → ℕ
@@ -168,32 +164,15 @@ run_of_entry most digits e one eight within is = ⊎_elim
 -- ---- a run in a word
 
 -- eight digits, and the run goes on
-pub record RunGoesOn (most digits : ℕ) : Type 0 where
-  pub more : 8 < most
-  pub below : digits / 256 < 2 ^ (most - 8)
-  pub code : code_from_run (field most digits) ≡ doubled (field 8 (digits % 256)) ++ code_from_run (field (most - 8) (digits / 256))
-
-pub run_goes_on : (most digits : ℕ) → 255 < digits → digits < 2 ^ most → RunGoesOn most digits
+pub run_goes_on : (most digits : ℕ) → 255 < digits → digits < 2 ^ most
+    → (8 < most) × (digits / 256 < 2 ^ (most - 8)) × (code_from_run (field most digits) ≡ doubled (field 8 (digits % 256)) ++ code_from_run (field (most - 8) (digits / 256)))
 run_goes_on most digits some within =
+    let long : 8 < most = ⊎_elim (search (rules, pow-le-pow_right)) (λ (nine : 9 ≤ most). nine) (cases_lt most 9) in
     let parts : most ≡ 8 + (most - 8) = omega (arith, long) in
     let power : 2 ^ most ≡ 2 ^ 8 * 2 ^ (most - 8) = ap (λ k. 2 ^ k) parts ∙ pow-add 2 8 (most - 8) in
     let below : digits / 256 < 2 ^ (most - 8) = omega (arith, power) in
-    record {
-      more = long;
-      below = below;
-      code =
-          cc (
-            field-add 8 (most - 8) digits,
-            run_doubled (field 8 digits) (field (most - 8) (digits / 256)) (has_one-field (most - 8) (digits / 256) (omega arith) below),
-            field-mod 8 digits,
-          );
-    }
-  where
-    long : 8 < most
-    long = ⊎_elim
-        (search (rules, pow-le-pow_right))
-        (λ (nine : 9 ≤ most). omega arith)
-        (cases_lt most 9)
+    let run = run_doubled (field 8 digits) (field (most - 8) (digits / 256)) (has_one-field (most - 8) (digits / 256) (omega arith) below) in
+    (long, below, cc (field-add 8 (most - 8) digits, run, field-mod 8 digits))
 
 -- ---- a plane in a word
 

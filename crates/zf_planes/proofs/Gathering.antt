@@ -2,21 +2,18 @@
 use Rattle.std.proofs.Common.{rules, ◌≡◌, ℕ, zero, suc, false, set, replicate, refl, ◌∷◌, ◌+◌, ◌-◌, ◌*◌, ◌/◌, ◌%◌, ◌^◌, ◌<◌, ◌≤◌, ⊎_elim, min, Bool, List, ◌++◌, length, take, drop, get_or, sym, ap, ◌∙◌, arith}
 use Rattle.std.{specs.Int.Bits.{bit_or}, proofs.Math.Nat.{pow-le-pow_right, mod-le, div-eq_of_lt}}
 use Rattle.std.{proofs.Math.Seq.{take-append-add}, proofs.lemmas.Bool.{cases_lt}}
-use Rattle.std.proofs.lemmas.Nat.{or_lt, shl_below}
+use Rattle.std.proofs.lemmas.Nat.{or_lt, shl_below, mod_below, pow_pos}
 use Rattle.std.proofs.lemmas.List.{take_all, drop_at, length-append, length-replicate, replicate-append-replicate}
 use Rattle.zf_spec.{specs.Numbers.{field, word_bits}, specs.HeldPlanes.{digits_held, IsClearFrom}}
 use Rattle.zf_spec.proofs.Fields.{length-field, field-add, field-zero, field-mod}
 use Rattle.zf_spec.proofs.HeldPlanes.{length-digits_held}
 use Rattle.zf_bits.{proofs.Fields.{take-field}, proofs.Words.{field_or}}
-use Rattle.zf_planes.proofs.Digits.{field_in_word}
+use Rattle.zf_planes.{proofs.Digits.{field_in_word, masked}, proofs.Doubled.{word_prefix}}
 
 -- as many bits of a word as a budget has
 pub take_field : (left n v : ℕ) → take left (field n v) ≡ field (min left n) v
 take_field left n v = ⊎_elim
-    (λ (cut : left < n).
-    let less : min left n ≡ left = omega arith in
-    let parts : left + (n - left) ≡ n = omega arith in
-    ap (λ k. take left (field k v)) (sym parts) ∙ take-field left (n - left) v ∙ ap (λ k. field k v) (sym less))
+    (λ (cut : left < n). let less : min left n ≡ left = omega arith in rw less (word_prefix n left v (omega arith)))
     (search (rules, take_all, length-field))
     (cases_lt left n)
 
@@ -49,15 +46,14 @@ held_word size w ws is small long =
     let one : w / 2 ^ 0 ≡ w = omega arith in
     sym (take_all size (digits_held size ws) (omega (arith, length-digits_held size ws long))) ∙ sym (field_in_word size 0 size w ws is long (omega arith) (omega arith)) ∙ ap (field size) one
 
+-- what is known of a word that has all of them
+pub ruleset first_digits = (masked, field-mod, held_word, mod_below, pow_pos)
+
 -- the digits of a plane of four
 pub held_4 : (w : ℕ) (ws : List ℕ) → w ≡ get_or ws 0 0 → 4 ≤ 64 * length ws → digits_held 4 ws ≡ field 4 (w % 16)
 held_4 w ws is long = held_word 4 w ws is (omega arith) long ∙ sym (field-mod 4 w)
 
 -- ---- a plane in one word that is put in
-
-pub record Written (size n : ℕ) (ws : List ℕ) : Type 0 where
-  pub digits : digits_held size ws ≡ field size n
-  pub clear : IsClearFrom size ws
 
 zero_bits : (k : ℕ) → word_bits (replicate k 0) ≡ replicate (64 * k) false
 zero_bits zero = refl
@@ -69,7 +65,7 @@ zero_bits (suc k) =
 first_word : (k digits : ℕ) → digits < 2 ^ 64 → word_bits (digits ∷ replicate k 0) ≡ field (64 + 64 * k) digits
 first_word k digits fits = search (rules, div-eq_of_lt, zero_bits, field-zero, field-add)
 
-pub written : (size k digits : ℕ) (ws ws' : List ℕ) → digits < 2 ^ 64 → size ≤ 64 * k → 0 < k → ws ≡ replicate k 0 → ws' ≡ set ws 0 digits → digits < 2 ^ size → Written size digits ws'
+pub written : (size k digits : ℕ) (ws ws' : List ℕ) → digits < 2 ^ 64 → size ≤ 64 * k → 0 < k → ws ≡ replicate k 0 → ws' ≡ set ws 0 digits → digits < 2 ^ size → (digits_held size ws' ≡ field size digits) × IsClearFrom size ws'
 unfolding digits_held IsClearFrom
 written size zero digits ws ws' fits enough some blank is small = absurd (omega arith)
 written size (suc k) digits ws ws' fits enough some blank is small =

@@ -120,7 +120,8 @@ test_all_ones : each_below (λ i. test_one i (bit_and (i * 0x2000_4000_8001) 0x0
 unfolding low_planes lanes_in
 test_all_ones = refl
 
-pub one_of_digits : (digits e : ℕ) → digits < 16 → e ≡ bit_and (digits * 0x2000_4000_8001) 0x0001_0001_0001_0001 → (low_planes 1 (lanes_in 4 e) ≡ field 4 digits ∷ []) × AreBelow 1 (lanes_in 4 e)
-one_of_digits digits e four is =
-    let test : test_one digits e ≡ true = ap (test_one digits) is ∙ each_below-true (λ i. test_one i (bit_and (i * 0x2000_4000_8001) 0x0001_0001_0001_0001)) 16 digits test_all_ones four in
+pub one_of_digits : (digits : ℕ) → digits < 16 → (low_planes 1 (lanes_in 4 (bit_and (digits * 0x2000_4000_8001) 0x0001_0001_0001_0001)) ≡ field 4 digits ∷ [])
+    × AreBelow 1 (lanes_in 4 (bit_and (digits * 0x2000_4000_8001) 0x0001_0001_0001_0001))
+one_of_digits digits four =
+    let test = each_below-true (λ i. test_one i (bit_and (i * 0x2000_4000_8001) 0x0001_0001_0001_0001)) 16 digits test_all_ones four in
     search (rules, and_parts, same_planes-true, are_below-true)

@@ -168,14 +168,17 @@ above_joined (suc k) v e h c high low room =
 pub lanes_fit : (v e h c : ℕ) → v < 2 ^ 64 → e < 2 ^ 64 → AreBelow h (lanes_in 4 v) → AreBelow c (lanes_in 4 e) → h + c ≤ 16 → v * 2 ^ c + e < 2 ^ 64
 lanes_fit v e h c word more high low room = grind (arith, above_lanes, none_above, above_joined, within_lanes)
 
--- one plane more behind planes in lanes, as it is computed in a word
-pub record IsLonger (h v e : ℕ) : Type 0 where
-  pub small : v * 2 % 2 ^ 64 + e < 2 ^ 64
-  pub below : AreBelow (h + 1) (lanes_in 4 (v * 2 % 2 ^ 64 + e))
-  pub planes : low_planes (h + 1) (lanes_in 4 (v * 2 % 2 ^ 64 + e)) ≡ low_planes h (lanes_in 4 v) ++ low_planes 1 (lanes_in 4 e)
+-- c planes more behind planes in lanes, as they are computed in a word
+pub record IsLonger (h c v e : ℕ) : Type 0 where
+  pub small : v * 2 ^ c % 2 ^ 64 + e < 2 ^ 64
+  pub below : AreBelow (h + c) (lanes_in 4 (v * 2 ^ c % 2 ^ 64 + e))
+  pub planes : low_planes (h + c) (lanes_in 4 (v * 2 ^ c % 2 ^ 64 + e)) ≡ low_planes h (lanes_in 4 v) ++ low_planes c (lanes_in 4 e)
 
-pub one_behind : (h v e : ℕ) → v < 2 ^ 64 → e < 2 ^ 64 → AreBelow h (lanes_in 4 v) → AreBelow 1 (lanes_in 4 e) → h + 1 ≤ 16 → IsLonger h v e
-one_behind h v e word more high low room = search (rules, length-lanes_in, lanes_fit, mod-eq_of_lt, lanes_joined, joined_below, planes_joined)
+pub lanes_behind : (h c v e : ℕ) → v < 2 ^ 64 → e < 2 ^ 64 → AreBelow h (lanes_in 4 v) → AreBelow c (lanes_in 4 e) → h + c ≤ 16 → IsLonger h c v e
+lanes_behind h c v e word more high low room =
+    let fits = lanes_fit v e h c word more high low room in
+    let whole : v * 2 ^ c % 2 ^ 64 ≡ v * 2 ^ c = mod-eq_of_lt (omega arith) in
+    search (rules, lanes_joined, length-lanes_in, joined_below, planes_joined)
 
 -- ---- digits in words and in lanes
 
@@ -183,24 +186,6 @@ pub no_lanes_below : (c k : ℕ) → AreBelow c (lanes_in k 0)
 unfolding AreBelow lanes_in
 no_lanes_below c zero = tt
 no_lanes_below c (suc k) = (pow_pos c, no_lanes_below c k)
-
--- more planes in the lanes
-pub gathered_more : (words : List ℕ) (done lanes held e c : ℕ) → IsGathered words done lanes held → AreBelow c (lanes_in 4 e) → held + c ≤ 16
-    → IsGathered words done (lanes * 2 ^ c + e) (held + c) × (gathered words done (lanes * 2 ^ c + e) (held + c) ≡ gathered words done lanes held ++ low_planes c (lanes_in 4 e))
-unfolding gathered
-gathered_more words done lanes held e c before small room =
-    let prefix = lanes_in 4 lanes in
-    let back = lanes_in 4 e in
-    let same : length prefix ≡ length back = length-lanes_in 4 lanes ∙ sym (length-lanes_in 4 e) in
-    let is = lanes_joined 4 lanes e held c before.back small room in
-    let below = joined_below held c prefix back same before.back small in (
-      record { four = before.four; prefix = before.prefix; back = rw is below },
-      cc (
-        is,
-        planes_joined held c prefix back same small,
-        append_assoc (low_planes done words) (low_planes held prefix) (low_planes c back),
-      ),
-    )
 
 -- what is in the lanes is put into the words
 pub gathered_down : (words : List ℕ) (done lanes held : ℕ) → IsGathered words done lanes held
@@ -210,62 +195,36 @@ gathered_down words done lanes held before = search (rules, length-lanes_in, len
 
 -- ---- four words as they are put together
 
-pub elements_below : (c : ℕ) (words : List ℕ) → length words ≡ 4 → AreBelow c words → (get_or words 0 0 < 2 ^ c) × (get_or words 1 0 < 2 ^ c) × (get_or words 2 0 < 2 ^ c) × (get_or words 3 0 < 2 ^ c)
-unfolding AreBelow
-elements_below c (a ∷ b ∷ d ∷ e ∷ []) four small = (small.0, small.1.0, small.1.1.0, small.1.1.1.0)
-elements_below c words four small = absurd (omega arith)
-
-lanes_below : (c v : ℕ) → AreBelow c (lanes_in 4 v) → (v % 65536 < 2 ^ c) × (v / 65536 % 65536 < 2 ^ c) × (v / 65536 / 65536 % 65536 < 2 ^ c) × (v / 65536 / 65536 / 65536 % 65536 < 2 ^ c)
-unfolding AreBelow lanes_in
-lanes_below c v small = (small.0, small.1.0, small.1.1.0, small.1.1.1.0)
-
-word_fits : (x y i c : ℕ) → x < 2 ^ i → y < 2 ^ c → i + c ≤ 64 → x * 2 ^ c % 2 ^ 64 + y < 2 ^ 64
+pub word_fits : (x y i c : ℕ) → x < 2 ^ i → y < 2 ^ c → i + c ≤ 64 → (x * 2 ^ c % 2 ^ 64 ≡ x * 2 ^ c) × (x * 2 ^ c % 2 ^ 64 + y < 2 ^ 64)
 word_fits x y i c high low room =
-    let whole : x * 2 ^ c % 2 ^ 64 ≡ x * 2 ^ c = shl_whole x i c 64 high room in
-    omega (arith, pow-le-pow_right {n = 2} (lit< tt) room, sum_below i c x y high low)
+    let whole = shl_whole x i c 64 high room in
+    (whole, omega (arith, whole, pow-le-pow_right {n = 2} (lit< tt) room, sum_below i c x y high low))
 
--- no word overflows
-pub words_fit : (words : List ℕ) (done lanes held : ℕ) → IsGathered words done lanes held → done + held ≤ 64
-    → (get_or words 0 0 * 2 ^ held % 2 ^ 64 + lanes % 65536 < 2 ^ 64) × (get_or words 1 0 * 2 ^ held % 2 ^ 64 + lanes / 65536 % 65536 < 2 ^ 64)
-    × (get_or words 2 0 * 2 ^ held % 2 ^ 64 + lanes / 65536 / 65536 % 65536 < 2 ^ 64) × (get_or words 3 0 * 2 ^ held % 2 ^ 64 + lanes / 65536 / 65536 / 65536 % 65536 < 2 ^ 64)
-words_fit words done lanes held before room = search (rules, elements_below, lanes_below, word_fits)
-
-put_together : (words : List ℕ) (done lanes held : ℕ) → length words ≡ 4 → AreBelow done words → done + held ≤ 64
-    → joined held words (lanes_in 4 lanes)
-    ≡ (get_or words 0 0 * 2 ^ held % 2 ^ 64 + lanes % 65536) ∷ (get_or words 1 0 * 2 ^ held % 2 ^ 64 + lanes / 65536 % 65536)
-    ∷ (get_or words 2 0 * 2 ^ held % 2 ^ 64 + lanes / 65536 / 65536 % 65536) ∷ (get_or words 3 0 * 2 ^ held % 2 ^ 64 + lanes / 65536 / 65536 / 65536 % 65536) ∷ []
-unfolding joined lanes_in AreBelow
-put_together (a ∷ b ∷ d ∷ e ∷ []) done lanes held four small room =
-    let first : a * 2 ^ held % 2 ^ 64 ≡ a * 2 ^ held = shl_whole a done held 64 small.0 room in
-    let second : b * 2 ^ held % 2 ^ 64 ≡ b * 2 ^ held = shl_whole b done held 64 small.1.0 room in
-    let third : d * 2 ^ held % 2 ^ 64 ≡ d * 2 ^ held = shl_whole d done held 64 small.1.1.0 room in
-    let fourth : e * 2 ^ held % 2 ^ 64 ≡ e * 2 ^ held = shl_whole e done held 64 small.1.1.1.0 room in
-    rw (first, second, third, fourth) refl
-put_together words done lanes held four small room = absurd (omega arith)
-
--- they are the words with the lanes below
+-- no word overflows, and they are the words with the lanes below
 pub put_words : (words : List ℕ) (done lanes held : ℕ) → IsGathered words done lanes held → done + held ≤ 64
-    → IsGathered ((get_or words 0 0 * 2 ^ held % 2 ^ 64 + lanes % 65536) ∷ (get_or words 1 0 * 2 ^ held % 2 ^ 64 + lanes / 65536 % 65536)
-    ∷ (get_or words 2 0 * 2 ^ held % 2 ^ 64 + lanes / 65536 / 65536 % 65536) ∷ (get_or words 3 0 * 2 ^ held % 2 ^ 64 + lanes / 65536 / 65536 / 65536 % 65536) ∷ []) (done + held) 0 0
-    × (gathered ((get_or words 0 0 * 2 ^ held % 2 ^ 64 + lanes % 65536) ∷ (get_or words 1 0 * 2 ^ held % 2 ^ 64 + lanes / 65536 % 65536)
-    ∷ (get_or words 2 0 * 2 ^ held % 2 ^ 64 + lanes / 65536 / 65536 % 65536) ∷ (get_or words 3 0 * 2 ^ held % 2 ^ 64 + lanes / 65536 / 65536 / 65536 % 65536) ∷ []) (done + held) 0 0
-    ≡ gathered words done lanes held)
-put_words words done lanes held before room =
-    rw (put_together words done lanes held before.four before.prefix room) at
-    (gathered_down words done lanes held before)
+    → let a = get_or words 0 0 * 2 ^ held % 2 ^ 64 + lanes % 65536 in
+    let b = get_or words 1 0 * 2 ^ held % 2 ^ 64 + lanes / 65536 % 65536 in
+    let d = get_or words 2 0 * 2 ^ held % 2 ^ 64 + lanes / 65536 / 65536 % 65536 in
+    let e = get_or words 3 0 * 2 ^ held % 2 ^ 64 + lanes / 65536 / 65536 / 65536 % 65536 in
+    ((a < 2 ^ 64) × (b < 2 ^ 64) × (d < 2 ^ 64) × (e < 2 ^ 64)) × IsGathered (a ∷ b ∷ d ∷ e ∷ []) (done + held) 0 0
+    × (gathered (a ∷ b ∷ d ∷ e ∷ []) (done + held) 0 0 ≡ gathered words done lanes held)
+unfolding joined lanes_in AreBelow
+put_words (a ∷ b ∷ d ∷ e ∷ []) done lanes held before room =
+    let down = gathered_down (a ∷ b ∷ d ∷ e ∷ []) done lanes held before in
+    let first = word_fits a (lanes % 65536) done held before.prefix.0 before.back.0 room in search (rules, word_fits)
+put_words words done lanes held before room = absurd (omega (arith, before.four))
 
 -- lanes as they are put together
 pub lanes_put : (words : List ℕ) (done lanes held e c : ℕ) → lanes < 2 ^ 64 → e < 2 ^ 64 → IsGathered words done lanes held → AreBelow c (lanes_in 4 e) → held + c ≤ 16
     → (lanes * 2 ^ c % 2 ^ 64 + e < 2 ^ 64) × IsGathered words done (lanes * 2 ^ c % 2 ^ 64 + e) (held + c)
     × (gathered words done (lanes * 2 ^ c % 2 ^ 64 + e) (held + c) ≡ gathered words done lanes held ++ low_planes c (lanes_in 4 e))
+unfolding gathered
 lanes_put words done lanes held e c word more before small room =
-    let fits = lanes_fit lanes e held c word more before.back small room in
-    let next = gathered_more words done lanes held e c before small room in
-    let whole : lanes * 2 ^ c % 2 ^ 64 ≡ lanes * 2 ^ c = mod-eq_of_lt (prefix_fits (lanes * 2 ^ c) e fits) in
-    rw whole (fits, next.0, next.1)
-  where
-    prefix_fits : (a b : ℕ) → a + b < 2 ^ 64 → a < 2 ^ 64
-    prefix_fits a b fits = omega arith
+    let longer = lanes_behind held c lanes e word more before.back small room in (
+      longer.small,
+      record { four = before.four; prefix = before.prefix; back = longer.below },
+      cc (longer.planes, append_assoc (low_planes done words) (low_planes held (lanes_in 4 lanes)) (low_planes c (lanes_in 4 e))),
+    )
 
 four_zeros : lanes_in 4 0 ≡ 0 ∷ 0 ∷ 0 ∷ 0 ∷ []
 unfolding lanes_in

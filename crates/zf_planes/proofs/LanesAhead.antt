@@ -9,15 +9,15 @@ use Rattle.zf_spec.specs.Planes.{code_from, reach, reach_of_all, AreOfSize}
 use Rattle.zf_spec.{specs.ReadPlanes.{first_bits, planes_in_from}, proofs.Reach.{reach-le}}
 use Rattle.zf_spec.proofs.Fields.{length-field, field-add, field-zero}
 use Rattle.zf_bits.{proofs.Fields.{field-mod}, specs.Reader.{Reader, rest}}
-use Rattle.zf_planes.proofs.Lanes.{length-low_planes, low_planes-sizes, length-lanes_in, one_behind}
+use Rattle.zf_planes.proofs.Lanes.{length-low_planes, low_planes-sizes, length-lanes_in, lanes_behind}
 use Rattle.zf_planes.specs.Lanes.{low_planes, lanes_in, AreBelow, AreInSight, AreAtEnd, AreTurned, IsGathered, gathered}
 use Rattle.zf_planes.specs.Decoding.{IsWindow, Takes, plane_ahead, plane_bits, planes_ahead, planes_bits}
 use Rattle.zf_planes.specs.{States.{State, to_come, bits_to_come, Comes}, Moves.{MovesOverPlanes, MovesOverSome}}
 use Rattle.zf_planes.specs.declared.in_lanes.PlanesInLanes.{PlanesInLanes}
-use Rattle.zf_planes.proofs.PlanesAhead.{next_plane, planes_ahead-none, planes_bits-none}
+use Rattle.zf_planes.proofs.PlanesAhead.{next_plane, planes_none}
 use Rattle.zf_planes.{proofs.Peeking.{window_prefix, window_behind}, specs.Fours.{string_planes}}
-use Rattle.zf_planes.{proofs.Zeros.{field_before}, proofs.Strings.{code_from-append}, proofs.Coming.{all_come, known_come}}
-use Rattle.zf_planes.{proofs.PlaneAhead.{plane_ahead-is, plane_bits-is, prefix_read}, proofs.Steps.{tail_over}}
+use Rattle.zf_planes.{proofs.Zeros.{field_before}, proofs.Strings.{code_from-append, reach_of_all-append}, proofs.Coming.{all_come, known_come}}
+use Rattle.zf_planes.{proofs.PlaneAhead.{plane_is, prefix_read}, proofs.Steps.{tail_over}}
 
 -- ---- in lanes
 
@@ -83,16 +83,15 @@ own_plane r v s there is small =
     (λ (few : r < 4). let all : m ≡ r = omega arith in let high : v / 2 ^ r ≡ 0 = div-eq_of_lt (small few) in rw (all, high) (field-zero (4 - r)))
     (λ (many : 4 ≤ r). let all : 4 - m ≡ 0 = omega arith in rw all refl)
     (cases_lt r 4) in
-    let bits = rw (low, none) at (plane_bits-is r 4 4 s (omega arith)) in
-    let digits = rw (low, none) at (plane_ahead-is r 4 4 s (omega arith)) in
+    let whole = rw (low, none) at (plane_is r 4 4 s (omega arith)) in
     let prefix = rw low at (prefix_read r 4 s (omega arith)) in
-    (omega (arith, bits, over.0), cc (digits, over.1, append-nil (first_bits 4 (take r s)), prefix, zeros, field-add m (4 - m) v))
+    (omega (arith, whole.0, over.0), cc (whole.1, over.1, append-nil (first_bits 4 (take r s)), prefix, zeros, field-add m (4 - m) v))
 
 -- k of them, by the next bits as far as the budget has them
 pub own_planes : (k left v : ℕ) (s : List Bool) → min left (4 * k) ≤ length s → field (min left (4 * k)) v ≡ take (min left (4 * k)) s → v < 2 ^ min left (4 * k)
     → (planes_bits left k 4 4 s ≡ min left (4 * k)) × (planes_ahead left k 4 4 s ≡ string_planes k v)
 unfolding string_planes
-own_planes zero left v s there is small = let none : min left 0 ≡ 0 = omega arith in (planes_bits-none left 4 4 s ∙ sym none, planes_ahead-none left 4 4 s)
+own_planes zero left v s there is small = let none : min left 0 ≡ 0 = omega arith in rw none (planes_none left 4 4 s)
 own_planes (suc k) left v s there is small =
     let all = min left (4 * suc k) in
     let one = min left 4 in
@@ -170,24 +169,20 @@ first_lone : (bits : ℕ) → bits % 8 ≡ 3 → AreLone bits 1 1
 unfolding low_planes lanes_in AreBelow
 first_lone bits three = search (rules, field-mod)
 
-lone_plane : (e : ℕ) → e < 2 → low_planes 1 (lanes_in 4 e) ≡ (is_odd e ∷ false ∷ false ∷ false ∷ []) ∷ []
-unfolding low_planes lanes_in
-lone_plane zero small = refl
-lone_plane (suc zero) small = refl
+lone_plane : (e : ℕ) → e < 2 → (low_planes 1 (lanes_in 4 e) ≡ (is_odd e ∷ false ∷ false ∷ false ∷ []) ∷ []) × AreBelow 1 (lanes_in 4 e)
+unfolding low_planes lanes_in AreBelow
+lone_plane zero small = (refl, (omega arith, (omega arith, (omega arith, (omega arith, tt)))))
+lone_plane (suc zero) small = (refl, (omega arith, (omega arith, (omega arith, (omega arith, tt)))))
 lone_plane e small = absurd (omega arith)
-
-lone_below : (e : ℕ) → e < 2 → AreBelow 1 (lanes_in 4 e)
-unfolding lanes_in AreBelow
-lone_below e small = (omega arith, (omega arith, (omega arith, (omega arith, tt))))
 
 -- one more, whose digit and group bit of zero come next
 more_lone : (bits c v e : ℕ) → v < 4096 → e ≡ bits / 2 ^ (1 + 2 * c) % 2 → bits / 2 ^ (1 + 2 * c) % 4 < 2 → c + 1 ≤ 16 → AreLone bits c v → AreLone bits (c + 1) (v * 2 % 2 ^ 64 + e)
 more_lone bits c v e word is group room before =
     let x = bits / 2 ^ (1 + 2 * c) in
     let small : e < 2 = omega arith in
-    let longer = one_behind c v e (omega arith) (omega arith) before.below (lone_below e small) room in
+    let longer = lanes_behind c 1 v e (omega arith) (omega arith) before.below (lone_plane e small).1 room in
     let prefix = low_planes c (lanes_in 4 v) in
-    let plane = lone_plane e small in
+    let plane = (lone_plane e small).0 in
     let odd : is_odd e ≡ is_odd x = ap is_odd is ∙ is_odd-low x in
     let parts : 1 + 2 * (c + 1) ≡ 1 + 2 * c + 2 = omega arith in
     let here = one_lone (is_odd x) in
@@ -205,10 +200,6 @@ more_lone bits c v e word is group room before =
 
     is_odd-low : (n : ℕ) → is_odd (n % 2) ≡ is_odd n
     is_odd-low n = let low : n % 2 % 2 ≡ n % 2 = omega arith in ap (λ m. eqb m 1) low
-
-    reach_of_all-append : (ps qs : List (List Bool)) → reach_of_all (ps ++ qs) ≡ max (reach_of_all ps) (reach_of_all qs)
-    reach_of_all-append [] qs = omega arith
-    reach_of_all-append (p ∷ ps) qs = omega (arith, reach_of_all-append ps qs)
 
 -- more of them behind the first, whose group bits are zero
 pub more_in_sight : (bits v c : ℕ) → bits % 8 ≡ 3 → AreTurned (bits / 2) v → c ≤ 11 → ((j : ℕ) → j < c → bit_at (bits / 8) (2 * j + 1) ≡ 0) → AreLone bits (c + 1) (v / 2 ^ (11 - c))

@@ -5,50 +5,34 @@ use Rattle.std.proofs.lemmas.List.Elements.{All-head, All-tail}
 use Rattle.zf_spec.{specs.Planes.{plane_code, code_from, reach, AreOfSize}, proofs.Full.{length-plane_in}}
 use Rattle.zf_spec.{specs.Kept.{kept_plane}, specs.ReadPlanes.{first_bits, plane_in, planes_in_from}}
 use Rattle.zf_spec.{proofs.KeptSame.{kept_whole}, proofs.Reach.{reach-le, reach_within}}
-use Rattle.zf_planes.{proofs.PlaneAhead.{plane_ahead-is}, proofs.Steps.{tail_over}, proofs.PlanesAhead.{next_plane, planes_ahead-none, planes_bits-none}}
+use Rattle.zf_planes.{proofs.PlaneAhead.{plane_is}, proofs.Steps.{tail_over}, proofs.PlanesAhead.{next_plane, planes_none}}
 use Rattle.zf_spec.proofs.Beginnings.{length-first_bits}
 use Rattle.zf_bits.specs.Reader.{Reader, rest}
 use Rattle.zf_planes.{specs.Decoding.{plane_ahead, plane_bits, planes_ahead, planes_bits, tail_ahead}, specs.States.{State, Comes}}
 
--- a list of four
-pub record IsFour (ds : List Bool) : Type 0 where
-  pub first : Bool
-  pub second : Bool
-  pub third : Bool
-  pub fourth : Bool
-  pub is : ds ≡ first ∷ second ∷ third ∷ fourth ∷ []
-
-pub four_of : (ds : List Bool) → length ds ≡ 4 → IsFour ds
-four_of (a ∷ b ∷ c ∷ d ∷ []) long = record { first = a; second = b; third = c; fourth = d; is = refl }
-four_of ds long = absurd (omega (arith, long))
-
 -- ---- one plane
-
-own_code : (n : ℕ) (a b c d : Bool) → 3 ≤ n → n ≤ 4 → plane_code n (a ∷ b ∷ c ∷ d ∷ []) ≡ a ∷ b ∷ c ∷ d ∷ []
-own_code (suc (suc (suc zero))) a b c true low high = refl
-own_code (suc (suc (suc zero))) a b c false low high = refl
-own_code (suc (suc (suc (suc zero)))) a b c d low high = refl
-own_code n a b c d low high = absurd (omega arith)
 
 -- its code
 pub plane_of_three : (n : ℕ) (ds : List Bool) → 3 ≤ n → n ≤ 4 → length ds ≡ 4 → plane_code n ds ≡ ds
-plane_of_three n ds low high long =
-    let four = four_of ds long in
-    rw four.is (own_code n four.first four.second four.third four.fourth low high)
+plane_of_three (suc (suc (suc zero))) (a ∷ b ∷ c ∷ true ∷ []) low high long = refl
+plane_of_three (suc (suc (suc zero))) (a ∷ b ∷ c ∷ false ∷ []) low high long = refl
+plane_of_three (suc (suc (suc (suc zero)))) (a ∷ b ∷ c ∷ d ∷ []) low high long = refl
+plane_of_three n ds low high long = absurd (omega (arith, long))
 
 -- what a budget keeps of it
-kept_short : (r : ℕ) (a b c d : Bool) → r < 4 → kept_plane r 3 (a ∷ b ∷ c ∷ d ∷ []) ≡ kept_plane r 4 (a ∷ b ∷ c ∷ d ∷ [])
-kept_short (suc (suc (suc (suc r)))) a b c d few = absurd (omega arith)
-kept_short zero a b c true few = refl
-kept_short (suc zero) a b c true few = refl
-kept_short (suc (suc zero)) a b c true few = refl
-kept_short (suc (suc (suc zero))) a b c true few = refl
-kept_short r a b c d few = refl
+kept_short : (r : ℕ) (ds : List Bool) → r < 4 → length ds ≡ 4 → kept_plane r 3 ds ≡ kept_plane r 4 ds
+kept_short zero (a ∷ b ∷ c ∷ true ∷ []) few long = refl
+kept_short (suc zero) (a ∷ b ∷ c ∷ true ∷ []) few long = refl
+kept_short (suc (suc zero)) (a ∷ b ∷ c ∷ true ∷ []) few long = refl
+kept_short (suc (suc (suc zero))) (a ∷ b ∷ c ∷ true ∷ []) few long = refl
+kept_short (suc (suc (suc (suc r)))) ds few long = absurd (omega arith)
+kept_short r (a ∷ b ∷ c ∷ false ∷ []) few long = refl
+kept_short r ds few long = absurd (omega (arith, long))
 
 kept_of_three : (n r : ℕ) (ds : List Bool) → 3 ≤ n → n ≤ 4 → length ds ≡ 4 → kept_plane r n ds ≡ kept_plane r 4 ds
 kept_of_three n r ds low high long = ⊎_elim
     (λ (few : r < 4). ⊎_elim
-    (search (rules, four_of, kept_short))
+    (λ (three : n < 4). let is : n ≡ 3 = omega arith in rw is (kept_short r ds few long))
     (λ (all : 4 ≤ n). let is : n ≡ 4 = omega arith in rw is refl)
     (cases_lt n 4))
     (search (rules, kept_whole, plane_of_three))
@@ -76,22 +60,18 @@ code_of_three n m (ds ∷ planes) low high low' high' sizes =
 -- one plane
 one_of_three : (left n : ℕ) (s : List Bool) → 3 ≤ n → n ≤ 4 → (plane_bits left 4 n s ≡ plane_bits left 4 4 s) × (plane_ahead left 4 n s ≡ plane_ahead left 4 4 s)
 unfolding plane_bits plane_ahead
-one_of_three left n s low high =
-    let long : length (plane_in 4 4 (take left s)) ≡ 4 = length-plane_in 4 4 (take left s) (omega arith) in
-    let own = plane_of_three n (plane_in 4 4 (take left s)) low high long in
-    let whole = plane_of_three 4 (plane_in 4 4 (take left s)) (omega arith) (omega arith) long in
-    (rw (read_of_three n (take left s) low high, own, whole) refl, rw (read_of_three n (take left s) low high) (kept_of_three n left (plane_in 4 4 (take left s)) low high long))
+one_of_three left n s low high = search (rules, plane_of_three, read_of_three, kept_of_three)
 
 -- it has four digits
 four_ahead : (left : ℕ) (s : List Bool) → length (plane_ahead left 4 4 s) ≡ 4
 four_ahead left s =
     let none : 4 - 4 ≡ 0 = omega arith in
     let over = tail_over (left - min 4 left) 0 (drop (min 4 left) s) (inr refl) in
-    omega (arith, ap length (rw none at (plane_ahead-is left 4 4 s (omega arith))), length-append (first_bits 4 (take left s)) (tail_ahead (left - min 4 left) 0 (drop (min 4 left) s)), length-first_bits 4 (take left s), ap length over.1)
+    omega (arith, ap length (rw none at (plane_is left 4 4 s (omega arith))).1, length-append (first_bits 4 (take left s)) (tail_ahead (left - min 4 left) 0 (drop (min 4 left) s)), length-first_bits 4 (take left s), ap length over.1)
 
 -- so three ranks are as good as four
 pub ahead_of_three : (left p n : ℕ) (s : List Bool) → 3 ≤ n → n ≤ 4 → (planes_bits left p 4 n s ≡ planes_bits left p 4 4 s) × (planes_ahead left p 4 n s ≡ planes_ahead left p 4 4 s)
-ahead_of_three left zero n s low high = search (rules, planes_bits-none, planes_ahead-none)
+ahead_of_three left zero n s low high = let a = planes_none left 4 n s in let b = planes_none left 4 4 s in (cc, cc)
 ahead_of_three left (suc p) n s low high =
     let one = one_of_three left n s low high in
     let ds = plane_ahead left 4 4 s in

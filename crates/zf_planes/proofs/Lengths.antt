@@ -1,16 +1,19 @@
 -- How long the tail of a plane is: a group bit for each one, a digit for each rank up to the last one, and the end.
-use Rattle.std.proofs.Common.{rules, ◌≡◌, ℕ, zero, suc, ◌+◌, ◌-◌, ◌*◌, ◌/◌, ◌%◌, ◌^◌, ◌<◌, ◌≤◌, Bool, true, false, cond, eqb, List, [], ◌∷◌, ◌++◌, length, take, drop, get_or, count_by, refl, sym, ap, ◌∙◌, arith, length-append, pow-suc}
+use Rattle.std.proofs.Common.{rules, ◌≡◌, ℕ, zero, suc, ◌+◌, ◌-◌, ◌*◌, ◌/◌, ◌%◌, ◌^◌, ◌<◌, ◌≤◌, max, Bool, true, false, cond, eqb, List, [], ◌∷◌, ◌++◌, length, take, drop, map, get_or, count_by, refl, sym, ap, ◌∙◌, arith, length-append, pow-suc}
 use Rattle.std.{proofs.lemmas.Bool.{false≢true}, specs.Int.Bits.{bit_and}}
 use Rattle.std.{specs.Int.Count.{ones as number_ones}, proofs.lemmas.Nat.{ones_le_self, mod_below, pow_pos}}
-use Rattle.std.proofs.lemmas.List.{length-take, take-append-drop, drop-drop}
-use Rattle.std.proofs.lemmas.List.Sums.{sum_by-cons, sum_by-append}
+use Rattle.std.proofs.lemmas.List.{length-map, length-take, take-append-drop, drop-drop, length-drop}
+use Rattle.std.proofs.lemmas.List.Sums.{sum_by-cons, sum_by-append, count_by-le-length}
 use lib.Count.{ones_step}
 use Rattle.zf_spec.specs.Planes.{has_one, reach, group, code_from_run, tail, plane_code, code}
 use Rattle.zf_spec.{specs.Numbers.{is_odd, field}, specs.HeldPlanes.{digits_held, planes_held}}
-use Rattle.zf_spec.{proofs.Fields.{field-mod}, proofs.Reach.{reach_none, reach_some}}
-use Rattle.zf_spec.proofs.PlaneCode.{length-code-le}
+use Rattle.zf_spec.{proofs.Fields.{field-mod}, proofs.Reach.{reach_none, reach_some, reach-le}}
+use Rattle.zf_spec.{proofs.PlaneCode.{length-code-le}, proofs.HeldPlanes.{length-digits_held}}
 use Rattle.zf_planes.proofs.Digits.{masked, field_in_word}
-use Rattle.zf_planes.proofs.Unpacking.{length-top_held, sizes-top_words}
+use Rattle.zf_planes.proofs.Unpacking.{length-top_held, sizes-top_words, each_long}
+
+-- what is known of the lengths of planes, of how many ones they have and how far these reach
+pub ruleset plane_lengths = (length-digits_held, count_by-le-length, length-drop, reach-le)
 
 -- how many ones there are
 abbrev pub ones : List Bool → ℕ
@@ -54,11 +57,14 @@ length-tail (d ∷ ds) = group_length d ds (run_length d ds)
 pub length-plane_code : (n : ℕ) (ds : List Bool) → n ≤ length ds → length (plane_code n ds) ≡ n + length (tail (drop n ds))
 length-plane_code n ds within = length-append (take n ds) (tail (drop n ds)) ∙ omega (arith, length-take n ds)
 
--- the code of planes that are held has at most as many bits as they have digits, and a group bit for each rank
-pub length-code_words-le : (prec size : ℕ) (planes : List (List ℕ)) → prec ≤ length planes → ((i : ℕ) → i < length planes → size ≤ 64 * length (get_or planes i []))
-    → length (code (take prec (planes_held size planes))) ≤ size * prec + size
-length-code_words-le prec size planes within enough =
-    rw (length-top_held prec size planes within) at (length-code-le size (take prec (planes_held size planes)) (sizes-top_words prec size planes enough))
+-- the code of planes has at most as many bits as they have digits, and a group bit for each rank
+pub length-code_words-le : {A : Type 0} (words : A → List ℕ) (count prec size : ℕ) (planes : List A) → ((plane : A) → length (words plane) ≡ count) → size ≤ 64 * count → prec ≤ length planes
+    → length (code (take prec (planes_held size (map words planes)))) ≤ size * prec + size
+length-code_words-le words count prec size planes long enough within =
+    let all = map words planes in
+    let same = length-map planes words in
+    let sizes = sizes-top_words prec size all (λ i below. let has = each_long words count long planes i (omega arith) in omega arith) in
+    rw (length-top_held prec size all (omega arith)) at (length-code-le size (take prec (planes_held size all)) sizes)
 
 -- ---- the ones of a word
 
@@ -106,3 +112,14 @@ reach-drop (suc n) (d ∷ ds) = by (reach-drop n ds) (has_one (d ∷ ds)) refl
     by : reach (drop n ds) ≡ reach ds - n → (t : Bool) → has_one (d ∷ ds) ≡ t → reach (drop n ds) ≡ cond t (suc (reach ds)) 0 - suc n
     by rest true one = omega (arith, rest)
     by rest false none = omega (arith, rest, reach_none ds (none_behind d none))
+
+-- so long is the code of a plane whose ones from rank n on, and their reach, are known
+pub plane_length : (n : ℕ) (ds : List Bool) → n ≤ length ds
+    → (max n (reach ds) < length ds → length (plane_code n ds) ≡ n + (ones (drop n ds) + (reach ds - n)) + 1)
+    × (length ds ≤ max n (reach ds) → length (plane_code n ds) ≡ n + (ones (drop n ds) + (reach ds - n) - 1))
+plane_length n ds within =
+    let whole = length-plane_code n ds within in
+    let reached = reach-drop n ds in
+    let behind = length-drop n ds in
+    let tail_long = length-tail (drop n ds) in
+    (λ below. omega (arith, tail_long.0 (omega arith)), λ past. omega (arith, tail_long.1 (omega arith)))

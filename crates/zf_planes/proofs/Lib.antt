@@ -3,16 +3,13 @@
 --     Tables       tables of planes of four digits
 --     Doubled      the code of runs, and its tables
 --     Gathering    bits of several planes in one word
---     PlainPlanes  planes that bring no new rank
 --     Narrow       planes in which the first three ranks alone have ones
 --     WordPlanes   planes in one word by the bits of their code
 --     Lengths      how long the tail of a plane is
 --     Budgets      a list that is written in parts, as far as a budget reaches
 --     Zeros        the code of zeros and of a run as numbers
 --     Unpacking    the digits that planes hold in words
---     Tops         the top planes, with one plane more
 --     Digits       the digits of a plane as bits of its words, and its ones
---     Filling      a list that is filled from its front
 --     Placing      a plane whose digits are put in from its front on
 --     Steps        one step of reading a tail
 --     PlaneAhead   what the decoder makes of one plane
@@ -33,16 +30,13 @@ pub mod Runs
 pub mod Tables
 pub mod Doubled
 pub mod Gathering
-pub mod PlainPlanes
 pub mod Narrow
 pub mod WordPlanes
 pub mod Lengths
 pub mod Budgets
 pub mod Zeros
 pub mod Unpacking
-pub mod Tops
 pub mod Digits
-pub mod Filling
 pub mod Placing
 pub mod Steps
 pub mod PlaneAhead

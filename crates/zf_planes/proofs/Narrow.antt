@@ -6,7 +6,7 @@ use Rattle.zf_spec.specs.Planes.{has_one, code_from_run, tail, plane_code, code_
 use Rattle.zf_spec.{proofs.Fields.{field-add, field-zero, length-field}, proofs.PlaneCode.{tail-zeros}}
 use Rattle.zf_spec.proofs.Full.{tail-some}
 use Rattle.zf_planes.{specs.Fours.{IsCodeOfTwo}, proofs.Doubled.{has_one-zeros_behind, run_zeros_behind}}
-use Rattle.zf_planes.{proofs.PlainPlanes.{reach_below}, proofs.Placing.{reach_behind}}
+use Rattle.zf_planes.proofs.Placing.{reach_behind, reach_below}
 use Rattle.zf_planes.proofs.Unpacking.{code_next}
 
 -- ---- how many zeros are behind makes no difference

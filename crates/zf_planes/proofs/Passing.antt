@@ -6,14 +6,11 @@ use Rattle.zf_planes.specs.Decoding.{Takes, Lacks}
 
 -- of the bits that are needed, more are to come
 pub record Passes (old now : Reader) (budget left more needed : ℕ) : Type 0 where
-  pub enough : budget - left ≤ length (rest old)
-  pub place : now.at ≡ old.at + (budget - left)
-  pub all : now.all ≡ old.all
-  pub within : left ≤ budget
+  pub taken : Takes old now budget left (budget - left)
   pub sum : budget - left + more ≡ needed
 
 pub Passes-start : (r : Reader) (budget needed : ℕ) → Passes r r budget budget needed needed
-Passes-start r budget needed = record { enough = omega arith; place = omega arith; all = refl; within = omega arith; sum = omega arith }
+Passes-start r budget needed = record { taken = record { enough = omega arith; place = omega arith; all = refl; spent = omega arith }; sum = omega arith }
 
 -- the length of what is left
 pub long : (r : Reader) → length (rest r) ≡ length r.all - r.at
@@ -30,28 +27,21 @@ Passes-end passes none = search rules
 pub Passes-lacks : {old now new : Reader} {budget left count more needed : ℕ} → Passes old now budget left more needed → Lacks now new count → count ≤ more → Lacks old new needed
 Passes-lacks {old} {now} passes lacks part = search (rules, long)
 
--- the bits that are left are those behind what was passed
-pub Passes-rest : {old now : Reader} {budget left more needed : ℕ} → Passes old now budget left more needed → rest now ≡ drop (budget - left) (rest old)
-Passes-rest {old} {now} {budget} {left} passes =
-    ap (λ n. drop n now.all) passes.place ∙ ap (drop (old.at + (budget - left))) passes.all ∙ sym (drop-drop (budget - left) old.at old.all)
-
--- ---- what is said of an answer by its variant
+-- ---- what is said of an answer by its variant, and carried on
 
 pub if_none : {A : Type 0} {P : Type 0} (answer : Option A) → P → IfNone answer P
 if_none None p = p
 if_none (Some x) p = tt
+
+pub on_none : {A : Type 0} (answer : Option A) {P Q : Type 0} → IfNone answer P → (P → Q) → IfNone answer Q
+on_none None p next = next p
+on_none (Some x) p next = tt
 
 -- ---- two parts, of which the second gives the answer
 
 pub Takes-rest : {old now : Reader} {before after count : ℕ} → Takes old now before after count → rest now ≡ drop count (rest old)
 Takes-rest {old} {now} {before} {after} {count} takes =
     ap (λ n. drop n now.all) takes.place ∙ ap (drop (old.at + count)) takes.all ∙ sym (drop-drop count old.at old.all)
-
--- ---- what is said of an answer, carried on
-
-pub on_none : {A : Type 0} (answer : Option A) {P Q : Type 0} → IfNone answer P → (P → Q) → IfNone answer Q
-on_none None p next = next p
-on_none (Some x) p next = tt
 
 -- two parts that were both passed
 pub Takes-sum : {old mid new : Reader} {before between after first : ℕ} (second needed : ℕ) → Takes old mid before between first → needed ≡ first + second → Takes mid new between after second → Takes old new before after needed

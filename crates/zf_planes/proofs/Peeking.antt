@@ -5,9 +5,9 @@ use Rattle.std.{proofs.lemmas.Bool.{cases_lt}, proofs.lemmas.Nat.{shr-shr, shr_l
 use Rattle.std.proofs.lemmas.Nat.Bits.{bit_at-zero, bit_at-trailing_zeros}
 use Rattle.std.proofs.lemmas.List.{length-take, length-replicate, get_or-replicate, take-append-drop, take-take, drop-take, drop-drop}
 use Rattle.zf_spec.{specs.Numbers.{is_odd, field}, proofs.Fields.{length-field, get_or-field}}
-use Rattle.zf_bits.{proofs.Fields.{take-field, drop-field}, specs.Reader.{Reader, rest, Reads}}
+use Rattle.zf_bits.{specs.Reader.{Reader, rest, Reads}}
 use Rattle.zf_planes.specs.Decoding.{IsWindow, run_ahead, run_bits, tail_ahead, tail_bits, Takes}
-use Rattle.zf_planes.{proofs.Digits.{split_prefix}, proofs.Steps.{run_zero, run_one, run_stands, tail_run}}
+use Rattle.zf_planes.{proofs.Digits.{split_prefix}, proofs.Doubled.{word_prefix, word_behind}, proofs.Steps.{run_zero, run_one, run_stands, tail_run}}
 
 -- ---- the next bits as a number
 
@@ -18,9 +18,8 @@ IsPeeked v s = take (length (take 64 s)) (field 64 v) ≡ take 64 s
 -- as many of them as there are
 pub peeked : (s : List Bool) (v count : ℕ) → IsPeeked v s → count ≤ 64 → count ≤ length s → field count v ≡ take count s
 peeked s v count e small within =
-    let parts : count + (64 - count) ≡ 64 = omega arith in
     cc (
-      take-field count (64 - count) v,
+      word_prefix 64 count v small,
       take-take count (length (take 64 s)) (field 64 v) (omega (arith, length-take 64 s)),
       take-take count 64 s small,
     )
@@ -31,14 +30,13 @@ window_long s v count e = omega (arith, ap length e, length-field count v, lengt
 -- the first n of them
 pub window_prefix : (s : List Bool) (v count n : ℕ) → field count v ≡ take count s → n ≤ count → field n v ≡ take n s
 window_prefix s v count n e within =
-    let parts : n + (count - n) ≡ count = omega arith in
-    sym (take-field n (count - n) v) ∙ ap (λ k. take n (field k v)) parts ∙ ap (take n) e ∙ take-take n count s within
+    sym (word_prefix count n v within) ∙ ap (take n) e ∙ take-take n count s within
 
 -- those behind the first n
 pub window_behind : (s : List Bool) (v count n : ℕ) → field count v ≡ take count s → n ≤ count → field (count - n) (v / 2 ^ n) ≡ take (count - n) (drop n s)
 window_behind s v count n e within =
     let parts : n + (count - n) ≡ count = omega arith in
-    cc (drop-field n (count - n) v, drop-take n (count - n) s)
+    cc (word_behind count n v within, drop-take n (count - n) s)
 
 pub window_passed : (s : List Bool) (left v count n : ℕ) → IsWindow left v count s → 0 < n → n ≤ count → IsWindow (left - n) (v / 2 ^ (n - 1) / 2) (count - n) (drop n s)
 window_passed s left v count n window some within =
@@ -76,16 +74,10 @@ one_ahead s v count k e fits is within small = search (rules, split_prefix, wind
 
 -- ---- its first bit
 
-first_bit : (s : List Bool) (v count : ℕ) (b : Bool) → field count v ≡ take count s → 0 < count → is_odd v ≡ b → s ≡ b ∷ drop 1 s
+pub first_bit : (s : List Bool) (v count : ℕ) (b : Bool) → field count v ≡ take count s → 0 < count → is_odd v ≡ b → s ≡ b ∷ drop 1 s
 first_bit [] v count b e some is = let there = window_long [] v count e in absurd (omega arith)
 first_bit (c ∷ s) v zero b e some is = absurd (omega arith)
 first_bit (c ∷ s) v (suc count) b e some is = ap (λ d. d ∷ s) (sym (ap (λ (xs : List Bool). get_or xs 0 false) e) ∙ is)
-
-pub zero_first : (s : List Bool) (v count : ℕ) → field count v ≡ take count s → 0 < count → v % 2 ≡ 0 → s ≡ false ∷ drop 1 s
-zero_first s v count e some even = first_bit s v count false e some (ap (λ b. eqb b 1) even)
-
-pub one_first : (s : List Bool) (v count : ℕ) → field count v ≡ take count s → 0 < count → v % 2 ≡ 1 → s ≡ true ∷ drop 1 s
-one_first s v count e some odd = first_bit s v count true e some (ap (λ b. eqb b 1) odd)
 
 -- ---- a run
 
@@ -134,7 +126,7 @@ group_of_run left most z n s some digit one run =
 pub group_ahead : (s : List Bool) (left v count most z n : ℕ) → IsWindow left v count s → v < 2 ^ 64 → v % 2 ≡ 1 → 0 < most → 0 < count
     → z ≡ min (trailing_zeros w64 (v / 2)) (most - 1) → n ≡ min (z + 2) most → n ≤ count → IsGroup left most z n s
 group_ahead s left v count most z n window fits odd some there zeros all within =
-    let one = one_first s v count window.bits there odd in
+    let one = first_bit s v count true window.bits there (ap (λ b. eqb b 1) odd) in
     let t = drop 1 s in
     let ahead : field (count - 1) (v / 2) ≡ take (count - 1) t = window_behind s v count 1 window.bits (omega arith) in
     let small : v / 2 < 2 ^ 64 = omega (arith, shr_le v 1) in

@@ -2,12 +2,30 @@
 use Rattle.std.proofs.Common.{rules, ◌≡◌, ℕ, zero, suc, ◌+◌, ◌-◌, ◌*◌, ◌/◌, ◌%◌, ◌^◌, ◌<◌, ◌≤◌, ◌≢◌, ⊎_elim, Bool, true, false, List, [], ◌∷◌, ◌++◌, length, get_or, set, take, drop, replicate, get_or-set_same, get_or-set_other, ext_get_or, sym, ap, ◌∙◌, arith, length-set, length-append, length-take, append_assoc}
 use Rattle.std.{specs.Int.{w64}, specs.Int.Bits.{bit_or}, proofs.Math.Seq.{take-add}}
 use Rattle.std.{proofs.lemmas.Bool.{cases_eq}, proofs.lemmas.Nat.Bits.{bit_at_set_same, bit_at_set_other}}
-use Rattle.std.proofs.lemmas.List.{take_at, drop_at, drop-drop, take-replicate, drop-replicate, length-replicate, replicate-append-replicate, append-nil, take_more_set}
+use Rattle.std.proofs.lemmas.List.{take_at, drop_at, drop-drop, drop-set-lt, take-replicate, drop-replicate, length-replicate, replicate-append-replicate, append-nil, take_more_set}
 use Rattle.zf_spec.{specs.Numbers.{is_odd, field, word_bits}, specs.Planes.{reach}}
 use Rattle.zf_spec.specs.HeldPlanes.{digits_held, IsClearFrom}
+use Rattle.zf_spec.{proofs.Reach.{reach-le}, proofs.Fields.{length-field, field-add, field-zero}}
 use Rattle.zf_spec.proofs.WordBits.{length-word_bits, get_or-word_bits}
 use Rattle.zf_bits.{proofs.Words.{words-set}, proofs.Packed.{flat_map-field-replicate}}
-use Rattle.zf_planes.{proofs.Filling.{behind_set}, proofs.Runs.{reach-push, reach-push_zero}}
+use Rattle.zf_planes.proofs.Runs.{reach-push, reach-push_zero}
+
+-- ---- a list that is filled from its front, and holds one value from some place on
+
+-- behind a place that is written
+pub behind_set : {A : Type 0} (xs : List A) (x z : A) (i k : ℕ) → drop i xs ≡ replicate (length xs - i) z → drop (i + k + 1) (set xs (i + k) x) ≡ replicate (length (set xs (i + k) x) - (i + k + 1)) z
+behind_set xs x z i k e =
+    let place : i + k + 1 ≡ i + (k + 1) = omega arith in
+    let count : length xs - i - (k + 1) ≡ length (set xs (i + k) x) - (i + k + 1) = omega (arith, length-set xs (i + k) x) in
+    cc (
+      drop-set-lt (i + k + 1) xs (i + k) x (omega arith),
+      drop-drop (k + 1) i xs,
+      drop-replicate (k + 1) (length xs - i) z,
+    )
+
+-- behind the next place
+pub behind_next : {A : Type 0} (xs : List A) (x z : A) (i : ℕ) → drop i xs ≡ replicate (length xs - i) z → drop (i + 1) (set xs i x) ≡ replicate (length (set xs i x) - (i + 1)) z
+behind_next xs x z i e = let here : i + 0 ≡ i = omega arith in rw here at (behind_set xs x z i 0 e)
 
 -- ---- words with no bit from a rank on
 
@@ -32,6 +50,8 @@ pub held_behind : (n size : ℕ) (ws : List ℕ) → n ≤ size → size ≤ 64 
 unfolding digits_held IsClearFrom
 held_behind n size ws order within clear =
     let place : size ≡ n + (size - n) = omega arith in search (rules, take-add, take-replicate, length-word_bits)
+
+pub ruleset put_in = (held_behind, clear_later)
 
 -- ---- a word is put in
 
@@ -124,3 +144,8 @@ reach_one xs z =
       length-append xs (replicate z false),
       length-replicate z false,
     )
+
+-- no one from rank n on
+pub reach_below : (n size v : ℕ) → n ≤ size → v / 2 ^ n ≡ 0 → reach (field size v) ≤ n
+reach_below n size v order none =
+    let parts : n + (size - n) ≡ size = omega arith in search (rules, field-add, field-zero, reach_behind, reach-le, length-field)

@@ -96,14 +96,11 @@ tail_of_full : (r size n : ℕ) (s : List Bool) → drop n (plane_in size n (tak
 tail_of_full r size n s =
     drop_at (first_bits n (take r s)) (tail_in (size - n) (drop n (take r s))) n (length-first_bits n (take r s)) ∙ ap (tail_in (size - n)) (behind r n s)
 
-pub plane_ahead-is : (r size n : ℕ) (s : List Bool) → n ≤ size
-    → plane_ahead r size n s ≡ first_bits n (take r s) ++ tail_ahead (r - min n r) (size - n) (drop (min n r) s)
-unfolding plane_ahead tail_ahead
-plane_ahead-is r size n s within = search (rules, length-first_bits, length-drop, kept_as_cut, length-plane_in, prefix_padded, tail_of_full, take-append-le, take-first_bits)
-
-pub plane_bits-is : (r size n : ℕ) (s : List Bool) → n ≤ size → plane_bits r size n s ≡ min n r + tail_bits (r - min n r) (size - n) (drop (min n r) s)
-unfolding plane_bits tail_bits
-plane_bits-is r size n s within = search (rules, length-plane_code, length-plane_in, tail_of_full)
+pub plane_is : (r size n : ℕ) (s : List Bool) → n ≤ size → (plane_bits r size n s ≡ min n r + tail_bits (r - min n r) (size - n) (drop (min n r) s))
+    × (plane_ahead r size n s ≡ first_bits n (take r s) ++ tail_ahead (r - min n r) (size - n) (drop (min n r) s))
+unfolding plane_bits plane_ahead tail_bits tail_ahead
+plane_is r size n s within =
+    (search (rules, length-plane_code, length-plane_in, tail_of_full), search (rules, length-first_bits, length-drop, kept_as_cut, length-plane_in, prefix_padded, tail_of_full, take-append-le, take-first_bits))
 
 -- ---- a plane whose code is there and in the budget is read whole
 

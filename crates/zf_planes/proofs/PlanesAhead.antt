@@ -9,27 +9,24 @@ use Rattle.zf_spec.proofs.KeptSame.{kept_whole, kept_planes_from-none}
 use Rattle.zf_spec.proofs.Full.{length-plane_in, length-planes_in_from, planes_in_from-length}
 use Rattle.zf_planes.specs.Decoding.{plane_ahead, plane_bits, planes_ahead, planes_bits}
 
-pub planes_ahead-none : (r size n : ℕ) (s : List Bool) → planes_ahead r 0 size n s ≡ []
-unfolding planes_ahead
-planes_ahead-none r size n s = refl
-
-pub planes_bits-none : (r size n : ℕ) (s : List Bool) → planes_bits r 0 size n s ≡ 0
-unfolding planes_bits
-planes_bits-none r size n s = omega arith
+pub planes_none : (r size n : ℕ) (s : List Bool) → (planes_bits r 0 size n s ≡ 0) × (planes_ahead r 0 size n s ≡ [])
+unfolding planes_bits planes_ahead
+planes_none r size n s = (omega arith, refl)
 
 -- where no bit is left, all planes are zero, whatever ranks have had a one
-pub planes_ahead-spent : (r p size n : ℕ) (s : List Bool) → 1 ≤ size → n ≤ size → r ≡ 0 → planes_ahead r p size n s ≡ replicate p (replicate size false)
+planes_ahead-spent : (r p size n : ℕ) (s : List Bool) → 1 ≤ size → n ≤ size → r ≡ 0 → planes_ahead r p size n s ≡ replicate p (replicate size false)
 unfolding planes_ahead
 planes_ahead-spent r p size n s some within spent =
     rw spent (kept_planes_from-none size n (planes_in_from p size n []) some (planes_in_from-length p size n [] within) ∙ ap (λ k. replicate k (replicate size false)) (length-planes_in_from p size n []))
 
-pub planes_bits-spent : (r p size n : ℕ) (s : List Bool) → r ≡ 0 → planes_bits r p size n s ≡ 0
+planes_bits-spent : (r p size n : ℕ) (s : List Bool) → r ≡ 0 → planes_bits r p size n s ≡ 0
 unfolding planes_bits
 planes_bits-spent r p size n s spent = omega arith
 
 -- so nothing is read where no bit or no plane is left
 pub planes_over : (r p size n : ℕ) (s : List Bool) → 1 ≤ size → n ≤ size → (r ≡ 0) ⊎ (p ≡ 0) → (planes_bits r p size n s ≡ 0) × (planes_ahead r p size n s ≡ replicate p (replicate size false))
-planes_over r p size n s some within = search (rules, planes_bits-spent, planes_ahead-spent, planes_bits-none, planes_ahead-none)
+planes_over r p size n s some within =
+    ⊎_elim (λ e. (planes_bits-spent r p size n s e, planes_ahead-spent r p size n s some within e)) (λ (e : p ≡ 0). rw e (planes_none r size n s))
 
 -- a plane takes no more than it takes with those below
 pub one_bits-le : (r p size n : ℕ) (s : List Bool) → 0 < p → planes_bits r 1 size n s ≤ planes_bits r p size n s

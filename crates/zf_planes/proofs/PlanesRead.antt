@@ -5,7 +5,7 @@ use Rattle.std.proofs.lemmas.List.{length-map, length-replicate, take-replicate,
 use Rattle.zf_spec.{specs.Numbers.{field}, specs.Kept.{kept_planes}}
 use Rattle.zf_spec.{specs.HeldPlanes.{digits_held, planes_held, IsClearFrom}, proofs.Fields.{length-field}}
 use Rattle.zf_bits.specs.Reader.{Reader, rest}
-use Rattle.zf_planes.specs.Decoding.{IsWindow, Takes, plane_ahead, plane_bits, planes_ahead, planes_bits, coded, coded_bits, IsSpent, ReadsTop}
+use Rattle.zf_planes.specs.Decoding.{IsWindow, Takes, plane_ahead, plane_bits, planes_ahead, planes_bits, coded, coded_bits, ReadsTop}
 use Rattle.zf_planes.specs.{States.{State, Comes}, Moves.{AreZeroFrom}}
 use Rattle.zf_planes.{specs.WordPlanes.{IsReadAs}, proofs.Peeking.{window_prefix, window_long}}
 use Rattle.zf_planes.{proofs.Placing.{clear_zeros}, proofs.PlaneAhead.{whole_plane}}
@@ -56,16 +56,7 @@ plane_put words {size} {i} {s} {t} planes plane below clear zeros one =
 pub read_over : {budget prec size i : ℕ} {start : Reader} {now : State} (planes : List (List ℕ)) → AreRead budget prec size start now i planes → 1 ≤ size → prec ≤ length planes → (now.left ≡ 0) ⊎ (prec - i ≡ 0)
     → ReadsTop budget prec size (rest start) planes now.left
 read_over {budget} {prec} {size} {i} {start} {now} planes read some enough none =
-    let over = comes_over prec some (omega arith) read.comes read.within none in
-    let zeros = replicate size false in
-    let held = planes_held size planes in
-    let count : prec - i + (length planes - prec) ≡ length planes - i = omega (arith, read.within) in
-    record {
-      bits = over.0;
-      digits = sym (take-append-drop i held) ∙ ap (λ (ps : List (List Bool)). take i held ++ ps) (read.zeros.back ∙ ap (λ m. replicate m zeros) (sym count) ∙ sym (replicate-append-replicate (prec - i) (length planes - prec) zeros))
-          ∙ sym (append_assoc (take i held) (replicate (prec - i) zeros) (replicate (length planes - prec) zeros)) ∙ ap (λ (ps : List (List Bool)). ps ++ replicate (length planes - prec) zeros) (sym over.1);
-      clear = read.zeros.clear;
-    }
+    let over = comes_over prec some (omega arith) read.comes read.within none in search (rules, take-append-drop, replicate-append-replicate, append_assoc)
 
 -- ---- a plane that is known by the bits in sight
 
@@ -78,14 +69,7 @@ known_plane r size n bits count digits len above s within window read few =
 
 -- ---- of a whole code
 
-pub bits_are : (budget prec size : ℕ) (s : List Bool) → planes_bits budget prec size 0 s ≡ coded_bits budget prec size s
-unfolding planes_bits
-bits_are budget prec size s = refl
-
-pub planes_are : (budget prec size : ℕ) (s : List Bool) → planes_ahead budget prec size 0 s ≡ kept_planes budget (coded budget prec size s)
-unfolding planes_ahead
-planes_are budget prec size s = refl
-
-pub spent_on : (budget left prec size : ℕ) (s : List Bool) → IsSpent budget left (planes_bits budget prec size 0 s) s → IsSpent budget left (coded_bits budget prec size s) s
-unfolding planes_bits
-spent_on budget left prec size s spent = spent
+pub whole_is : (budget prec size : ℕ) (s : List Bool) → (planes_bits budget prec size 0 s ≡ coded_bits budget prec size s)
+    × (planes_ahead budget prec size 0 s ≡ kept_planes budget (coded budget prec size s))
+unfolding planes_bits planes_ahead
+whole_is budget prec size s = (refl, refl)

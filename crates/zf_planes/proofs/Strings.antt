@@ -1,5 +1,5 @@
 -- Strings: planes of four digits in one number, and their code.
-use Rattle.std.proofs.Common.{◌≡◌, ℕ, zero, suc, ◌+◌, ◌-◌, ◌*◌, ◌/◌, ◌%◌, ◌^◌, ◌<◌, ◌≤◌, min, max, Bool, false, List, [], ◌∷◌, ◌++◌, length, append_assoc, take, replicate, ⊎_elim, refl, sym, ap, ◌∙◌, arith}
+use Rattle.std.proofs.Common.{◌≡◌, ℕ, zero, suc, ◌+◌, ◌-◌, ◌*◌, ◌/◌, ◌%◌, ◌^◌, ◌<◌, ◌≤◌, min, max, Bool, false, List, [], ◌∷◌, ◌++◌, length, append_assoc, take, replicate, ⊎_elim, refl, sym, ap, ◌∙◌, arith, rules}
 use Rattle.std.{proofs.lemmas.List.{length-take}, proofs.lemmas.Nat.{pow-add}}
 use Rattle.std.{proofs.lemmas.Bool.{cases_lt}, proofs.lemmas.List.Elements.{All-nil, All-cons}}
 use Rattle.zf_spec.{specs.Numbers.{field}, proofs.Fields.{length-field, field-add, field-mod}}
@@ -7,43 +7,29 @@ use Rattle.zf_spec.specs.Planes.{plane_code, code_from, reach, reach_of_all, Are
 use Rattle.zf_spec.proofs.Reach.{reach-le}
 use Rattle.std.{specs.Int.Bits.{bit_or}}
 use Rattle.zf_bits.specs.Writer.{Writer}
-use Rattle.zf_planes.{specs.Fours.{string_planes, IsAsGood, IsCodeOfTwo}, proofs.Zeros.{field_before}}
+use Rattle.zf_planes.{specs.Fours.{string_planes, IsAsGood, IsCodeOfTwo, GoesOnBehind}, proofs.Zeros.{field_before}}
 use Rattle.zf_planes.{specs.Writes.{Remains}, proofs.LastRank.{code_of_three}}
 use Rattle.zf_planes.{proofs.Budgets.{take_append, Remains-same}, proofs.Gathering.{take_field, bits_behind}}
 
 -- ---- the code of planes goes on behind bits that were put together
 
--- behind some bits of the code of a string, with ranks below n that have had a one, its last k planes are coded with ranks below m
-pub record GoesOn (n : ℕ) (planes : List (List Bool)) (bits : List Bool) (m : ℕ) (rest : List (List Bool)) : Type 0 where
-  pub code : code_from n planes ≡ bits ++ code_from m rest
-  pub reached : max n (reach_of_all planes) ≡ max m (reach_of_all rest)
-
-GoesOn-more : {n m k : ℕ} {planes rest last : List (List Bool)} {prefix back : List Bool} (both : List Bool) → GoesOn n planes prefix m rest → GoesOn m rest back k last → both ≡ prefix ++ back
-    → GoesOn n planes both k last
-GoesOn-more {n} {m} {k} {planes} {rest} {last} {prefix} {back} both first second joined = record {
-  code = cc (first.code, second.code, append_assoc prefix back (code_from k last));
-  reached = first.reached ∙ second.reached;
-}
-
--- by one plane
-plane_of_string : (n k string next : ℕ) (bits : List Bool) → bits ≡ plane_code n (field 4 (string % 16)) → next ≡ max n (reach (field 4 (string % 16)))
-    → GoesOn n (string_planes (suc k) string) bits next (string_planes k (string / 16))
+-- by two planes
+pub pair_of_string : (n k string l v a : ℕ) → 1 < k → IsCodeOfTwo n string l v a → GoesOnBehind n (string_planes k string) l v a (string_planes (k - 2) (string / 256))
 unfolding string_planes
-plane_of_string n k string next bits is reached = grind (arith, field-mod)
-
--- by two
-pub pair_of_string : (n k string next : ℕ) (bits : List Bool) → 1 < k
-    → bits ≡ plane_code n (field 4 (string % 16)) ++ plane_code (max n (reach (field 4 (string % 16)))) (field 4 (string / 16 % 16))
-    → next ≡ max (max n (reach (field 4 (string % 16)))) (reach (field 4 (string / 16 % 16)))
-    → GoesOn n (string_planes k string) bits next (string_planes (k - 2) (string / 256))
-pair_of_string n (suc (suc k)) string next bits some is reached =
-    let mid = max n (reach (field 4 (string % 16))) in
+pair_of_string n (suc (suc k)) string l v a some two =
     let left : suc (suc k) - 2 ≡ k = omega arith in
     let below : string / 256 ≡ string / 16 / 16 = omega arith in
-    let first = plane_of_string n (suc k) string mid (plane_code n (field 4 (string % 16))) refl refl in
-    let second = plane_of_string mid k (string / 16) next (plane_code mid (field 4 (string / 16 % 16))) refl reached in
-    rw (left, below) (GoesOn-more bits first second is)
-pair_of_string n k string next bits some is reached = absurd (omega arith)
+    let rest = code_from a (string_planes k (string / 16 / 16)) in
+    let first = plane_code n (field 4 string) in
+    let one = field-mod 4 string in
+    let next = field-mod 4 (string / 16) in
+    rw (left, below) (record {
+      bits = cc (one, next, two.bits, two.above, append_assoc first (plane_code (max n (reach (field 4 string))) (field 4 (string / 16))) rest);
+      reached = grind (arith, one, next, two.above);
+      small = two.small;
+      len = two.len;
+    })
+pair_of_string n k string l v a some two = absurd (omega arith)
 
 -- a string has no digits behind its planes, once two of them are gone
 pub string_small : (k string : ℕ) → 0 < k → string < 2 ^ (4 * k) → string / 256 < 2 ^ (4 * (k - 2))
@@ -60,12 +46,6 @@ unfolding string_planes
 string_end zero above string none = (refl, refl)
 string_end (suc planes) above string none = absurd (omega arith)
 
--- by the last one
-pub last_of_string : (n k string next : ℕ) (bits : List Bool) → k ≡ 1 → bits ≡ plane_code n (field 4 (string % 16)) → next ≡ max n (reach (field 4 (string % 16)))
-    → GoesOn n (string_planes k string) bits next (string_planes (k - 2) (string / 256))
-unfolding string_planes
-last_of_string n k string next bits one is reached = rw one (plane_of_string n zero string next bits is reached)
-
 zero_plane : (m : ℕ) → m ≤ 4 → plane_code m (field 4 0) ≡ replicate (min (m + 1) 4) false
 zero_plane zero few = refl
 zero_plane (suc zero) few = refl
@@ -74,10 +54,11 @@ zero_plane (suc (suc (suc zero))) few = refl
 zero_plane (suc (suc (suc (suc zero)))) few = refl
 zero_plane m few = absurd (omega arith)
 
--- a plane's code in front of that of a plane of zeros
-pub first_of_two : (n string l v a : ℕ) → n < 3 → IsCodeOfTwo n (string % 16) l v a
-    → (field (l - min (a + 1) 4) v ≡ plane_code n (field 4 (string % 16))) × (v < 2 ^ (l - min (a + 1) 4)) × (min (a + 1) 4 ≤ l) × (a ≡ max n (reach (field 4 (string % 16))))
-first_of_two n string l v a few two =
+-- by the last one, whose code stands in front of that of a plane of zeros
+pub last_of_string : (n k string l v a : ℕ) → n < 3 → k ≡ 1 → IsCodeOfTwo n (string % 16) l v a
+    → (min (a + 1) 4 ≤ l) × GoesOnBehind n (string_planes k string) (l - min (a + 1) 4) v a (string_planes (k - 2) (string / 256))
+unfolding string_planes
+last_of_string n k string l v a few is two =
     let ds = field 4 (string % 16) in
     let first : string % 16 % 16 ≡ string % 16 = omega arith in
     let second : string % 16 / 16 % 16 ≡ 0 = omega arith in
@@ -88,7 +69,8 @@ first_of_two n string l v a few two =
     (rw (first, second, ← reached) at two.bits) ∙ ap (λ (bs : List Bool). plane_code n ds ++ bs) (zero_plane a within) in
     let found = field_before l (min (a + 1) 4) v (plane_code n ds) two.small code in
     let long : length (plane_code n ds) ≡ l - min (a + 1) 4 = omega (arith, found.2) in
-    let here = rw long at found in (here.0, here.1, omega (arith, found.2), reached)
+    let here = rw long at found in
+    let same = field-mod 4 string in search rules
 
 -- the first planes of a string
 pub take-fours : (m k string : ℕ) → take m (string_planes (m + k) string) ≡ string_planes m string
@@ -106,6 +88,10 @@ code_from-append n (ds ∷ planes) below =
     let rest = code_from (max n (reach ds)) planes in
     ap (λ (bs : List Bool). plane_code n ds ++ bs) (code_from-append (max n (reach ds)) planes below ∙ ap (λ m. rest ++ code_from m below) far)
     ∙ sym (append_assoc (plane_code n ds) rest (code_from (max n (max (reach ds) (reach_of_all planes))) below))
+
+pub reach_of_all-append : (ps qs : List (List Bool)) → reach_of_all (ps ++ qs) ≡ max (reach_of_all ps) (reach_of_all qs)
+reach_of_all-append [] qs = omega arith
+reach_of_all-append (p ∷ ps) qs = omega (arith, reach_of_all-append ps qs)
 
 -- ---- three ranks have had a one
 
@@ -136,20 +122,9 @@ reach_of_string-le (suc k) string = omega (arith, reach-le (field 4 string), len
 -- only as many bits as are left of the budget matter
 pub Remains-cut : {old now : Writer} {budget left : ℕ} {whole : List Bool} (rest rest' : List Bool) → take left rest ≡ take left rest' → Remains old now budget left whole rest → Remains old now budget left whole rest'
 Remains-cut {old} {now} {budget} {left} {whole} rest rest' same remains =
-    let long : min left (length rest) ≡ min left (length rest') = sym (length-take left rest) ∙ ap length same ∙ length-take left rest' in
-    record {
-      bits = cc (remains.bits, same);
-      spent = omega (arith, long, remains.spent);
-      fits = omega (arith, long, remains.fits);
-      room = omega (arith, long, remains.room);
-      within = remains.within;
-    }
+    let long : min left (length rest) ≡ min left (length rest') = sym (length-take left rest) ∙ ap length same ∙ length-take left rest' in search rules
 
--- and where none is left, nothing of what is still to come
-pub Remains-none : {old now : Writer} {budget left : ℕ} {whole : List Bool} (rest rest' : List Bool) → left ≡ 0 → Remains old now budget left whole rest → Remains old now budget left whole rest'
-Remains-none {old} {now} {budget} {left} {whole} rest rest' none remains = Remains-cut rest rest' (rw none refl) remains
-
--- nor what is behind as many bits as are left
+-- and nothing of what is behind as many bits as are left
 pub Remains-reached : {old now : Writer} {budget left : ℕ} {whole : List Bool} (l v : ℕ) (rest rest' : List Bool) → left ≤ l → Remains old now budget left whole (field l v ++ rest) → Remains old now budget left whole (field l v ++ rest')
 Remains-reached {old} {now} {budget} {left} {whole} l v rest rest' few remains =
     let none : left - length (field l v) ≡ 0 = omega (arith, few, length-field l v) in

@@ -214,10 +214,10 @@ string-split planes count string words most is same = ⊎_elim
 -- ---- digits of four coefficients, behind planes without a one
 
 -- the code of the planes of four digits remains to be written, of which the first z have no one: a zero for each
-pub remains_four : (out : Writer) (budget w p z : ℕ) (words : List ℕ) → length words ≡ 4 → w ≤ 64 → p ≤ w → z ≤ p → take z (planes_of w (map (field w) words)) ≡ replicate z (replicate 4 false)
-    → min budget (4 * p + 4) ≤ out.room
-    → Remains out out budget budget (code (take p (planes_of w (map (field w) words)))) (field z 0 ++ code_from 0 (top_planes (p - z) (map (below (64 - w + z)) words)))
-remains_four out budget w p z words four small within few zeros room =
+pub remains_four : (out : Writer) (budget w p z len : ℕ) (words rest : List ℕ) → length words ≡ 4 → w ≤ 64 → p ≤ w → z ≤ p → take z (planes_of w (map (field w) words)) ≡ replicate z (replicate 4 false)
+    → min budget (4 * p + 4) ≤ out.room → len ≡ z → rest ≡ map (below (64 - w + z)) words
+    → Remains out out budget budget (code (take p (planes_of w (map (field w) words)))) (field len 0 ++ code_from 0 (top_planes (p - z) rest))
+remains_four out budget w p z len words rest four small within few zeros room is behind =
     let cs = map (field w) words in
     let ps = planes_of w cs in
     let top = take p ps in

@@ -2,8 +2,9 @@
 use Rattle.std.proofs.Common.{rules, ◌≡◌, ℕ, zero, suc, map, ◌+◌, ◌-◌, ◌*◌, ◌<◌, ◌≤◌, ◌≢◌, Bool, false, max, List, [], ◌∷◌, ◌++◌, length, take, drop, get_or, set, replicate, refl, sym, ap, ◌∙◌, arith, ext_get_or, length-set, get_or-set_same, get_or-set_other}
 use Rattle.std.proofs.lemmas.List.{map-set, take_more_set, length-map, get_or-map, get_or-take, length-take, drop_more, length-replicate, get_or-replicate}
 use Rattle.std.{proofs.lemmas.Bool.{cases_eq}, specs.List.{All}}
-use Rattle.zf_planes.{proofs.Filling.{behind_next}, proofs.Placing.{held_zeros}}
-use Rattle.zf_spec.{proofs.Counting.{four_elements}, specs.Planes.{code_from, plane_code, reach}}
+use Rattle.zf_planes.{specs.Writes.{Remains}, proofs.Placing.{behind_next, held_zeros}}
+use Rattle.zf_bits.specs.Writer.{Writer}
+use Rattle.zf_spec.{specs.Numbers.{field}, proofs.Counting.{four_elements}, specs.Planes.{code_from, plane_code, reach}}
 use Rattle.zf_spec.specs.HeldPlanes.{digits_held, planes_held}
 use Rattle.zf_spec.proofs.HeldPlanes.{length-digits_held, get_or-planes_held, length-planes_held}
 
@@ -36,6 +37,13 @@ pub code_next : {A : Type 0} (words : A → List ℕ) (above prec size i : ℕ) 
     → code_from above (drop i (take prec (planes_held size (map words planes))))
     ≡ plane_code above (digits_held size (words plane)) ++ code_from (max above (reach (digits_held size (words plane)))) (drop (i + 1) (take prec (planes_held size (map words planes))))
 code_next words above prec size i planes plane is below within = search (rules, length-map, get_or-map, drop-top_held)
+
+-- behind bits that are not written yet comes the next plane, of which the digits are at hand
+pub next_word : {A : Type 0} {old now : Writer} {budget left : ℕ} {whole : List Bool} (words : A → List ℕ) (above prec size i len bits digits : ℕ) (planes : List A) (plane : A)
+    → Remains old now budget left whole (field len bits ++ code_from above (drop i (take prec (planes_held size (map words planes)))))
+    → plane ≡ get_or planes (length planes - 1 - i) plane → i < prec → prec ≤ length planes → field size digits ≡ digits_held size (words plane)
+    → Remains old now budget left whole (field len bits ++ (plane_code above (field size digits) ++ code_from (max above (reach (field size digits))) (drop (i + 1) (take prec (planes_held size (map words planes))))))
+next_word words above prec size i len bits digits planes plane remains is below within same = search (rules, code_next)
 
 -- planes of four words are those of their words by number
 pub arrays_as_words : (planes : List (List ℕ)) → ((i : ℕ) → i < length planes → length (get_or planes i []) ≡ 4)

@@ -39,6 +39,7 @@ impl<'a> Cursor<'a> {
 
     /// Passes bits that were looked at.
     #[inline]
+    #[tactic(auto, using(crate::proofs::Peeking::window_long))]
     pub(crate) fn pass(&mut self, n: u64)
         requires some { 0 < n }
         requires within { n ≤ self.old.count }

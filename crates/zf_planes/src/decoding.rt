@@ -22,6 +22,7 @@ pub(crate) struct PlaneRead<P: Plane> {
 
 /// Reads the first `n` digits as they are, as far as the budget reaches; the others are zero.
 #[inline(always)]
+#[tactic(auto, using(crate::proofs::Placing::put_in, crate::proofs::PlaneAhead::prefix_read))]
 fn read_prefix<P: Plane>(n: usize, cursor: &mut Cursor<'_>) -> Option<P>
     requires words { n ≤ 64 * P.word_count }
     ensures short { IfNone result (Lacks cursor.old.reader cursor.new.reader (min n cursor.old.left)) }
@@ -130,6 +131,7 @@ fn set_one<P: Plane>(rank: usize, plane: &mut P)
 /// Reads the tail of a plane from rank `n` on: behind each group bit that is one a run, until a group bit is
 /// zero or no rank is left. The digits below rank `n` are there.
 #[inline(always)]
+#[tactic(auto, using(crate::proofs::Lengths::plane_lengths))]
 fn read_tail<P: Plane>(
     n: usize,
     size: usize,
@@ -186,6 +188,7 @@ pub(crate) fn read_by_runs<P: Plane>(
 /// shorter. The answer is the number of its bits. `None` means that the bits end before the budget and the
 /// code do; then the reader stands where it stood, and the planes hold anything. They are zero before, so
 /// that a caller that has just made them clears none twice.
+#[tactic(auto, using(crate::proofs::PlanesRead::whole_is))]
 pub fn read_planes<P: Plane>(
     budget: u64,
     prec: u32,

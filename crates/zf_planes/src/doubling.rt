@@ -18,6 +18,7 @@ pub(crate) struct Part {
 
 /// Eight digits, each one doubled.
 #[inline]
+#[tactic(auto, using(crate::proofs::Doubled::double_of_entry))]
 fn double(digits: u64) -> Part
     requires { digits < 256 }
     ensures bits { field result.len result.bits ≡ doubled (field 8 digits) }

@@ -11,6 +11,7 @@ use zf_bits::{BitWriter, Plane};
 
 /// Appends the digits of the ranks from `from` on and below `to` as they are, as far as `left` bits reach.
 /// The answer is the bits that are left.
+#[tactic(auto, using(crate::proofs::Lengths::plane_lengths))]
 fn write_digits<P: Plane>(left: u64, from: usize, to: usize, plane: &P, out: &mut BitWriter) -> u64
     requires order { from ≤ to }
     requires words { to ≤ 64 * P.word_count }

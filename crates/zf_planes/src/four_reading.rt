@@ -91,6 +91,7 @@ fn read_some(most: u32, n: usize, cursor: &mut Cursor<'_>) -> Option<PlanesInLan
 /// Reads one plane or four of `most` planes, in which all ranks have had a one above, so that each is its own
 /// code. Where the budget ends, zeros follow.
 #[inline(always)]
+#[tactic(auto, using(crate::proofs::Passing::if_none, crate::proofs::LastRank::own_bits))]
 fn read_verbatim(most: u32, cursor: &mut Cursor<'_>) -> Option<PlanesInLanes>
     requires some { 0 < most }
     requires left { 0 < cursor.old.left }
@@ -139,6 +140,7 @@ fn read_sixteen(most: u32, cursor: &mut Cursor<'_>) -> PlanesInLanes
 /// Reads the code of one plane or more, at most `most`, where the ranks below `n` have had a one above. Three
 /// are as good as four.
 #[inline(always)]
+#[tactic(auto, using(crate::proofs::Passing::on_none, crate::proofs::LastRank::ahead_of_three))]
 fn read_next(most: u32, n: usize, cursor: &mut Cursor<'_>) -> Option<PlanesInLanes>
     requires some { 0 < most }
     requires in_plane { n ≤ 4 }
@@ -197,6 +199,7 @@ fn put_down(digits: Gathered) -> Gathered
 
 /// Puts planes behind those that were read before.
 #[inline(always)]
+#[tactic(auto, using(crate::proofs::Lanes::lanes_put))]
 fn add(digits: Gathered, some: PlanesInLanes) -> Gathered
     requires gathered { IsGathered digits.words digits.done digits.lanes digits.held }
     requires held { digits.held ≤ 12 }
@@ -223,6 +226,7 @@ fn add(digits: Gathered, some: PlanesInLanes) -> Gathered
 
 /// The digits in words, where the planes below those that were read are zero.
 #[inline(always)]
+#[tactic(auto, using(crate::proofs::Lanes::four_below))]
 fn digits_of(digits: Gathered, width: u32) -> [u64; 4]
     requires gathered { IsGathered digits.words digits.done digits.lanes digits.held }
     requires held { digits.held ≤ 12 }
@@ -323,6 +327,7 @@ fn read_gathered(budget: u64, prec: u32, reader: &BitReader<'_>) -> Option<ReadD
 /// of it where it is shorter, into their digits. The answer is the number of its bits. `None` means that the
 /// bits end before the budget and the code do; then the reader stands where it stood, and the digits are
 /// anything. The planes below the ones read are zero.
+#[tactic(auto, using(crate::proofs::PlanesRead::whole_is, crate::proofs::Lanes::each_below))]
 pub fn read_four(
     budget: u64,
     prec: u32,

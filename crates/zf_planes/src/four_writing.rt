@@ -69,6 +69,7 @@ fn pairs_of_top(word: u64) -> u64
 /// In how many planes from the top on, at most sixteen, the first rank alone has ones, if it has one in the
 /// first of them.
 #[inline(always)]
+#[tactic(auto, using(crate::proofs::TopPlanes::no_top_planes))]
 fn count_of_lone(planes: u32, words: &[u64; 4]) -> u32
     ensures { AreLoneAtTop planes words.now result }
 {
@@ -235,6 +236,7 @@ fn write_top(left: u64, part: Part, planes: u32, words: [u64; 4], out: &mut BitW
 /// `budget` bits where it is longer. The top `zeros` planes have no one. The answer is the number of bits
 /// appended. Bits of digits from `width` on are not looked at.
 #[inline(always)]
+#[tactic(auto, using(std::proofs::lemmas::Nat::pow_pos))]
 pub fn write_four(
     zeros: u32,
     budget: u64,

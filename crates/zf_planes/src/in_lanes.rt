@@ -11,6 +11,7 @@ use crate::entries::{
 
 /// The digits of a plane of four, each in a lane.
 #[inline]
+#[tactic(auto, using(crate::proofs::LaneTables::one_of_digits))]
 pub(crate) fn lanes_of_4(digits: u64) -> u64
     requires digits { digits < 16 }
     ensures digits { low_planes 1 (lanes_in 4 result) ≡ field 4 digits ∷ [] }
@@ -127,6 +128,7 @@ fn turned_pairs(bits: u64) -> u64
 /// The planes in which the first rank alone has ones, at most twelve, whose code these bits begin with, as
 /// far as `count` bits are in sight. Behind the first group bit each has its digit, and a group bit of zero.
 #[inline(always)]
+#[tactic(auto, using(crate::proofs::TurnedPairs::groups_zero))]
 pub(crate) fn lone_in_sight(most: u32, bits: u64, count: u64) -> PlanesInLanes
     requires some { 0 < most }
     requires there { 3 ≤ count }

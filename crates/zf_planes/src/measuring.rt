@@ -9,6 +9,7 @@ use zf_bits::Plane;
 
 /// The length of the code of a plane in which the ranks below `n` have had a one above, and whose own ones
 /// end before rank `end`.
+#[tactic(auto, using(crate::proofs::Lengths::plane_lengths))]
 fn plane_len<P: Plane>(n: usize, size: usize, end: usize, plane: &P) -> usize
     requires words { size ≤ 64 * P.word_count }
     requires in_plane { n ≤ size }

@@ -44,6 +44,7 @@ fn take_plane<P: Plane>(
 /// number `from` on and before that of number `to`: the first digits of each, and a group bit of zero. The
 /// answer is the number of the first plane that was not read.
 #[inline(always)]
+#[tactic(auto, using(crate::proofs::Peeking::window_long))]
 pub(crate) fn read_same<P: Plane>(
     n: usize,
     size: usize,

@@ -38,6 +38,7 @@ struct Begun {
 /// as far as it surely fits a word. Where values are smooth, these are many. The table of planes of four
 /// digits knows them two at a time; once all three ranks have had a one, each is written as it is.
 #[inline(always)]
+#[tactic(auto, using(std::proofs::lemmas::Nat::le_or_l, std::proofs::lemmas::Nat::le_or_r))]
 fn narrow_planes<P: Plane>(from: usize, prec: u32, size: usize, planes: &[P]) -> Begun
     requires some { 3 < size }
     requires size { size ≤ 64 }

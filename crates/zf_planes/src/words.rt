@@ -8,6 +8,7 @@ use zf_bits::Plane;
 
 /// The digits of a plane that lies in one word, as a number.
 #[inline]
+#[tactic(auto, using(crate::proofs::Gathering::first_digits))]
 pub(crate) fn first_word<P: Plane>(plane: &P, size: usize) -> u64
     requires size { IsWordSize size }
     ensures digits { field size result ≡ digits_held size (P.words plane.now) }
@@ -18,6 +19,7 @@ pub(crate) fn first_word<P: Plane>(plane: &P, size: usize) -> u64
 
 /// How many zeros follow from rank `n` on before the next one.
 #[inline]
+#[tactic(auto, using(crate::proofs::Digits::zeros_of_word))]
 pub(crate) fn zeros_from<P: Plane>(plane: &P, n: usize, size: usize) -> usize
     requires words { size ≤ 64 * P.word_count }
     requires one { IsTrue (has_one (drop n (digits_held size (P.words plane.now)))) }
@@ -38,6 +40,7 @@ pub(crate) fn zeros_from<P: Plane>(plane: &P, n: usize, size: usize) -> usize
 
 /// One more than the greatest rank that has a one, or 0.
 #[inline]
+#[tactic(auto, using(crate::proofs::Digits::from_the_end))]
 pub(crate) fn reach_in<P: Plane>(plane: &P, size: usize) -> usize
     requires words { size ≤ 64 * P.word_count }
     ensures value { result ≡ reach (digits_held size (P.words plane.now)) }
@@ -58,6 +61,7 @@ pub(crate) fn reach_in<P: Plane>(plane: &P, size: usize) -> usize
 
 /// How many of the ranks from `n` on have a one.
 #[inline]
+#[tactic(auto, using(crate::proofs::Lengths::plane_lengths))]
 pub(crate) fn ones_from<P: Plane>(plane: &P, n: usize, size: usize) -> usize
     requires words { size ≤ 64 * P.word_count }
     requires in_plane { n ≤ size }

@@ -1,8 +1,8 @@
-use Rattle.std.proofs.Common.{◌≡◌, ℕ, ◌%◌, ◌<◌, ◌+◌, ◌-◌, drop, ◌∙◌, arith}
+use Rattle.std.proofs.Common.{◌≡◌, ℕ, ◌%◌, ◌<◌, ◌+◌, ◌-◌, drop, true, eqb, ap, ◌∙◌, arith}
 use Rattle.zf_bits.specs.Reader.{Reader, rest}
 use Rattle.zf_planes.specs.Decoding.{IsWindow, Takes, Lacks, tail_ahead, tail_bits, run_ahead, run_bits}
 use Rattle.zf_planes.proofs.Passing.{Passes-start, Passes-part, Passes-lacks, Takes-rest, Takes-sum, if_none}
-use Rattle.zf_planes.{proofs.Peeking.{group_ahead, one_first}, proofs.Steps.{tail_run}}
+use Rattle.zf_planes.{proofs.Peeking.{group_ahead, first_bit}, proofs.Steps.{tail_run}}
 use Rattle.zf_planes.proofs.decoding.read_group.Goals as goal
 
 -- ---- the run lies among the bits that were looked at
@@ -28,7 +28,7 @@ returns-then-bits-cursor-clause-read c =
 behind_group : {now mid : Reader} {left after : ℕ} (bits count most : ℕ) → IsWindow left bits count (rest now) → 0 < count → bits % 2 ≡ 1 → 0 < most → Takes now mid left after 1
     → (tail_bits left most (rest now) ≡ 1 + run_bits after most (rest mid)) × (tail_ahead left most (rest now) ≡ run_ahead after most (rest mid))
 behind_group {now} {mid} {left} {after} bits count most window there odd some passed =
-    let one = one_first (rest now) bits count window.bits there odd in
+    let one = first_bit (rest now) bits count true window.bits there (ap (λ b. eqb b 1) odd) in
     let spent : after ≡ left - 1 = omega (arith, passed.spent) in
     let run = tail_run left most (rest now) (drop 1 (rest now)) (omega (arith, passed.spent)) some one in
     rw (spent, Takes-rest passed) (omega (arith, run.0), run.1)

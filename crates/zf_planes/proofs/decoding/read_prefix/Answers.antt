@@ -2,7 +2,7 @@ use Rattle.std.proofs.Common.{rules, ◌≡◌, ℕ, ◌+◌, ◌-◌, ◌*◌, 
 use Rattle.std.{proofs.lemmas.Bool.{cases_lt}, proofs.lemmas.List.{length-take}, proofs.Math.Seq.{take-add}}
 use Rattle.zf_bits.specs.Reader.{rest}
 use Rattle.zf_planes.{specs.Decoding.{Lacks}, proofs.PlaneAhead.{prefix_read}}
-use Rattle.zf_planes.proofs.Passing.{Passes-part, Passes-lacks, Passes-rest, if_none}
+use Rattle.zf_planes.proofs.Passing.{Passes-part, Passes-lacks, Takes-rest, if_none}
 use Rattle.zf_planes.proofs.Placing.{clear_zeros, clear_later, held_behind, word_filled}
 use Rattle.zf_spec.proofs.HeldPlanes.{digits_held-none}
 use Rattle.zf_planes.proofs.decoding.read_prefix.Goals as goal
@@ -32,7 +32,7 @@ loop-at-preserved g c =
     let ok = c.in_ok-digits.ensures in
     let now = rest c.loop-at.cursor.reader in
     let passed : c.args.cursor.now.left - c.loop-at.cursor.left ≡ at = omega (arith, before.passes.sum, before.within) in
-    let here : now ≡ drop at s = Passes-rest before.passes ∙ ap (λ k. drop k s) passed in
+    let here : now ≡ drop at s = Takes-rest before.passes.taken ∙ ap (λ k. drop k s) passed in
     let more = take n now in
     let long : length more ≡ n = omega (arith, length-take n now, ok.taken.enough) in
     let start : at ≡ 64 * q = ⊎_elim (λ (e : at % 64 ≡ 0). omega arith) (λ (e : at ≡ count). absurd (omega (arith, c.loop-at-test.true))) before.place in
@@ -48,9 +48,3 @@ loop-at-preserved g c =
     }
 
 -- ---- all are read
-
-pub returns-clause-digits : goal.returns-clause-digits
-returns-clause-digits g c = search (rules, held_behind, prefix_read)
-
-pub returns-clause-clear : goal.returns-clause-clear
-returns-clause-clear g c = clear_later c.loop-at.at c.args.n (g.P.Plane.words c.loop-at.plane) (omega (arith, c.loop-at.invariant.within, c.min-count.ensures)) c.loop-at.invariant.clear

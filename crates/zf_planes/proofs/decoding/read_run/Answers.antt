@@ -1,8 +1,8 @@
-use Rattle.std.proofs.Common.{rules, ◌≡◌, ℕ, ◌+◌, ◌-◌, ◌<◌, ◌≤◌, length, drop, refl, sym, ap, ◌∙◌, arith}
+use Rattle.std.proofs.Common.{rules, ◌≡◌, ◌+◌, ◌-◌, ◌<◌, ◌≤◌, length, drop, refl, sym, ap, ◌∙◌, arith}
 use Rattle.std.proofs.lemmas.List.{nil_from_length}
-use Rattle.zf_bits.specs.Reader.{Reader, rest}
-use Rattle.zf_planes.specs.Decoding.{Takes, run_ahead, run_bits, tail_ahead, tail_bits}
-use Rattle.zf_planes.proofs.Passing.{Passes, Passes-part, Passes-lacks, Takes-rest}
+use Rattle.zf_bits.specs.Reader.{rest}
+use Rattle.zf_planes.specs.Decoding.{run_ahead, run_bits, tail_ahead, tail_bits}
+use Rattle.zf_planes.proofs.Passing.{Passes-part, Passes-lacks, Takes-rest}
 use Rattle.zf_planes.proofs.Peeking.{peeked, zeros_ahead, one_ahead, run_zeros, zeros_and_one, replicate_both, Takes-skip}
 use Rattle.zf_planes.proofs.Steps.{run_stands, run_short}
 use Rattle.zf_planes.proofs.decoding.read_run.Goals as goal
@@ -17,10 +17,6 @@ returns-then-ahead-eq0-clause-short c =
     Passes-lacks c.loop-zeros.invariant.passes (record { few = omega arith; all = refl }) needed
 
 -- ---- the one
-
--- what was passed
-taken_of : {old now : Reader} {budget left more needed : ℕ} → Passes old now budget left more needed → Takes old now budget left (budget - left)
-taken_of passes = record { enough = passes.enough; place = passes.place; all = passes.all; spent = omega (arith, passes.within) }
 
 pub returns-then-count-ahead-clause-read : goal.returns-then-count-ahead-clause-read
 returns-then-count-ahead-clause-read c =
@@ -40,8 +36,8 @@ returns-then-count-ahead-clause-read c =
     let digits = ap (λ n. tail_ahead (left - k - 1) n (drop (k + 1) s)) place ∙ ap (tail_ahead (left - k - 1) (c.args.most - (z + k) - 1)) (sym (Takes-rest passed)) in
     record {
       within = omega (arith, c.if-count-ahead.true, c.min-ahead.ensures, c.min-in-loop-zeros.ensures);
-      taken = taken_of (Passes-part (tail_bits (left - k - 1) (c.args.most - (z + k) - 1) (rest c.skip.new.self)) c.loop-zeros.invariant.passes (omega (arith, both.0, bits, passed.spent)) (rw after at passed));
-      bits = omega (arith, both.0, bits, c.loop-zeros.invariant.passes.sum, c.loop-zeros.invariant.passes.within, passed.spent);
+      taken = (Passes-part (tail_bits (left - k - 1) (c.args.most - (z + k) - 1) (rest c.skip.new.self)) c.loop-zeros.invariant.passes (omega (arith, both.0, bits, passed.spent)) (rw after at passed)).taken;
+      bits = omega (arith, both.0, bits, c.loop-zeros.invariant.passes.sum, c.loop-zeros.invariant.passes.taken.spent, passed.spent);
       digits = search (rules, replicate_both);
     }
 
@@ -75,7 +71,7 @@ loop-zeros-preserved c =
 -- ---- the one has no bit
 
 pub returns-else-left-gt0-clause-read : goal.returns-else-left-gt0-clause-read
-returns-else-left-gt0-clause-read c = search (rules, run_stands, taken_of)
+returns-else-left-gt0-clause-read c = search (rules, run_stands)
 
 pub returns-after-loop-zeros-clause-read : goal.returns-after-loop-zeros-clause-read
-returns-after-loop-zeros-clause-read c = search (rules, run_stands, taken_of)
+returns-after-loop-zeros-clause-read c = search (rules, run_stands)

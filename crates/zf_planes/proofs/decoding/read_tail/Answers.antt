@@ -1,17 +1,14 @@
-use Rattle.std.proofs.Common.{rules, ◌≡◌, ℕ, ◌+◌, ◌-◌, ◌*◌, ◌%◌, ◌<◌, ◌≤◌, ◌⊎◌, max, Bool, true, false, List, [], ◌∷◌, ◌++◌, length, replicate, refl, sym, ap, ◌∙◌, arith, append_assoc}
+use Rattle.std.proofs.Common.{rules, ◌≡◌, ℕ, ◌+◌, ◌-◌, ◌*◌, ◌%◌, ◌<◌, ◌≤◌, ◌⊎◌, max, Bool, true, false, List, [], ◌∷◌, ◌++◌, length, replicate, refl, eqb, sym, ap, ◌∙◌, arith, append_assoc}
 use Rattle.std.proofs.lemmas.List.{nil_from_length}
 use Rattle.zf_spec.{specs.Planes.{reach}, specs.HeldPlanes.{digits_held, IsClearFrom}}
-use Rattle.zf_spec.{proofs.Reach.{reach-le}, proofs.HeldPlanes.{length-digits_held}}
+use Rattle.zf_spec.{proofs.HeldPlanes.{length-digits_held}}
 use Rattle.zf_bits.specs.Reader.{Reader, rest}
 use Rattle.zf_planes.specs.Decoding.{IsWindow, Takes, ReadsTail, tail_ahead, tail_bits}
 use Rattle.zf_planes.proofs.Passing.{Passes-part, Passes-end, Passes-lacks, if_none}
-use Rattle.zf_planes.{proofs.Peeking.{zero_first}, proofs.Steps.{tail_over, tail_end, tail_short}}
+use Rattle.zf_planes.{proofs.Peeking.{first_bit}, proofs.Steps.{tail_over, tail_end, tail_short}}
 use Rattle.zf_planes.proofs.Placing.{clear_later, held_behind, one_placed, reach_behind, reach_one}
 use Rattle.zf_planes.proofs.decoding.read_tail.Goals.{then-loop-n-test+else-cursor-gt0, else-loop-n-test}
 use Rattle.zf_planes.proofs.decoding.read_tail.Goals as goal
-
-pub loop-n-init : goal.loop-n-init
-loop-n-init g c = search (rules, reach-le, length-digits_held)
 
 -- ---- the bits end
 
@@ -71,7 +68,7 @@ finished size n from prefix ws more within enough clear above is zeros taken = s
 
 -- a group bit of zero
 at_end : (left m bits count : ℕ) (s : List Bool) → 0 < left → 0 < m → IsWindow left bits count s → 1 ≤ count → bits % 2 ≡ 0 → (tail_bits left m s ≡ 1) × (tail_ahead left m s ≡ replicate m false)
-at_end left m bits count s some digit window there even = tail_end left m s _ some digit (zero_first s bits count window.bits there even)
+at_end left m bits count s some digit window there even = tail_end left m s _ some digit (first_bit s bits count false window.bits there (ap (λ b. eqb b 1) even))
 
 pub returns-then-cursor-eq0-clause-read : goal.returns-then-cursor-eq0-clause-read
 returns-then-cursor-eq0-clause-read g c =

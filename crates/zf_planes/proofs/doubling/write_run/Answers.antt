@@ -15,23 +15,21 @@ joined_on : {old now : Writer} {budget left : ℕ} {all : List Bool} (most digit
 joined_on most digits k v l w j x some within remains two joined =
     let run = run_goes_on most digits some within in
     let rest = code_from_run (field (most - 8) (digits / 256)) in
-    Remains-same remains
-    (cc (run.code, append_assoc (field k v) (field l w) rest))
+    Remains-same remains (cc (run.2, append_assoc (field k v) (field l w) rest))
 
 pub make_room-left-requires-clause-fits : goal.make_room-left-requires-clause-fits
 make_room-left-requires-clause-fits c = room_for _ _ _ (joined_on c.loop-digits.most c.loop-digits.digits _ c.loop-digits.pending.bits _ c.double.result.bits _ c.join-pending.result.bits c.loop-digits-test.true c.loop-digits.invariant.within c.loop-digits.invariant.remains c.double.ensures.bits c.join-pending.ensures.bits)
 
 pub loop-digits-preserved : goal.loop-digits-preserved
 loop-digits-preserved c =
-    let part = c.join-pending.result in
     let room = c.make_room-left in
     let run = run_goes_on c.loop-digits.most c.loop-digits.digits c.loop-digits-test.true c.loop-digits.invariant.within in
     let joined = joined_on c.loop-digits.most c.loop-digits.digits _ c.loop-digits.pending.bits _ c.double.result.bits _ c.join-pending.result.bits c.loop-digits-test.true c.loop-digits.invariant.within c.loop-digits.invariant.remains c.double.ensures.bits c.join-pending.ensures.bits in
     record {
-      remains = Remains-through (field part.len part.bits) (field room.new.part.len room.new.part.bits) _ joined room.ensures.bits.code;
+      remains = Remains-through _ _ _ joined room.ensures.bits.code;
       some = omega (arith, c.loop-digits-test.true);
       in_word = omega (arith, c.loop-digits.invariant.in_word);
-      within = run.below;
+      within = run.1;
       few = omega (arith, room.ensures.room);
       small = room.ensures.bits.small;
     }

@@ -9,9 +9,6 @@ use Rattle.zf_planes.proofs.encoding.write_digits.Goals as goal
 split_next : (at n : ℕ) (ds : List Bool) → drop at ds ≡ take n (drop at ds) ++ drop (at + n) ds
 split_next at n ds = sym (ap (λ (xs : List Bool). take n (drop at ds) ++ xs) (sym (drop-drop n at ds)) ∙ take-append-drop n (drop at ds))
 
-pub loop-at-init : goal.loop-at-init
-loop-at-init g c = search (rules, length-digits_held, length-drop)
-
 pub loop-at-preserved : goal.loop-at-preserved
 loop-at-preserved g c =
     let ws = g.P.Plane.words c.args.plane.now in

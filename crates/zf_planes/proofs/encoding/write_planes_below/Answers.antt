@@ -1,12 +1,12 @@
-use Rattle.std.proofs.Common.{rules, ◌≡◌, ℕ, ◌+◌, ◌-◌, ◌*◌, ◌<◌, ◌≤◌, ◌⊎◌, ⊎_elim, min, max, Bool, false, List, [], ◌++◌, length, map, take, drop, get_or, replicate, refl, sym, ap, ◌∙◌, arith}
-use Rattle.std.proofs.lemmas.List.{append-nil, drop_all, length-map, take-take, take-append-drop, length-replicate}
+use Rattle.std.proofs.Common.{rules, ◌≡◌, ℕ, ◌+◌, ◌-◌, ◌*◌, ◌<◌, ◌≤◌, ◌⊎◌, ⊎_elim, min, max, Bool, false, List, ◌++◌, length, map, take, drop, get_or, replicate, refl, sym, ap, ◌∙◌, arith}
+use Rattle.std.proofs.lemmas.List.{drop_all, length-map, take-take, take-append-drop, length-replicate}
 use Rattle.zf_spec.{specs.Planes.{code, code_from, plane_code, reach}}
 use Rattle.zf_spec.{specs.HeldPlanes.{planes_held, digits_held}}
 use Rattle.zf_bits.{specs.Writer.{Writer, Appends}, proofs.Appending.{Appends-same}}
 use Rattle.zf_planes.{specs.Writes.{Remains}, proofs.Lengths.{length-code_words-le}}
-use Rattle.zf_planes.proofs.Budgets.{Remains-start, Remains-same, Remains-fits, Remains-more, Remains-end}
+use Rattle.zf_planes.proofs.Budgets.{Remains-start, Remains-same, Remains-fits, Remains-more, Remains-all, Remains-end}
 use Rattle.zf_planes.{proofs.Zeros.{take_zeros, zero_code}, proofs.encoding.write_planes_below.Given.{Over}}
-use Rattle.zf_planes.proofs.Unpacking.{length-top_held, code_next, each_long}
+use Rattle.zf_planes.proofs.Unpacking.{length-top_held, code_next}
 use Rattle.zf_planes.proofs.encoding.write_planes_below.Goals.{After-write_zeros_reserved, then-loop-i-test+else-left-gt0, else-loop-i-test}
 use Rattle.zf_planes.proofs.encoding.write_planes_below.Goals as goal
 
@@ -25,8 +25,7 @@ remains_all out words count budget prec size k planes long enough in_planes room
     let all = map words planes in
     let held = planes_held size all in
     let top = take prec held in
-    let count_all = length-map planes words in
-    let most = length-code_words-le prec size all (omega arith) (λ i below. let has = each_long words count long planes i (omega arith) in omega arith) in
+    let most = length-code_words-le words count prec size planes long enough in_planes in
     let first : take k top ≡ replicate k (replicate size false) = take-take k prec held within ∙ zeros in
     Remains-same (Remains-start out budget (code top) (omega (arith, room, most)))
     (ap code (sym (take-append-drop k top) ∙ ap (λ (ps : List (List Bool)). ps ++ drop k top) first) ∙ zeros_first k some)
@@ -69,26 +68,19 @@ write_planes_of_word-requires-clause-fits g c = omega (arith, (begun g c.before.
 pub write_planes_of_word-requires-then-size-eq64-clause-fits : goal.write_planes_of_word-requires-then-size-eq64-clause-fits
 write_planes_of_word-requires-then-size-eq64-clause-fits g c = omega (arith, (begun g c.before.before.before).fits)
 
--- the code of all planes was written, as far as the budget reaches
-all_written : {old now new : Writer} {budget left : ℕ} {whole rest : List Bool} → Remains old now budget left whole rest → Appends now new (take left rest) → Appends old new (take budget whole)
-all_written {rest = rest} remains appends = Remains-end (Remains-more rest [] (Remains-same remains (sym (append-nil rest))) appends) (omega arith)
-
 pub returns-then-size-eq16-clause-bits : goal.returns-then-size-eq16-clause-bits
-returns-then-size-eq16-clause-bits g c = all_written (begun g c.before.before.before) c.write_planes_of_word.ensures.bits
+returns-then-size-eq16-clause-bits g c = (Remains-all _ (begun g c.before.before.before) c.write_planes_of_word.ensures).bits
 
 pub returns-then-size-eq16-clause-count : goal.returns-then-size-eq16-clause-count
-returns-then-size-eq16-clause-count g c = let remains = begun g c.before.before.before in omega (arith, remains.spent, remains.within, c.write_planes_of_word.ensures.left)
+returns-then-size-eq16-clause-count g c = omega (arith, (Remains-all _ (begun g c.before.before.before) c.write_planes_of_word.ensures).left)
 
 pub returns-then-size-eq64-clause-bits : goal.returns-then-size-eq64-clause-bits
-returns-then-size-eq64-clause-bits g c = all_written (begun g c.before.before.before.before) c.write_planes_of_word-then-size-eq64.ensures.bits
+returns-then-size-eq64-clause-bits g c = (Remains-all _ (begun g c.before.before.before.before) c.write_planes_of_word-then-size-eq64.ensures).bits
 
 pub returns-then-size-eq64-clause-count : goal.returns-then-size-eq64-clause-count
-returns-then-size-eq64-clause-count g c = let remains = begun g c.before.before.before.before in omega (arith, remains.spent, remains.within, c.write_planes_of_word-then-size-eq64.ensures.left)
+returns-then-size-eq64-clause-count g c = omega (arith, (Remains-all _ (begun g c.before.before.before.before) c.write_planes_of_word-then-size-eq64.ensures).left)
 
 -- ---- other planes
-
-pub write_plane-left-requires-clause-in_plane : goal.write_plane-left-requires-clause-in_plane
-write_plane-left-requires-clause-in_plane g c = c.loop-i.invariant.above
 
 pub write_plane-left-requires-clause-fits : goal.write_plane-left-requires-clause-fits
 write_plane-left-requires-clause-fits g c =

@@ -8,9 +8,6 @@ use Rattle.zf_planes.proofs.four_reading.digits_of.Goals as goal
 pub returns-then-all-eq0-clause-planes : goal.returns-then-all-eq0-clause-planes
 returns-then-all-eq0-clause-planes c = search (rules, gathered_none, low_planes-zeros)
 
-pub returns-then-all-eq0-clause-below : goal.returns-then-all-eq0-clause-below
-returns-then-all-eq0-clause-below c = four_below c.args.width
-
 -- ---- zeros behind what was read
 
 behind : (words : List ℕ) (done lanes held width : ℕ) → IsGathered words done lanes held → held ≡ 0

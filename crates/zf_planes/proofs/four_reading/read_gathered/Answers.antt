@@ -34,9 +34,6 @@ loop-digits-init c =
 
 -- ---- some planes more
 
-pub overflow_add-digits : goal.overflow_add-digits
-overflow_add-digits c = omega (arith, c.loop-digits.invariant.read.within, c.requires.planes)
-
 pub read_next-requires-clause-in_plane : goal.read_next-requires-clause-in_plane
 read_next-requires-clause-in_plane c = c.loop-digits.invariant.read.comes.ranks (omega arith)
 
@@ -57,9 +54,6 @@ loop-cursor-preserved c =
     let read = rw (c.sees.ensures.left, c.sees.ensures.reader) at four.ensures.read in
     let come = three_through (omega (arith, c.loop-cursor-test.true)) (before.read.comes.ranks (omega arith)) read.comes in
     record { read = more _ before.read read.fits come added.gathered added.planes added.sum added.held; more = omega (arith, before.more, added.sum) }
-
-pub loop-digits-preserved : goal.loop-digits-preserved
-loop-digits-preserved c = record { read = c.loop-cursor.invariant.read }
 
 -- ---- no bit or no plane is left
 

@@ -8,9 +8,6 @@ use Rattle.zf_planes.proofs.four_writing.code_of_lone.Goals as goal
 power : (c : goal.After-pairs_of_top) → 1 * 2 ^ (1 + 2 * c.from.result) % 2 ^ 64 ≡ 2 ^ (1 + 2 * c.from.result)
 power c = one_shl (1 + 2 * c.from.result) 64 (omega (arith, c.from.ensures, c.requires.few))
 
-pub overflow_shl-bits : goal.overflow_shl-bits
-overflow_shl-bits c = omega (arith, c.from.ensures, c.requires.few)
-
 pub nonzero_rem-bits : goal.nonzero_rem-bits
 nonzero_rem-bits c = rw (power c) (pow_pos (1 + 2 * c.from.result))
 

@@ -5,9 +5,6 @@ use Rattle.zf_planes.{specs.Spread.{top_digit, top_planes, lone_planes}, proofs.
 use Rattle.zf_planes.proofs.Lone.{lone_top}
 use Rattle.zf_planes.proofs.four_writing.count_of_lone.Goals as goal
 
-pub returns-then-first-eq0 : goal.returns-then-first-eq0
-returns-then-first-eq0 c = record { most = omega arith; few = omega arith; first = λ some. absurd (omega arith); lone = no_top_planes 0 c.args.words.now (omega arith) }
-
 pub returns : goal.returns
 returns c =
     let words = c.args.words.now in

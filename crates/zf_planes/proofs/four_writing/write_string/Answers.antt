@@ -1,4 +1,4 @@
-use Rattle.std.proofs.Common.{◌≡◌, ◌+◌, ◌-◌, ◌*◌, ◌/◌, ◌^◌, ◌<◌, ◌≤◌, min, Bool, List, [], ◌++◌, refl, sym, ap, ◌∙◌, arith, append_assoc, append-nil}
+use Rattle.std.proofs.Common.{rules, ◌≡◌, ◌+◌, ◌-◌, ◌*◌, ◌/◌, ◌^◌, ◌<◌, ◌≤◌, min, Bool, List, [], ◌++◌, sym, ap, ◌∙◌, arith, append_assoc, append-nil}
 use Rattle.zf_spec.{specs.Numbers.{field}, specs.Planes.{code_from}}
 use Rattle.zf_planes.{specs.Fours.{string_planes}, specs.Writes.{Remains}}
 use Rattle.zf_planes.proofs.Budgets.{Remains-behind, Remains-same, Remains-through}
@@ -8,16 +8,7 @@ use Rattle.zf_planes.proofs.four_writing.write_string.Goals.{then-loop-planes-te
 use Rattle.zf_planes.proofs.four_writing.write_string.Goals as goal
 
 pub loop-planes-init : goal.loop-planes-init
-loop-planes-init c =
-    record {
-      remains = Remains-behind c.args.out.now c.args.left c.args.part.now.len c.args.part.now.bits _ c.requires.fits;
-      reached = refl;
-      above = c.requires.above;
-      few = c.requires.few;
-      in_word = c.requires.in_word;
-      small = c.requires.small;
-      no_more = λ small. small;
-    }
+loop-planes-init c = search (rules, Remains-behind)
 
 -- ---- the next planes
 
@@ -45,11 +36,8 @@ loop-planes-preserved c =
 
 -- the loop has ended since these ranks have had a one
 three : (c : goal.Joined-left-gt64) → 3 ≤ c.loop-planes.above
-three c = elim c.loop-planes-test.branch [
-  | then-loop-planes-test+then-left-part+else-above-lt3 w ↦ omega (arith, w.if-above-lt3.false)
-  | then-loop-planes-test+else-left-part w ↦ absurd (omega (arith, w.if-left-part.false, c.if-left-part-2.true))
-  | else-loop-planes-test w ↦ absurd (omega (arith, w.loop-planes-test.false, c.if-planes-gt0.true))
-]
+three c =
+    search (rules, then-loop-planes-test+then-left-part+else-above-lt3, then-loop-planes-test+else-left-part, else-loop-planes-test)
 
 -- behind the bits that were put together the digits of the planes that are left remain, as far as they count in a word
 pub record Behind (c : goal.Joined-left-gt64) : Type 0 where

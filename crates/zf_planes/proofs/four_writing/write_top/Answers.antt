@@ -1,10 +1,10 @@
-use Rattle.std.proofs.Common.{rules, [], ◌≡◌, ℕ, ◌-◌, ◌<◌, ◌≤◌, min, max, Bool, true, List, ◌∷◌, ◌++◌, length, map, get_or, ap, arith, append_assoc, length-append}
+use Rattle.std.proofs.Common.{rules, [], ◌≡◌, ℕ, ◌-◌, ◌<◌, ◌≤◌, min, max, Bool, true, List, ◌∷◌, ◌++◌, length, map, get_or, ap, ◌∙◌, arith, append-nil, append_assoc, length-append}
 use Rattle.zf_spec.{specs.Numbers.{field}, specs.Grid.{upto}, proofs.Fields.{length-field}}
 use Rattle.zf_spec.specs.Planes.{code_from, reach_of_all}
 use Rattle.zf_bits.specs.Writer.{Writer}
 use Rattle.zf_planes.{specs.Fours.{string_planes}, specs.Writes.{Remains}, proofs.Lone.{lone_first}}
 use Rattle.zf_planes.specs.Spread.{top_digit, top_planes, lone_planes, lone_code}
-use Rattle.zf_planes.proofs.Budgets.{Remains-behind, Remains-same, Remains-fits, Remains-part, Remains-through, Remains-end, room_for}
+use Rattle.zf_planes.proofs.Budgets.{Remains-behind, Remains-same, Remains-fits, Remains-through, Remains-last}
 use Rattle.zf_planes.proofs.Strings.{code_from-append, reach_of_string-le, Remains-above, Remains-reached}
 use Rattle.zf_planes.proofs.TopPlanes.{below, string-split, top_planes-sizes, no_top_planes}
 use Rattle.zf_planes.proofs.four_writing.write_top.Goals.{then-lone-gt0, else-lone-gt0, then-loop-planes-test+else-left-part, else-loop-planes-test}
@@ -86,22 +86,19 @@ loop-planes-preserved c =
 -- ---- the end
 
 -- only the bits that were put together remain
-ended : (c : goal.After-write_part-arg-1) → Remains c.args.out.now c.loop-planes.out c.args.left c.loop-planes.left (field c.args.part.len c.args.part.bits ++ code_from 0 (top_planes c.args.planes c.args.words)) (field c.loop-planes.part.len c.loop-planes.part.bits ++ [])
+ended : (c : goal.After-write_part-arg-1) → Remains c.args.out.now c.loop-planes.out c.args.left c.loop-planes.left (field c.args.part.len c.args.part.bits ++ code_from 0 (top_planes c.args.planes c.args.words)) (field c.loop-planes.part.len c.loop-planes.part.bits)
 ended c =
     let now = c.loop-planes in
+    let bits = field now.part.len now.part.bits in
     elim c.loop-planes-test.branch [
-      | then-loop-planes-test+else-left-part w ↦ Remains-reached now.part.len now.part.bits (code_from now.above (top_planes now.planes now.words)) [] (omega (arith, w.if-left-part.false)) now.invariant.remains
+      | then-loop-planes-test+else-left-part w ↦ Remains-same (Remains-reached now.part.len now.part.bits (code_from now.above (top_planes now.planes now.words)) [] (omega (arith, w.if-left-part.false)) now.invariant.remains) (append-nil bits)
       | else-loop-planes-test w ↦
           let none = ap (code_from now.above) (no_top_planes now.planes now.words w.loop-planes-test.false) in
-          Remains-same now.invariant.remains (ap (λ (bs : List Bool). field now.part.len now.part.bits ++ bs) none)
+          Remains-same now.invariant.remains (ap (λ (bs : List Bool). bits ++ bs) none ∙ append-nil bits)
     ]
 
 pub write_part-requires-clause-fits : goal.write_part-requires-clause-fits
-write_part-requires-clause-fits c = room_for c.loop-planes.part.len c.loop-planes.part.bits [] (ended c)
-
--- and they are written
-written : (c : goal.After-write_part) → Remains c.args.out.now c.write_part.new.out c.args.left c.write_part.result (field c.args.part.len c.args.part.bits ++ code_from 0 (top_planes c.args.planes c.args.words)) []
-written c = Remains-part c.loop-planes.part.len c.loop-planes.part.bits [] (ended c.before) c.write_part.ensures.bits c.write_part.ensures.left
+write_part-requires-clause-fits c = omega (arith, (ended c).fits, length-field c.loop-planes.part.len c.loop-planes.part.bits)
 
 pub returns : goal.returns
-returns c = record { bits = Remains-end (written c) (omega arith); left = omega (arith, (written c).spent) }
+returns c = Remains-last _ _ (ended c.before) c.write_part.ensures.bits c.write_part.ensures.left

@@ -3,9 +3,6 @@ use Rattle.zf_spec.specs.Numbers.{field}
 use Rattle.zf_planes.{proofs.LanesAhead.{more_in_sight}, proofs.TurnedPairs.{groups_zero}}
 use Rattle.zf_planes.proofs.in_lanes.lone_in_sight.Goals as goal
 
-pub overflow_sub-result : goal.overflow_sub-result
-overflow_sub-result c = omega (arith, (groups_zero (c.args.bits / 8)).0)
-
 pub returns : goal.returns
 returns c =
     let more = c.min-more.result in

@@ -1,17 +1,9 @@
-use Rattle.std.proofs.Common.{rules, ◌≡◌, ℕ, ◌+◌, ◌-◌, ◌*◌, ◌<◌, ◌≤◌, max, List, length, map, take, drop, get_or, ap, ◌∙◌, arith, length-append}
-use Rattle.std.{proofs.Math.Nat.{mul-le-mul_right}, proofs.lemmas.List.{length-map}}
-use Rattle.zf_spec.specs.Planes.{code, code_from, plane_code, reach}
+use Rattle.std.proofs.Common.{rules, ◌≡◌, ℕ, ◌+◌, ◌-◌, ◌<◌, ◌≤◌, max, List, length, map, take, drop, get_or, ap, ◌∙◌, arith, length-append}
+use Rattle.std.{proofs.Math.Nat.{mul-le-mul_right}}
+use Rattle.zf_spec.specs.Planes.{code_from, plane_code, reach}
 use Rattle.zf_spec.specs.HeldPlanes.{planes_held, digits_held}
-use Rattle.zf_planes.proofs.Lengths.{length-code_words-le}
-use Rattle.zf_planes.proofs.Unpacking.{code_next, each_long}
+use Rattle.zf_planes.{proofs.Lengths.{length-code_words-le}, proofs.Unpacking.{code_next}}
 use Rattle.zf_planes.proofs.measuring.planes_len.Goals as goal
-
--- the code has few bits
-most : {A : Type 0} (words : A → List ℕ) (count prec size : ℕ) (planes : List A) → ((plane : A) → length (words plane) ≡ count) → size ≤ 64 * count → prec ≤ length planes
-    → length (code (take prec (planes_held size (map words planes)))) ≤ size * prec + size
-most words count prec size planes long enough within =
-    let all = length-map planes words in
-    length-code_words-le prec size (map words planes) (omega arith) (λ i below. let has = each_long words count long planes i (omega arith) in omega arith)
 
 -- the length with one plane more
 step : {A : Type 0} (words : A → List ℕ) (above prec size i : ℕ) (planes : List A) (plane : A) → plane ≡ get_or planes (length planes - 1 - i) plane → i < prec → prec ≤ length planes
@@ -24,12 +16,12 @@ step words above prec size i planes plane is below within =
 pub overflow_add-len : goal.overflow_add-len
 overflow_add-len g c =
     let next = step g.P.Plane.words c.loop-i.above c.args.prec c.args.size c.loop-i.i c.args.planes.now c.index-planes-planes.result c.index-planes-planes.is c.loop-i-test.true c.requires.planes in
-    let few = most g.P.Plane.words _ c.args.prec c.args.size c.args.planes.now g.met.P.Plane.long c.requires.words c.requires.planes in search (rules, mul-le-mul_right)
+    let few = length-code_words-le g.P.Plane.words _ c.args.prec c.args.size c.args.planes.now g.met.P.Plane.long c.requires.words c.requires.planes in search (rules, mul-le-mul_right)
 
 pub loop-i-preserved : goal.loop-i-preserved
 loop-i-preserved g c = search (rules, step)
 
 pub returns-clause-most : goal.returns-clause-most
 returns-clause-most g c =
-    let few = most g.P.Plane.words _ c.args.prec c.args.size c.args.planes.now g.met.P.Plane.long c.requires.words c.requires.planes in
+    let few = length-code_words-le g.P.Plane.words _ c.args.prec c.args.size c.args.planes.now g.met.P.Plane.long c.requires.words c.requires.planes in
     omega (arith, c.loop-i.invariant.sum, few)

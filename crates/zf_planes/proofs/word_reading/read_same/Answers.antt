@@ -46,8 +46,8 @@ loop-i-preserved g c =
     let known = known_plane now.left size n c.loop-i.bits count same.result.digits len same.result.above (rest now.reader) (omega (arith, c.requires.in_plane)) before.window same.ensures.read small in
     let put = written size g.P.Plane.word_count same.result.digits (g.P.Plane.words c.zero-plane.result) (g.P.Plane.words plane) (omega arith) c.requires.words (omega (arith, c.requires.words, c.requires.in_plane)) c.zero-plane.ensures c.set_word.ensures same.ensures.read.small in
     let one = one_comes {size = size} {s = now} {t = next} _ len (omega (arith, c.requires.in_plane)) (omega (arith, c.requires.in_plane)) (length-field size same.result.digits) known.1 known.0 (omega (arith, same.ensures.above, same.ensures.read.reached)) takes in
-    let one' : Comes size 1 now [] next (digits_held size (g.P.Plane.words plane) ∷ []) = rw put.digits one in
-    let more = plane_put g.P.Plane.words c.loop-i.planes plane (omega (arith, before.long, c.requires.planes, c.loop-i-test.true)) put.clear before.zeros one' in
+    let one' : Comes size 1 now [] next (digits_held size (g.P.Plane.words plane) ∷ []) = rw put.0 one in
+    let more = plane_put g.P.Plane.words c.loop-i.planes plane (omega (arith, before.long, c.requires.planes, c.loop-i-test.true)) put.1 before.zeros one' in
     let parts : c.loop-i.i - c.args.from + 1 ≡ c.loop-i.i + 1 - c.args.from = omega (arith, before.begun) in
     let fewer : now.left - len ≡ next.left = omega (arith, takes.spent) in
     record {
@@ -60,9 +60,6 @@ loop-i-preserved g c =
       within = omega (arith, c.loop-i-test.true);
       first = λ e. absurd (omega (arith, before.begun, e));
     }
-
-pub skip-requires : goal.skip-requires
-skip-requires g c = omega (arith, window_long (rest c.args.cursor.now.reader) c.args.cursor.now.bits c.args.cursor.now.count c.args.cursor.now.window.bits)
 
 pub invariant_of-cursor : goal.invariant_of-cursor
 invariant_of-cursor g c =

@@ -4,12 +4,6 @@ use Rattle.zf_spec.{specs.Numbers.{field}, specs.Planes.{code_from}, specs.HeldP
 use Rattle.zf_planes.{proofs.Unpacking.{code_next}, proofs.Narrow.{narrow_two}}
 use Rattle.zf_planes.proofs.word_writing.narrow_planes.Goals as goal
 
-pub overflow_mul-second : goal.overflow_mul-second
-overflow_mul-second g c = omega (arith, c.if-first-second-gt7.false, le_or_r c.first_word-first.result c.first_word-second.result)
-
-pub overflow_add-first : goal.overflow_add-first
-overflow_add-first g c = search (rules, le_or_l, le_or_r)
-
 pub loop-i-preserved : goal.loop-i-preserved
 loop-i-preserved g c =
     let part = c.loop-i.part in
@@ -22,13 +16,12 @@ loop-i-preserved g c =
     record {
       code =
           c.loop-i.invariant.code
-          ∙ ap (λ (bs : List Bool). field part.len part.bits ++ bs)
-          (search (rules, narrow_two))
+          ∙ ap (λ (bs : List Bool). field part.len part.bits ++ bs) (search (rules, narrow_two))
           ∙ sym (append_assoc (field part.len part.bits) (field two.result.part.len two.result.part.bits) rest)
           ∙ ap (λ (bs : List Bool). bs ++ rest) (sym c.join-part.ensures.bits);
-      place = omega (arith, c.loop-i-test.true);
+      next = omega (arith, c.loop-i-test.true);
       small = c.join-part.ensures.small two.ensures.small;
-      in_word = omega (arith, c.join-part.ensures.len, c.if-part-le50.true, two.ensures.len);
+      len = omega (arith, c.join-part.ensures.len, c.if-part-le50.true, two.ensures.len);
       above = two.result.within;
     }
 
@@ -57,8 +50,8 @@ loop-digits-preserved g c =
         joined.ensures.bits,
         append_assoc (field part.len part.bits) (field more.result.len more.result.bits) (code_from 3 rest),
       );
-      place = omega (arith, c.if-i-prec.true);
+      next = omega (arith, c.if-i-prec.true);
       small = joined.ensures.small more.ensures.small;
-      in_word = omega (arith, joined.ensures.len, c.if-part-le60.true, more.ensures.shorter c.requires.some);
+      len = omega (arith, joined.ensures.len, c.if-part-le60.true, more.ensures.shorter c.requires.some);
       above = c.loop-digits.invariant.above;
     }

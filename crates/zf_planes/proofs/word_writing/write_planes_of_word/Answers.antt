@@ -3,8 +3,8 @@ use Rattle.std.proofs.lemmas.List.{drop_all, length-map}
 use Rattle.zf_spec.{specs.Numbers.{field}, proofs.Reach.{reach-le}, proofs.Fields.{length-field}}
 use Rattle.zf_spec.{specs.Planes.{plane_code, code_from, reach}, specs.HeldPlanes.{digits_held, planes_held}}
 use Rattle.zf_planes.proofs.Budgets.{Remains-through, Remains-same, Remains-fits, Remains-part, Remains-end, room_for}
-use Rattle.zf_planes.{proofs.Unpacking.{length-top_held}, specs.Writes.{Remains, LeavesPart}}
-use Rattle.zf_planes.{proofs.Strings.{Remains-none}, proofs.PlainPlanes.{next_word, whole_code}}
+use Rattle.zf_planes.{proofs.Unpacking.{length-top_held, next_word}, specs.Writes.{Remains, LeavesPart}}
+use Rattle.zf_planes.{proofs.Strings.{Remains-cut}, proofs.Doubled.{plane_whole}}
 use Rattle.zf_planes.proofs.word_writing.write_planes_of_word.Given.{Over}
 use Rattle.zf_planes.proofs.word_writing.write_planes_of_word.Goals.{then-loop-i-test+else-left-part, else-loop-i-test, then-loop-i-test+then-left-part+else-digits-above-eq0+then-above-size, then-loop-i-3-test+else-whole-size-le64, else-loop-i-3-test}
 use Rattle.zf_bits.specs.Writer.{Writer}
@@ -102,11 +102,8 @@ ended g c = elim c.loop-i-test.branch [
 ]
 
 pub write_part-left-requires-2-clause-in_word : goal.write_part-left-requires-2-clause-in_word
-write_part-left-requires-2-clause-in_word g c = elim c.loop-i-test.branch [
-  | then-loop-i-test+else-left-part w ↦ rw w.part-is (omega (arith, c.loop-i.invariant.in_word))
-  | else-loop-i-test w ↦ rw w.part-is (omega (arith, c.loop-i.invariant.in_word))
-  | then-loop-i-test+then-left-part+else-digits-above-eq0+then-above-size w ↦ rw w.part-is (omega (arith, w.write_with-left.ensures.len))
-]
+write_part-left-requires-2-clause-in_word g c =
+    search (rules, then-loop-i-test+else-left-part, else-loop-i-test, then-loop-i-test+then-left-part+else-digits-above-eq0+then-above-size)
 
 pub write_part-left-requires-2-clause-fits : goal.write_part-left-requires-2-clause-fits
 write_part-left-requires-2-clause-fits g c = room_for c.loop-i-test.part.len c.loop-i-test.part.bits _ (ended g c)
@@ -125,8 +122,8 @@ behind : (g : Over) (c : goal.After-write_part-left-2 g) → Remains c.args.out.
     (code_from c.args.size (drop c.loop-i-test.i (take c.args.prec (planes_held c.args.size (map g.P.Plane.words c.args.planes.now)))))
 behind g c = elim c.loop-i-test.branch [
   | then-loop-i-test+else-left-part w ↦
-      Remains-none (code_from c.loop-i-test.above (drop c.loop-i-test.i (take c.args.prec (planes_held c.args.size (map g.P.Plane.words c.args.planes.now))))) _
-      (omega (arith, c.write_part-left-2.ensures.left, w.if-left-part.false, w.left-is, ap (λ p. p.len) w.part-is)) (written g c)
+      let none : c.write_part-left-2.result ≡ 0 = omega (arith, c.write_part-left-2.ensures.left, w.if-left-part.false, w.left-is, ap (λ p. p.len) w.part-is) in
+      Remains-cut _ _ (rw none refl) (written g c)
   | else-loop-i-test w ↦
       let past : c.args.prec ≤ c.loop-i-test.i = omega (arith, w.loop-i-test.false, w.i-is) in
       Remains-same (written g c)
@@ -137,11 +134,8 @@ behind g c = elim c.loop-i-test.branch [
 ]
 
 place : (g : Over) (c : goal.After-write_part-left-2 g) → c.loop-i-test.i ≤ c.args.prec
-place g c = elim c.loop-i-test.branch [
-  | then-loop-i-test+else-left-part w ↦ omega (arith, w.i-is, c.loop-i.invariant.place)
-  | else-loop-i-test w ↦ omega (arith, w.i-is, c.loop-i.invariant.place)
-  | then-loop-i-test+then-left-part+else-digits-above-eq0+then-above-size w ↦ omega (arith, w.i-is, w.loop-i-test.true)
-]
+place g c =
+    search (rules, then-loop-i-test+else-left-part, else-loop-i-test, then-loop-i-test+then-left-part+else-digits-above-eq0+then-above-size)
 
 pub loop-i-2-init : goal.loop-i-2-init
 loop-i-2-init g c = record { remains = behind g c; place = place g c }
@@ -159,7 +153,7 @@ loop-i-3-preserved g c =
     let all : max size (reach (field size v)) ≡ size = omega (arith, reach-le (field size v), length-field size v) in
     record {
       remains = Remains-same next (cc (
-        whole_code size size v refl,
+        plane_whole size v,
         all,
         joined.ensures.bits,
         append_assoc (field now.whole.len now.whole.bits) (field size v) (code_from size rest),

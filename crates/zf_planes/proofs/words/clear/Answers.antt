@@ -2,9 +2,6 @@ use Rattle.std.proofs.Common.{rules, ℕ, ◌+◌, List, [], ◌∷◌, ◌++◌
 use Rattle.std.proofs.lemmas.List.{map-set, length-map, take_more_set, take_all, replicate-append-replicate}
 use Rattle.zf_planes.proofs.words.clear.Goals as goal
 
-pub loop-plane-init : goal.loop-plane-init
-loop-plane-init g c = refl
-
 pub loop-plane-preserved : goal.loop-plane-preserved
 loop-plane-preserved g c =
     let k = c.loop-plane.plane-index in

@@ -1,12 +1,9 @@
 use Rattle.std.{proofs.Common.{rules, ◌≡◌, ◌+◌, ◌-◌, ◌/◌, ◌%◌, ◌^◌, drop, arith}, specs.Int.Bits.{bit_and}}
-use Rattle.std.{specs.Int.Count.{ones as number_ones}, proofs.lemmas.List.{drop_all, length-drop}}
+use Rattle.std.{specs.Int.Count.{ones as number_ones}, proofs.lemmas.List.{length-drop}}
 use Rattle.std.proofs.lemmas.List.Sums.{count_by-le-length}
 use Rattle.zf_spec.{specs.HeldPlanes.{digits_held}, proofs.HeldPlanes.{length-digits_held}}
 use Rattle.zf_planes.{proofs.Lengths.{ones, part_ones, ones_split}, proofs.words.ones_from.Given.{Over}}
 use Rattle.zf_planes.proofs.words.ones_from.Goals as goal
-
-pub loop-at-init : goal.loop-at-init
-loop-at-init g c = record { sum = omega arith; within = c.requires.in_plane }
 
 -- the sum with the ones of one word more
 more : (g : Over) (c : goal.After-word g)
@@ -24,6 +21,3 @@ overflow_add-ones g c = search (rules, length-digits_held, more, count_by-le-len
 
 pub loop-at-preserved : goal.loop-at-preserved
 loop-at-preserved g c = record { sum = more g c; within = omega (arith, c.min-count.ensures, c.loop-at-test.true) }
-
-pub returns : goal.returns
-returns g c = search (rules, length-digits_held, ones, drop_all)

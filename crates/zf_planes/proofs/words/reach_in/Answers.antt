@@ -1,12 +1,9 @@
-use Rattle.std.proofs.Common.{rules, ◌≡◌, ◌-◌, ◌*◌, ◌%◌, ◌^◌, ◌≤◌, length, arith}
+use Rattle.std.proofs.Common.{◌≡◌, ◌-◌, ◌*◌, ◌%◌, ◌^◌, ◌≤◌, length, arith}
 use Rattle.std.specs.Int.{w64, leading_zeros}
 use Rattle.zf_spec.{specs.Planes.{reach}, specs.HeldPlanes.{digits_held}}
-use Rattle.zf_planes.proofs.Digits.{past_size, none_in_word, reach_in_word, reach_none_from}
+use Rattle.zf_planes.proofs.Digits.{reach_in_word, reach_none_from}
 use Rattle.zf_planes.proofs.words.reach_in.Given.{Over}
 use Rattle.zf_planes.proofs.words.reach_in.Goals as goal
-
-pub loop-end-init : goal.loop-end-init
-loop-end-init g c = search (rules, past_size)
 
 reached : (g : Over) (c : goal.Then-word-ne0 g) → (leading_zeros w64 (c.word.result * 2 ^ (63 - (c.loop-end.end - 1) % 64) % 2 ^ 64) ≤ c.loop-end.end)
     × (c.loop-end.end - leading_zeros w64 (c.word.result * 2 ^ (63 - (c.loop-end.end - 1) % 64) % 2 ^ 64) ≡ reach (digits_held c.args.size (g.P.Plane.words c.args.plane.now)))
@@ -20,9 +17,3 @@ overflow_sub-result g c = (reached g c).0
 
 pub returns-then-word-ne0-clause-value : goal.returns-then-word-ne0-clause-value
 returns-then-word-ne0-clause-value g c = (reached g c).1
-
-pub loop-end-preserved : goal.loop-end-preserved
-loop-end-preserved g c = search (rules, none_in_word)
-
-pub returns-clause-value : goal.returns-clause-value
-returns-clause-value g c = reach_none_from (digits_held c.args.size (g.P.Plane.words c.args.plane.now)) (λ j from. c.loop-end.invariant.zeros j (omega (arith, c.loop-end-test.false)))

@@ -1,7 +1,7 @@
-use Rattle.std.proofs.Common.{rules, ◌+◌, ◌-◌, ◌/◌, ◌%◌, ◌^◌, ◌*◌, ◌≤◌, length, arith}
+use Rattle.std.proofs.Common.{◌+◌, ◌-◌, ◌/◌, ◌%◌, ◌^◌, ◌*◌, ◌≤◌, length, arith}
 use Rattle.std.specs.Int.{w64, trailing_zeros}
 use Rattle.zf_spec.{specs.HeldPlanes.{digits_held}, proofs.HeldPlanes.{length-digits_held}}
-use Rattle.zf_planes.proofs.Digits.{IsNextOne, zeros_of_word, next_one, split_at_next, within_plane}
+use Rattle.zf_planes.proofs.Digits.{IsNextOne, next_one, split_at_next, within_plane}
 use Rattle.zf_planes.proofs.words.zeros_from.Given.{Over}
 use Rattle.zf_planes.proofs.words.zeros_from.Goals as goal
 
@@ -23,9 +23,6 @@ pub returns-then-word-ne0-clause-split : goal.returns-then-word-ne0-clause-split
 returns-then-word-ne0-clause-split g c =
     let z = trailing_zeros w64 (c.word.result / 2 ^ (c.loop-at.at % 64)) in
     split_at_next (digits_held c.args.size (g.P.Plane.words c.args.plane.now)) c.args.n (c.loop-at.at - c.args.n + z) (c.loop-at.at + z) (omega (arith, c.loop-at.invariant.from)) (found g c)
-
-pub loop-at-preserved : goal.loop-at-preserved
-loop-at-preserved g c = search (rules, zeros_of_word)
 
 pub unreachable-requires : goal.unreachable-requires
 unreachable-requires g c =

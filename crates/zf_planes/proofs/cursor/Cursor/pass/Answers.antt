@@ -4,9 +4,6 @@ use Rattle.zf_planes.{specs.Decoding.{IsWindow}, proofs.Passing.{Takes-rest}}
 use Rattle.zf_planes.proofs.Peeking.{window_long, window_passed, Takes-skip}
 use Rattle.zf_planes.proofs.cursor.Cursor.pass.Goals as goal
 
-pub skip-requires : goal.skip-requires
-skip-requires c = omega (arith, c.requires.within, window_long (rest c.args.self.now.reader) c.args.self.now.bits c.args.self.now.count c.args.self.now.window.bits)
-
 pub invariant_of-self : goal.invariant_of-self
 invariant_of-self c =
     let now = c.args.self.now in
