@@ -1,12 +1,13 @@
 -- The digits of a block by rank, and a block whose places are filled by rank.
-use Rattle.std.proofs.Common.{rules, ◌≡◌, sym, ap, ◌∙◌, ℕ, ◌+◌, ◌^◌, ◌<◌, ◌≢◌, ℤ, pos, List, [], length, get_or, set, All, get_or-set_same, get_or-set_other, arith, subst}
+use Rattle.std.proofs.Common.{rules, ◌≡◌, sym, ap, ◌∙◌, ℕ, ◌+◌, ◌^◌, ◌<◌, ◌≢◌, ℤ, pos, List, [], length}
+use Rattle.std.proofs.Common.{take, get_or, set, All, get_or-set_same, get_or-set_other, arith, subst}
 use Rattle.std.{proofs.lemmas.Bool.{cases_lt}, proofs.lemmas.List.{length-map, get_or-map}, specs.Int.{Width}}
 use Rattle.std.proofs.lemmas.List.Elements.{All-from_get_or}
 use mir.Val.{bits}
-use Rattle.zf_spec.{specs.Numbers.{digits}, specs.Ranks.{order, by_rank, by_place}}
+use Rattle.zf_spec.{specs.Numbers.{digits, field}, specs.Ranks.{order, by_rank, by_place}}
 use Rattle.zf_spec.proofs.Counting.{from_places}
 use Rattle.zf_spec.proofs.Ranking.{length-order, order_below, rank_of, rank_of_below, order-rank_of, rank_of-order, length-by_rank, get_or-by_rank}
-use Rattle.zf_coef.specs.HeldDigits.{ranked_digits, HasRanks}
+use Rattle.zf_coef.{specs.HeldDigits.{digits_in, ranked_digits, HasRanks}, proofs.Filling.{fill_all}}
 
 pub order_within : (d : ℕ) (ps : List ℕ) → ps ≡ order d → All (λ p. p < 4 ^ d) ps
 order_within d ps same =
@@ -34,3 +35,11 @@ pub ranks_all : (d : ℕ) (block values : List ℤ) → length block ≡ 4 ^ d �
 ranks_all d block values long has =
     sym (from_places (λ p. get_or values (rank_of d p) (pos 0)) (4 ^ d) (pos 0) block long
     (λ p below. ap (λ q. get_or block q (pos 0)) (sym (order-rank_of d p below)) ∙ has (rank_of d p) (rank_of_below d p below)))
+
+-- every rank is filled
+pub whole : (w : Width) (d n : ℕ) (values : List ℤ) (new : List ℕ) → n ≡ 4 ^ d → length new ≡ n
+    → take n (digits_in (bits w) new) ≡ take n (ranked_digits w d values)
+    → digits_in (bits w) new ≡ ranked_digits w d values
+whole w d n values new size long filled =
+    fill_all (field (bits w)) new (ranked_digits w d values) n long
+    (length-ranked_digits w d values ∙ sym size) filled

@@ -1,9 +1,10 @@
 -- Sixteen digits that become planes, and planes that become sixteen digits, by way of rows that lie folded in eight words.
 use Rattle.std.proofs.Common.{rules, ◌≡◌, ◌∙◌, ℕ, ◌+◌, ◌-◌, ◌*◌, ◌/◌, ◌%◌, ◌^◌, ◌<◌, ◌≤◌, ◌≢◌, ⊎_elim, List, length, get_or, arith, max}
 use Rattle.std.{specs.Int.{bit_at}, specs.Int.RustNames.{bit_or}, proofs.lemmas.Bool.{cases_lt}}
-use Rattle.std.{proofs.lemmas.List.{get_or_past}, proofs.lemmas.Nat.Bits.{bit_at_or, bit_at-zero}}
-use Rattle.zf_coef.{specs.Turned.{bit_of, folded_bit, IsFoldedTurned}, proofs.Halves.{word_of-past, digits_in_window}}
-use Rattle.zf_coef.specs.Groups.{word_of, HoldsSome, IsOfGroup, HoldsFrom, HoldsFolded, IsFoldOf, IsMoved}
+use Rattle.std.{proofs.lemmas.List.{get_or_past, length-map}, proofs.lemmas.Nat.Bits.{bit_at_or, bit_at-zero}}
+use Rattle.zf_coef.specs.Turned.{bit_of, IsFoldedTurned}
+use Rattle.zf_coef.proofs.{Halves.{word_of-past, no_word}, Putting.{none_changed}}
+use Rattle.zf_coef.specs.Groups.{word_of, HoldsSome, HoldsFrom, HoldsFolded, IsFoldOf, AreHalf}
 use Rattle.zf_coef.proofs.ShiftedBits.{bit_at-shr, bit_at-mod_pow, bit_at-mod_above, bit_at-mod, bit_at-shl_low, bit_at-shl_high}
 
 -- ---- planes of folded rows
@@ -126,41 +127,18 @@ pub all_eights : (number from eights : ℕ) (planes : List (List ℕ)) (words : 
 unfolding IsFoldOf
 all_eights number from eights planes words all has k r a b = search rules
 
--- turned, they are folded digits
-abbrev pub AreFold : ℕ → ℕ → List (List ℕ) → List ℕ → Type 0
-AreFold number from planes words = (r k : ℕ) → r < 16 → k < 32 → folded_bit words r k ≡ bit_at (word_of planes number (from + k)) r
+-- turned, they are half of the digits
+pub fold_turned : (number from : ℕ) (planes : List (List ℕ)) (words turned : List ℕ)
+    → IsFoldOf number from planes words → IsFoldedTurned words turned → AreHalf 8 number from planes turned
+unfolding IsFoldOf IsFoldedTurned AreHalf
+fold_turned number from planes words turned fold turn j i less few =
+    let first = turn j i (omega arith) few ∙ fold i j few (omega arith) in
+    let second = turn (8 + j) i (omega arith) few ∙ fold i (8 + j) few (omega arith) in
+    let row : j % 8 ≡ j = omega arith in
+    let place : j / 8 * 32 + i ≡ i = omega arith in
+    let row_above : (8 + j) % 8 ≡ j = omega arith in
+    let place_above : (8 + j) / 8 * 32 + i ≡ 32 + i = omega arith in
+    (cc, cc)
 
-pub fold_turned : (number from : ℕ) (planes : List (List ℕ)) (words turned : List ℕ) → IsFoldOf number from planes words → IsFoldedTurned words turned → AreFold number from planes turned
-unfolding IsFoldOf IsFoldedTurned
-fold_turned number from planes words turned fold turn r k a b = turn r k a b ∙ fold k r b a
-
-pub fold_past : (number : ℕ) (planes : List (List ℕ)) (words : List ℕ) → length planes ≤ 32 → ((j : ℕ) → get_or words j 0 ≡ 0) → AreFold number 32 planes words
-fold_past number planes words few zeros r k a b = search (rules, bit_at-zero, word_of-past)
-
--- both halves of the digits
-pub digits_of_folds : (number : ℕ) (planes : List (List ℕ)) (low high digits : List ℕ) → length digits ≡ 16
-    → AreFold number 0 planes low → AreFold number 32 planes high
-    → ((r k : ℕ) → r < 8 → k < 32 → (bit_of digits r k ≡ bit_of low r k) × (bit_of digits r (32 + k) ≡ bit_of high r k))
-    → ((r k : ℕ) → r < 8 → k < 32 → (bit_of digits (8 + r) k ≡ bit_of low r (32 + k)) × (bit_of digits (8 + r) (32 + k) ≡ bit_of high r (32 + k)))
-    → IsOfGroup number planes digits
-unfolding IsOfGroup
-digits_of_folds number planes low high digits long is_low is_high lower upper r k h small =
-    let second : 32 ≤ k → 32 + (k - 32) ≡ k = λ h. omega arith in
-    let behind : 8 ≤ r → 8 + (r - 8) ≡ r = λ h. omega arith in
-    let a = is_low r k in
-    let c = lower (r % 8) (k % 32) in
-    let d = upper (r % 8) (k % 32) in
-    grind (arith, cases_lt)
-
--- a window of 32 planes has all the ones: they are those of eight words, moved up
-pub digits_of_folded_window : (number from : ℕ) (planes : List (List ℕ)) (words digits : List ℕ) → length digits ≡ 16
-    → ((k : ℕ) → k < from → word_of planes number k ≡ 0)
-    → ((k : ℕ) → from + 32 ≤ k → word_of planes number k ≡ 0)
-    → AreFold number from planes words
-    → ((r : ℕ) → r < 8 → IsMoved 0 from (get_or words r 0) (get_or digits r 0))
-    → ((r : ℕ) → r < 8 → IsMoved 32 from (get_or words r 0) (get_or digits (8 + r) 0))
-    → IsOfGroup number planes digits
-digits_of_folded_window number from planes words digits long below above fold lower upper =
-    digits_in_window 8 number from planes words digits long below above
-    (λ j i less few. search rules)
-    lower upper
+-- rows that lie folded, from their begin to their end
+pub ruleset of_folded = (length-map, no_word, none_changed, none_folded, all_folded, no_eights, all_eights)

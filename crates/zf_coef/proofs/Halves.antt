@@ -1,9 +1,10 @@
 -- Tiles of digits that become planes, 32 or sixteen at a time, and planes that become halves of digits.
 use Rattle.std.proofs.Common.{rules, ◌≡◌, ap, ◌∙◌, ℕ, ◌+◌, ◌-◌, ◌*◌, ◌/◌, ◌%◌, ◌<◌, ◌≤◌, ⊎_elim, List, [], length, get_or, replicate, arith}
 use Rattle.std.{specs.Int.{bit_at}, proofs.lemmas.Bool.{cases_lt}, proofs.lemmas.Nat.Bits.{bit_at-zero}}
-use Rattle.std.proofs.lemmas.List.{get_or-replicate, get_or_past, length-replicate}
+use Rattle.std.proofs.lemmas.List.{get_or-replicate, get_or_past, length-replicate, length-map}
 use Rattle.zf_coef.{specs.Turned.{bit_of, IsTurned}, proofs.Putting.{both_kept}}
-use Rattle.zf_coef.specs.Groups.{word_of, HoldsGroup, HoldsSome, IsOfGroup, AreHalf, HoldsFrom, IsMoved, PutsGroup, PutsHalf, PutsNone}
+use Rattle.zf_coef.specs.Groups.{word_of, HoldsGroup, HoldsSome, IsOfGroup, AreHalf, HoldsFrom, IsMoved}
+use Rattle.zf_coef.specs.Groups.{AreUnfolded, AreMoved, PutsGroup, PutsHalf, PutsNone, KeepsOthers}
 
 -- ---- planes of tiles
 
@@ -68,42 +69,51 @@ word_of-past planes number k past = ap (λ ws. get_or ws number 0) (get_or_past 
 -- ---- halves of planes
 
 pub half_of_planes : (number from : ℕ) (planes : List (List ℕ)) (words turned : List ℕ)
-    → ((j : ℕ) → j < 32 → get_or words j 0 ≡ word_of planes number (from + j)) → IsTurned 32 words turned → AreHalf number from planes turned
-unfolding IsTurned
-half_of_planes number from planes words turned same turn j r less small = search rules
+    → ((j : ℕ) → j < 32 → get_or words j 0 ≡ word_of planes number (from + j)) → IsTurned 32 words turned
+    → AreHalf 32 number from planes turned
+unfolding IsTurned AreHalf
+half_of_planes number from planes words turned same turn j i less few =
+    let first = turn j i less (omega arith) in
+    let second = turn j (32 + i) less (omega arith) in
+    let row : i % 32 ≡ i = omega arith in
+    let rank : i - i % 32 + j ≡ j = omega arith in
+    let row_above : (32 + i) % 32 ≡ i = omega arith in
+    let rank_above : 32 + i - (32 + i) % 32 + j ≡ 32 + j = omega arith in
+    let here = same i few in
+    (cc, cc)
 
 -- of zeros each word is zero
 pub no_word : (n j : ℕ) → let none : ℕ = 0 in get_or (replicate n none) j none ≡ none
 no_word n j = ⊎_elim (λ (less : j < n). get_or-replicate n j 0 0 less) (λ (past : n ≤ j). get_or_past (replicate n 0) j 0 (let none : ℕ = 0 in omega (arith, length-replicate n none))) (cases_lt j n)
 
 -- no plane has words there
-pub half_past : (number : ℕ) (planes : List (List ℕ)) (words : List ℕ) → length planes ≤ 32 → ((j : ℕ) → get_or words j 0 ≡ 0) → AreHalf number 32 planes words
-half_past number planes words few zeros j r less small = search (rules, bit_at-zero, word_of-past)
+pub half_past : (n number : ℕ) (planes : List (List ℕ)) → length planes ≤ 32
+    → AreHalf n number 32 planes (replicate n 0)
+unfolding AreHalf
+half_past n number planes few j i less small = search (rules, bit_at-zero, word_of-past, no_word)
 
-pub digits_of_halves : (number : ℕ) (planes : List (List ℕ)) (low high digits : List ℕ) → length digits ≡ 64
-    → AreHalf number 0 planes low → AreHalf number 32 planes high
-    → ((r k : ℕ) → r < 32 → k < 32 → (bit_of digits r k ≡ bit_of low r k) × (bit_of digits r (32 + k) ≡ bit_of high r k))
-    → ((r k : ℕ) → r < 32 → k < 32 → (bit_of digits (32 + r) k ≡ bit_of low r (32 + k)) × (bit_of digits (32 + r) (32 + k) ≡ bit_of high r (32 + k)))
+-- both halves of the digits
+pub digits_of_halves : (n number : ℕ) (planes : List (List ℕ)) (low high digits : List ℕ)
+    → length digits ≡ 2 * n
+    → AreHalf n number 0 planes low → AreHalf n number 32 planes high → AreUnfolded n n low high digits
     → IsOfGroup number planes digits
-unfolding IsOfGroup
-digits_of_halves number planes low high digits long is_low is_high lower upper r k h small =
-    let parts = lower (r % 32) (k % 32) (omega arith) (omega arith) in
-    let others = upper (r % 32) (k % 32) (omega arith) (omega arith) in
-    let j : r / 32 * 32 + k % 32 < 64 = omega arith in
+unfolding IsOfGroup AreHalf
+digits_of_halves n number planes low high digits long is_low is_high parts r k h small =
+    let place : 32 ≤ k → 32 + (k - 32) ≡ k = λ h. omega arith in
+    let row : n ≤ r → n + (r - n) ≡ r = λ h. omega arith in
+    let first = is_low r k in
+    let second = is_high r (k - 32) in
+    let third = is_low (r - n) k in
+    let fourth = is_high (r - n) (k - 32) in
     grind (arith, cases_lt)
 
--- a window of 32 planes has all the ones: n words have its digits, each those of a rank below n and then those of the rank
--- n above it, and they are moved up
+-- a window of 32 planes has all the ones: the digits are those of words that are moved up
 pub digits_in_window : (n number from : ℕ) (planes : List (List ℕ)) (words digits : List ℕ) → length digits ≡ 2 * n
     → ((k : ℕ) → k < from → word_of planes number k ≡ 0)
     → ((k : ℕ) → from + 32 ≤ k → word_of planes number k ≡ 0)
-    → ((j i : ℕ) → j < n → i < 32 → (bit_of words j i ≡ bit_at (word_of planes number (from + i)) j)
-    × (bit_of words j (32 + i) ≡ bit_at (word_of planes number (from + i)) (n + j)))
-    → ((r : ℕ) → r < n → IsMoved 0 from (get_or words r 0) (get_or digits r 0))
-    → ((r : ℕ) → r < n → IsMoved 32 from (get_or words r 0) (get_or digits (n + r) 0))
-    → IsOfGroup number planes digits
-unfolding IsOfGroup
-digits_in_window n number from planes words digits long below above held lower upper r k h small =
+    → AreHalf n number from planes words → AreMoved n n from words digits → IsOfGroup number planes digits
+unfolding IsOfGroup AreHalf
+digits_in_window n number from planes words digits long below above held parts r k h small =
     let digit : (start word : ℕ) → ((i : ℕ) → i < 32 → bit_at word (start + i) ≡ bit_at (word_of planes number (from + i)) r)
     → IsMoved start from word (get_or digits r 0)
     → bit_of digits r k ≡ bit_at (word_of planes number k) r =
@@ -117,25 +127,14 @@ digits_in_window n number from planes words digits long below above held lower u
     (cases_lt (k - from) 32))
     (cases_lt k from) in
     ⊎_elim
-    (λ (prefix : r < n). digit 0 (get_or words r 0) (λ i few. let start : 0 + i ≡ i = omega arith in cc (held r i prefix few).0) (lower r prefix))
+    (λ (prefix : r < n). digit 0 (get_or words r 0)
+    (λ i few. let start : 0 + i ≡ i = omega arith in cc (held r i prefix few).0) (parts.lower r prefix))
     (λ (behind : n ≤ r).
     let row : n + (r - n) ≡ r = omega arith in
     let less : r - n < n = omega arith in
-    digit 32 (get_or words (r - n) 0) (λ i few. rw row at (held (r - n) i less few).1) (rw row at (upper (r - n) less)))
+    digit 32 (get_or words (r - n) 0) (λ i few. rw row at (held (r - n) i less few).1)
+    (rw row at (parts.upper (r - n) less)))
     (cases_lt r n)
-
--- so have 32 words the digits of 64 coefficients
-pub digits_of_window : (number from : ℕ) (planes : List (List ℕ)) (words digits : List ℕ) → length digits ≡ 64
-    → ((k : ℕ) → k < from → word_of planes number k ≡ 0)
-    → ((k : ℕ) → from + 32 ≤ k → word_of planes number k ≡ 0)
-    → AreHalf number from planes words
-    → ((r : ℕ) → r < 32 → IsMoved 0 from (get_or words r 0) (get_or digits r 0))
-    → ((r : ℕ) → r < 32 → IsMoved 32 from (get_or words r 0) (get_or digits (32 + r) 0))
-    → IsOfGroup number planes digits
-digits_of_window number from planes words digits long below above half lower upper =
-    digits_in_window 32 number from planes words digits long below above
-    (λ j i less few. search rules)
-    lower upper
 
 -- the first of more digits
 pub group_of_prefix : (number : ℕ) (planes : List (List ℕ)) (whole digits : List ℕ) → length digits ≤ length whole
@@ -148,3 +147,21 @@ pub group_of_none : (number : ℕ) (digits : List ℕ) (planes : List (List ℕ)
     → ((k : ℕ) → k < length planes → word_of planes number k ≡ 0) → HoldsGroup number digits planes
 unfolding HoldsGroup
 group_of_none number digits planes none zeros k r within small = search (rules, bit_at-zero, get_or_past)
+
+-- where as many zeros were put as planes are left, there are none of any digit
+pub zeros_put : (n count number from : ℕ) (old new : List (List ℕ)) → length new ≤ from + count
+    → HoldsFrom count number from (replicate n 0) old new → KeepsOthers number old new
+    → PutsNone number from old new
+zeros_put n count number from old new all put kept =
+    record {
+      zeros = λ k past within.
+          let at : from + (k - from) ≡ k = omega arith in
+          cc (put.inside (k - from) (omega arith) (omega arith), no_word n (k - from));
+      below = put.below;
+      others = kept;
+    }
+
+-- what becomes of groups of digits, and of planes
+pub ruleset of_planes = (length-map, planes_of_first, planes_of_tiles, group_of_same, group_of_none)
+
+pub ruleset of_digits = (length-map, digits_of_halves, digits_in_window, half_past)

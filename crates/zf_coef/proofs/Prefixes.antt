@@ -1,6 +1,7 @@
 -- Lists that are written from the front, place by place.
-use Rattle.std.proofs.Common.{rules, ◌≡◌, ◌∙◌, ℕ, ◌+◌, ◌<◌, ◌≤◌, zero, suc, List, [], ◌∷◌, map, length, get_or, set, get_or-set_same, get_or-set_other, arith}
-use Rattle.std.proofs.lemmas.Bool.{cases_lt}
+use Rattle.std.proofs.Common.{rules, ◌≡◌, ◌∙◌, ℕ, ◌+◌, ◌<◌, ◌≤◌, zero, suc, List, [], ◌∷◌, map, length}
+use Rattle.std.proofs.Common.{get_or, set, get_or-set_same, get_or-set_other, length-set, arith}
+use Rattle.std.proofs.lemmas.{Bool.{cases_lt}, List.{get_or_past}}
 
 -- the place at the front gets a value
 pub prefix_set : {X : Type 0} (xs : List X) (d : X) (f : ℕ → X) (n : ℕ) (x : X) → n < length xs → x ≡ f n
@@ -22,3 +23,6 @@ pub each_long : {X Y : Type 0} (f : X → List Y) (n : ℕ) → ((x : X) → len
 each_long f n long [] k h = absurd (omega arith)
 each_long f n long (x ∷ xs) zero h = long x
 each_long f n long (x ∷ xs) (suc k) h = each_long f n long xs k (omega arith)
+
+-- places that are filled from the front, and those past the end
+pub ruleset filling = (length-set, prefix_set, rest_set, get_or_past, cases_lt)

@@ -1,6 +1,6 @@
 -- Words of planes that are written plane by plane.
 use Rattle.std.proofs.Common.{rules, ◌≡◌, refl, ap, ◌∙◌, ℕ, ◌+◌, ◌<◌, ◌≢◌, List, [], length, get_or, set, get_or-set_same, get_or-set_other, length-set, arith}
-use Rattle.std.proofs.lemmas.Bool.{cases_lt, cases_eq}
+use Rattle.std.proofs.lemmas.{Bool.{cases_lt, cases_eq}, List.{length-map, get_or-map, map-set}}
 use Rattle.zf_coef.specs.Groups.{word_of, HoldsFrom, KeepsOthers}
 
 -- planes of which one has another word at this number
@@ -36,3 +36,7 @@ more_put number from j w words old mid within inside here before = search (rules
 pub more_kept : (number k w : ℕ) (old mid : List (List ℕ)) → k < length mid → KeepsOthers number old mid → KeepsOthers number old (with_word mid k number w)
 unfolding KeepsOthers
 more_kept number k w old mid within before q p apart = word_of-other_word mid k number w q p within apart ∙ before q p apart
+
+-- planes that are put one by one
+pub ruleset putting =
+    (length-map, get_or-map, map-set, with_word, none_put, none_changed, more_put, more_kept)

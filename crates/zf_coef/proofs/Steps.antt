@@ -46,8 +46,6 @@ pub record Paired (lanes s : ℕ) : Type 0 where
   pub small : s < 64
   pub pair_low : (done l : ℕ) → done % lanes ≡ 0 → l < lanes → pair_of s (done + done / s * s + l) ≡ done + l
   pub pair_high : (done l : ℕ) → done % lanes ≡ 0 → l < lanes → pair_of s (done + done / s * s + s + l) ≡ done + l
-  pub lower_digit : (done l : ℕ) → done % lanes ≡ 0 → l < lanes → (done + done / s * s + l) / s % 2 ≡ 0
-  pub upper_digit : (done l : ℕ) → done % lanes ≡ 0 → l < lanes → (done + done / s * s + s + l) / s % 2 ≡ 1
   pub place : (done j : ℕ) → done % lanes ≡ 0 → done ≤ pair_of s j → pair_of s j < done + lanes → j ≡ done + done / s * s + (j / s % 2 * s) + (pair_of s j - done)
   pub pairs : (n j : ℕ) → n % (2 * s) ≡ 0 → j < n → pair_of s j < n / 2
   pub in_words : (n done : ℕ) → n % (2 * s) ≡ 0 → done % lanes ≡ 0 → done < n / 2 → done + done / s * s + s + lanes ≤ n

@@ -90,3 +90,6 @@ crossed_word x i within =
 pub folded_turned : (old mid new : List ℕ) → ((j i : ℕ) → j < 8 → i < 64 → bit_of mid j i ≡ bit_of old j (crossed i)) → IsTurned 8 mid new → IsFoldedTurned old new
 unfolding IsTurned IsFoldedTurned
 folded_turned old mid new cross turn r k a b = search rules
+
+-- what turns tiles step by step
+pub ruleset turning_steps = (mask_from, none_turned, more_turned, all_turned)

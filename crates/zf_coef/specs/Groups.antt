@@ -76,11 +76,19 @@ pub record HoldsFolded (number from to : ℕ) (words : List ℕ) (planes : List 
 
 -- ---- the way back
 
--- turned words of the 32 planes from `from` on: digits of a rank below 32, and then those of the rank 32
--- above it
-abbrev pub AreHalf : ℕ → ℕ → List (List ℕ) → List ℕ → Type 0
-AreHalf number from planes words = (j r : ℕ) → j < 32 → r < 64
-    → bit_of words j r ≡ bit_at (word_of planes number (from + r % 32)) (r - r % 32 + j)
+-- turned words of the 32 planes from `from` on: each has the digits of a rank below n, and then those of the
+-- rank n above it
+unfoldable pub AreHalf : ℕ → ℕ → ℕ → List (List ℕ) → List ℕ → Type 0
+AreHalf n number from planes words = (j i : ℕ) → j < n → i < 32
+    → (bit_of words j i ≡ bit_at (word_of planes number (from + i)) j)
+    × (bit_of words j (32 + i) ≡ bit_at (word_of planes number (from + i)) (n + j))
+
+-- so many ranks, and those n above them, have the digits of both lists of such words
+pub record AreUnfolded (n count : ℕ) (low high digits : List ℕ) : Type 0 where
+  pub lower : (r k : ℕ) → r < count → k < 32
+      → (bit_of digits r k ≡ bit_of low r k) × (bit_of digits r (32 + k) ≡ bit_of high r k)
+  pub upper : (r k : ℕ) → r < count → k < 32 → (bit_of digits (n + r) k ≡ bit_of low r (32 + k))
+      × (bit_of digits (n + r) (32 + k) ≡ bit_of high r (32 + k))
 
 -- place k - k mod 16 + r of the folded row k mod 16 is bit r of plane `from + k`
 unfoldable pub IsFoldOf : ℕ → ℕ → List (List ℕ) → List ℕ → Type 0
@@ -92,3 +100,9 @@ pub record IsMoved (start from old new : ℕ) : Type 0 where
   pub inside : (i : ℕ) → i < 32 → bit_at new (from + i) ≡ bit_at old (start + i)
   pub below : (i : ℕ) → i < from → bit_at new i ≡ 0
   pub above : (i : ℕ) → from + 32 ≤ i → i < 64 → bit_at new i ≡ 0
+
+-- so many ranks, and those n above them, have the digits of such words behind `from` zeros
+pub record AreMoved (n count from : ℕ) (words digits : List ℕ) : Type 0 where
+  pub lower : (r : ℕ) → r < count → IsMoved 0 from (slice_index_or words r 0) (slice_index_or digits r 0)
+  pub upper : (r : ℕ) → r < count
+      → IsMoved 32 from (slice_index_or words r 0) (slice_index_or digits (n + r) 0)

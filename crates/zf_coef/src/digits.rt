@@ -1,14 +1,13 @@
 //! Bit planes become the digits of coefficients.
 
-ghost use Rattle.std.specs.Prelude.{◌≡◌, ℕ, ◌+◌, ◌-◌, ◌*◌, ◌%◌, ◌^◌, ◌<◌, ◌≤◌, ◌⊎◌, All, IsTrue, length, map};
+ghost use Rattle.std.specs.Prelude.{◌≡◌, ℕ, ◌+◌, ◌-◌, ◌*◌, ◌%◌, ◌^◌, ◌<◌, ◌≤◌, All, IsTrue, length, map};
 ghost use Rattle.std.specs.Prelude.{slice_index_or};
 ghost use Rattle.std.specs.Int.RustNames.{bit_or};
 ghost use Rattle.zf_spec.specs.Planes.{digits_in_planes};
 ghost use Rattle.zf_spec.specs.HeldPlanes.{planes_held};
 ghost use Rattle.zf_coef.specs.HeldDigits.{digits_in};
-ghost use Rattle.zf_coef.specs.Groups.{word_of, HasWord, IsHalfAt, IsOfGroup, AreHalf, IsFoldOf, IsMoved};
-ghost use Rattle.zf_coef.specs.Turned.{bit_of, folded_bit};
-ghost use Rattle.std.specs.Int.{bit_at};
+ghost use Rattle.zf_coef.specs.Groups.{word_of, HasWord, IsHalfAt, IsOfGroup, AreHalf, IsFoldOf};
+ghost use Rattle.zf_coef.specs.Groups.{AreUnfolded, AreMoved};
 
 use crate::planes::{WORD_BITS, have_four_words, place_of_eight};
 use crate::turning::{turn_32, turn_folded};
@@ -30,6 +29,7 @@ pub fn from_planes(planes: &[[u64; 4]], digits: &mut [u64])
 
 /// Writes the digits of planes of any number of words, so that blocks of up to 64 coefficients have one word
 /// a plane.
+#[tactic(auto, using(crate::proofs::Transposed::group_written))]
 #[inline(always)]
 pub fn digits_of_planes<P: Plane>(planes: &[P], digits: &mut [u64])
     requires planes { length planes.now ≤ 64 }
@@ -57,6 +57,7 @@ fn are_words(words: &[u64])
 }
 
 /// The digits of which planes have one each in their words of this number.
+#[tactic(auto, using(crate::proofs::Halves::group_of_prefix))]
 #[inline(always)]
 fn take_group<P: Plane>(planes: &[P], number: usize, digits: &mut [u64])
     requires word { HasWord number P.word_count planes.now }
@@ -85,6 +86,7 @@ fn copy_prefix(words: &[u64], digits: &mut [u64])
 }
 
 /// Takes sixteen digits. Where this is compiled into its caller, their words stay in registers.
+#[tactic(auto, using(crate::proofs::Halves::of_digits))]
 #[inline(always)]
 fn take_16<P: Plane>(planes: &[P], number: usize, digits: &mut [u64])
     requires word { HasWord number P.word_count planes.now }
@@ -102,6 +104,7 @@ fn take_16<P: Plane>(planes: &[P], number: usize, digits: &mut [u64])
 /// Takes sixteen digits of 64 planes. Where 32 planes from a multiple of sixteen on have all the ones, as a
 /// budget mostly leaves it, no others are turned. Planes are asked by sixteens, since so few digits are turned
 /// in little time: to ask plane by plane would cost as much as it saves.
+#[tactic(auto, using(crate::proofs::Halves::of_digits))]
 #[inline(always)]
 fn take_16_of_64<P: Plane>(planes: &[P], number: usize, digits: &mut [u64])
     requires number { number < P.word_count }
@@ -168,6 +171,7 @@ fn are_16_zeros<P: Plane>(planes: &[P], from: usize, number: usize) -> bool
 }
 
 /// Takes sixteen digits of planes of any number.
+#[tactic(auto, using(crate::proofs::Halves::of_digits))]
 #[cold]
 #[inline(never)]
 fn take_16_of<P: Plane>(planes: &[P], number: usize, digits: &mut [u64])
@@ -184,11 +188,11 @@ fn take_16_of<P: Plane>(planes: &[P], number: usize, digits: &mut [u64])
 }
 
 /// The 32 planes from `from` on, turned, of sixteen digits each. Planes past the end are zero.
+#[tactic(auto, using(crate::proofs::Folded::fold_turned))]
 #[inline(always)]
 fn half_of_16<P: Plane>(planes: &[P], from: usize, number: usize) -> [u64; 8]
     requires half { IsHalfAt number P.word_count from planes.now }
-    ensures { (r k : ℕ) → r < 16 → k < 32 → folded_bit result r k
-        ≡ bit_at (word_of (map P.words planes.now) number (from + k)) r }
+    ensures { AreHalf 8 number from (map P.words planes.now) result }
 {
     let mut words = folded_planes(planes, from, number);
     turn_folded(&mut words);
@@ -196,6 +200,7 @@ fn half_of_16<P: Plane>(planes: &[P], from: usize, number: usize) -> [u64; 8]
 }
 
 /// The first sixteen digits of the 32 planes from `from` on, folded. Planes past the end are zero.
+#[tactic(auto, using(crate::proofs::Folded::of_folded))]
 #[inline(always)]
 fn folded_planes<P: Plane>(planes: &[P], from: usize, number: usize) -> [u64; 8]
     requires half { IsHalfAt number P.word_count from planes.now }
@@ -271,6 +276,7 @@ fn copy_words<P: Plane>(planes: &[P], from: usize, count: usize, number: usize, 
 }
 
 /// Takes 64 digits, 32 planes at a time.
+#[tactic(auto, using(crate::proofs::Halves::of_digits))]
 #[inline(never)]
 fn take_64<P: Plane>(planes: &[P], number: usize, digits: &mut [u64])
     requires word { HasWord number P.word_count planes.now }
@@ -287,6 +293,7 @@ fn take_64<P: Plane>(planes: &[P], number: usize, digits: &mut [u64])
 
 /// Takes 64 digits of 64 planes. Where 32 planes beside one another have all the ones, as a budget mostly
 /// leaves it, no others are turned.
+#[tactic(auto, using(crate::proofs::Halves::of_digits))]
 #[inline(always)]
 fn take_64_of_64<P: Plane>(planes: &[P], number: usize, digits: &mut [u64])
     requires number { number < P.word_count }
@@ -338,6 +345,7 @@ fn are_zeros<P: Plane>(planes: &[P], from: usize, number: usize) -> bool
 }
 
 /// Takes 64 digits of planes of any number.
+#[tactic(auto, using(crate::proofs::Halves::of_digits))]
 #[cold]
 #[inline(never)]
 fn take_64_of<P: Plane>(planes: &[P], number: usize, digits: &mut [u64])
@@ -354,12 +362,13 @@ fn take_64_of<P: Plane>(planes: &[P], number: usize, digits: &mut [u64])
 }
 
 /// The 32 planes from `from` on, turned.
+#[tactic(auto, using(crate::proofs::Halves::half_of_planes))]
 #[inline(always)]
 fn whole_half<P: Plane>(planes: &[P], from: usize, number: usize) -> [u64; 32]
     requires number { number < P.word_count }
     requires from { from + 32 ≤ length planes.now }
     requires first { from ≤ 32 }
-    ensures { AreHalf number from (map P.words planes.now) result }
+    ensures { AreHalf 32 number from (map P.words planes.now) result }
 {
     let mut words = words_at(planes, from, number);
     turn_32(&mut words);
@@ -367,10 +376,11 @@ fn whole_half<P: Plane>(planes: &[P], from: usize, number: usize) -> [u64; 32]
 }
 
 /// The 32 planes from `from` on, turned. Planes past the end are zero.
+#[tactic(auto, using(crate::proofs::Halves::half_of_planes))]
 #[inline(always)]
 fn half<P: Plane>(planes: &[P], from: usize, number: usize) -> [u64; 32]
     requires half { IsHalfAt number P.word_count from planes.now }
-    ensures { AreHalf number from (map P.words planes.now) result }
+    ensures { AreHalf 32 number from (map P.words planes.now) result }
 {
     let mut words = words_from(planes, from, number);
     turn_32(&mut words);
@@ -383,11 +393,7 @@ fn unfold<const N: usize>(low: &[u64], high: &[u64], digits: &mut [u64])
     requires halves { length low.now ≡ N }
     requires others { length high.now ≡ N }
     requires digits { length digits.old ≡ 2 * N }
-    ensures lower { (r k : ℕ) → r < N → k < 32 → (bit_of digits.new r k ≡ bit_of low.now r k)
-        × (bit_of digits.new r (32 + k) ≡ bit_of high.now r k) }
-    ensures upper { (r k : ℕ) → r < N → k < 32
-        → (bit_of digits.new (N + r) k ≡ bit_of low.now r (32 + k))
-        × (bit_of digits.new (N + r) (32 + k) ≡ bit_of high.now r (32 + k)) }
+    ensures { AreUnfolded N N low.now high.now digits.new }
 {
     for r in 0..N {
         digits[r] = (low[r] & 0xffff_ffff) | high[r] << 32;
@@ -402,10 +408,7 @@ fn unfold_from<const N: usize>(words: &[u64], from: usize, digits: &mut [u64])
     requires words { length words.now ≡ N }
     requires from { from ≤ 32 }
     requires digits { length digits.old ≡ 2 * N }
-    ensures lower { (r : ℕ) → r < N
-        → IsMoved 0 from (slice_index_or words.now r 0) (slice_index_or digits.new r 0) }
-    ensures upper { (r : ℕ) → r < N
-        → IsMoved 32 from (slice_index_or words.now r 0) (slice_index_or digits.new (N + r) 0) }
+    ensures { AreMoved N N from words.now digits.new }
 {
     for r in 0..N {
         digits[r] = (words[r] & 0xffff_ffff) << from;

@@ -30,6 +30,7 @@ pub fn needed_planes(digits: &[u64], width: u32) -> u32
 
 /// How many of the top `width` planes of these digits have no one, down to the first one that has; `width`,
 /// which is 1 to 64, where none has.
+#[tactic(auto, using(crate::proofs::AnyDigits::leading_zero_planes, crate::proofs::AnyDigits::next_has_one))]
 #[inline]
 pub fn zero_planes(digits: &[u64], width: u32) -> u32
     requires some { 0 < width }

@@ -1,8 +1,7 @@
 //! The digits of coefficients become bit planes.
 
-ghost use Rattle.std.specs.Prelude.{◌≡◌, ℕ, ◌+◌, ◌-◌, ◌*◌, ◌/◌, ◌%◌, ◌^◌, ◌<◌, ◌≤◌, ◌⊎◌, All, length, map};
+ghost use Rattle.std.specs.Prelude.{◌≡◌, ℕ, ◌+◌, ◌-◌, ◌*◌, ◌/◌, ◌%◌, ◌^◌, ◌<◌, ◌≤◌, All, length, map};
 ghost use Rattle.std.specs.Prelude.{slice_index_or, [], IsTrue};
-ghost use Rattle.std.specs.Int.{bit_at};
 ghost use Rattle.zf_spec.specs.Planes.{planes_of};
 ghost use Rattle.zf_spec.specs.HeldPlanes.{planes_held, IsClearFrom};
 ghost use Rattle.zf_coef.specs.HeldDigits.{digits_in};
@@ -58,6 +57,7 @@ pub fn planes_of_digits<P: Plane>(digits: &[u64], planes: &mut [P])
 }
 
 /// The words of this number of all planes, from the digits of their ranks.
+#[tactic(auto, using(crate::proofs::Halves::of_planes))]
 #[inline(always)]
 fn put_group<P: Plane>(digits: &[u64], number: usize, planes: &mut [P])
     requires word { HasWord number P.word_count planes.old }
@@ -83,6 +83,7 @@ fn put_none<P: Plane>(from: usize, number: usize, planes: &mut [P])
 }
 
 /// 64 digits, of which those past the given ones are zero.
+#[tactic(auto, using(crate::proofs::Prefixes::filling, crate::proofs::Halves::no_word))]
 fn padded(digits: &[u64]) -> [u64; WORD_BITS]
     requires { length digits.now ≤ 64 }
     ensures { (r : ℕ) → slice_index_or result r 0 ≡ slice_index_or digits.now r 0 }
@@ -125,6 +126,7 @@ fn put_64<P: Plane>(digits: &[u64], number: usize, planes: &mut [P])
 }
 
 /// Puts so many digits, 32 planes at a time.
+#[tactic(auto, using(crate::proofs::Halves::of_planes))]
 #[inline(always)]
 fn put_halves<P: Plane>(size: usize, digits: &[u64], number: usize, planes: &mut [P])
     requires word { HasWord number P.word_count planes.old }
@@ -168,6 +170,7 @@ fn put_half<P: Plane>(size: usize, digits: &[u64], from: usize, number: usize, p
 }
 
 /// The 32 planes from `from` on of sixteen digits.
+#[tactic(auto, using(crate::proofs::Folded::planes_of_folded))]
 #[inline(always)]
 fn put_half_of_16<P: Plane>(digits: &[u64], from: usize, number: usize, planes: &mut [P])
     requires digits { length digits.now ≡ 16 }
@@ -180,6 +183,7 @@ fn put_half_of_16<P: Plane>(digits: &[u64], from: usize, number: usize, planes: 
 }
 
 /// The planes from `from` on of turned rows that lie folded, eight at a time.
+#[tactic(auto, using(crate::proofs::Folded::of_folded))]
 #[inline(always)]
 fn put_folded<P: Plane>(words: &[u64; 8], from: usize, number: usize, planes: &mut [P])
     requires half { IsHalfAt number P.word_count from planes.old }
@@ -249,6 +253,7 @@ fn put_from<P: Plane, const N: usize>(
 }
 
 /// Puts so many words into the planes from `from` on.
+#[tactic(auto, using(crate::proofs::Putting::putting))]
 #[inline(always)]
 fn put_words<P: Plane>(words: &[u64], count: usize, from: usize, number: usize, planes: &mut [P])
     requires words { count ≤ length words.now }
@@ -263,6 +268,7 @@ fn put_words<P: Plane>(words: &[u64], count: usize, from: usize, number: usize, 
 }
 
 /// The 32 planes from `from` on of 64 digits.
+#[tactic(auto, using(crate::proofs::Halves::of_planes))]
 #[inline(always)]
 fn put_half_of_64<P: Plane>(digits: &[u64], from: usize, number: usize, planes: &mut [P])
     requires digits { length digits.now ≡ 64 }
@@ -292,6 +298,7 @@ fn fold<const N: usize>(digits: &[u64], from: usize) -> [u64; N]
 }
 
 /// All planes of 64 digits, where there are at most sixteen.
+#[tactic(auto, using(crate::proofs::Halves::of_planes))]
 #[inline(always)]
 fn put_few_of_64<P: Plane>(digits: &[u64], number: usize, planes: &mut [P])
     requires number { number < P.word_count }

@@ -15,6 +15,7 @@ use zf_base::Lane;
 /// Writes the negabinary digits of a block's coefficients by rank, those of rank 0 first.
 ///
 /// `block` has `4^d` coefficients by place, x fastest.
+#[tactic(auto, using(crate::proofs::ByRank::whole))]
 #[inline(always)]
 pub fn ranked<T: Lane>(d: u8, block: &[T], digits: &mut [u64])
     requires block { IsBlockOf d block.now }
@@ -107,6 +108,7 @@ fn unrank<T: Lane>(d: u8, from: usize, to: usize, digits: &[u64], block: &mut [T
 }
 
 /// Writes the coefficients of 256 ranks, sixteen at a time.
+#[tactic(auto, using(std::proofs::lemmas::Bool::cases_lt))]
 #[inline(always)]
 fn unrank_sixteens<T: Lane>(d: u8, digits: &[u64], block: &mut [T])
     requires four { 4 ^ d ≡ 256 }

@@ -72,6 +72,7 @@ fn step<const N: usize, const S: usize>(words: &mut [u64; N], mask: u64)
 }
 
 /// Turns the tiles of eight rows.
+#[tactic(auto, using(crate::proofs::Turns::turning_steps))]
 #[inline(always)]
 fn turn_8(words: &mut [u64; 8])
     ensures { IsTurned 8 words.old words.new }
@@ -95,6 +96,7 @@ fn cross(words: &mut [u64; 8])
 
 /// Turns the tiles of sixteen rows of 32 places that lie folded in eight words: word j has row j, and then
 /// row `j + 8`.
+#[tactic(auto, using(crate::proofs::Turns::folded_turned))]
 #[inline(always)]
 pub(crate) fn turn_folded(words: &mut [u64; 8])
     ensures { IsFoldedTurned words.old words.new }
@@ -104,6 +106,7 @@ pub(crate) fn turn_folded(words: &mut [u64; 8])
 }
 
 /// Turns the tiles of sixteen rows.
+#[tactic(auto, using(crate::proofs::Turns::turning_steps))]
 #[inline(always)]
 pub(crate) fn turn_16(words: &mut [u64; 16])
     ensures { IsTurned 16 words.old words.new }
@@ -115,6 +118,7 @@ pub(crate) fn turn_16(words: &mut [u64; 16])
 }
 
 /// Turns the tiles of 32 rows.
+#[tactic(auto, using(crate::proofs::Turns::turning_steps))]
 #[inline(always)]
 pub(crate) fn turn_32(words: &mut [u64; 32])
     ensures { IsTurned 32 words.old words.new }

@@ -1,7 +1,10 @@
 -- Gathers and scatters, run by run.
-use Rattle.std.proofs.Common.{rules, ◌≡◌, ℕ, zero, suc, ◌+◌, ◌-◌, ◌*◌, ◌/◌, ◌%◌, ◌^◌, ◌<◌, ◌≤◌, Bool, true, false, lt-ltb, ℤ, pos, List, [], ◌∷◌, length, map, get_or, set, get_or-set_same, get_or-set_other, refl, ap, sym, subst, ◌∙◌, ⊎_elim, ◌⊎◌, inl, inr, arith, pow-suc}
+use Rattle.std.proofs.Common.{rules, ◌≡◌, ℕ, zero, suc, ◌+◌, ◌-◌, ◌*◌, ◌/◌, ◌%◌, ◌^◌, ◌<◌, ◌≤◌, Bool, true}
+use Rattle.std.proofs.Common.{false, lt-ltb, ℤ, pos, List, [], ◌∷◌, length, map, get_or, set}
+use Rattle.std.proofs.Common.{get_or-set_same, get_or-set_other, length-set, take, drop, ◌++◌, refl, ap}
+use Rattle.std.proofs.Common.{sym, subst, ◌∙◌, ⊎_elim, ◌⊎◌, inl, inr, arith, pow-suc}
 use Rattle.std.{proofs.Math.Nat.{mul-add, mul-le-mul_left, pow-le-pow_right}, proofs.lemmas.Bool.{cases_lt}}
-use Rattle.std.proofs.lemmas.List.{length-map, map-set}
+use Rattle.std.proofs.lemmas.List.{length-map, map-set, set_split}
 use Rattle.zf_spec.specs.Grid.{is_inside}
 use Rattle.zf_base.{specs.declared.position.Pos.{Pos}, specs.declared.position.Extent.{Extent}}
 use Rattle.zf_base.{specs.Positions.{axes, IsExtent}, proofs.Values.{number_at}}
@@ -85,25 +88,52 @@ slice_index layout s y small =
 
 -- ---- a run that is copied, value by value
 
-module _ {X : Type 0} (f : X → ℤ) (from to : ℕ) (source old : List X) where
-  pub run_none : IsRunCopied 0 from to (map f source) (map f old) (map f old)
-  run_none = record { run = λ k small. absurd (omega arith); others = λ i free. refl }
+module _ (from to : ℕ) (source old : List ℤ) where
+  pub run_none : IsRunCopied 0 from to source old old
+  run_none = record { long = refl; run = λ k small. absurd (omega arith); others = λ i free. refl }
 
-  pub run_more : (now : List X) (k n i j : ℕ) (v : X) → n ≡ k + 1 → i ≡ from + k → j ≡ to + k → i < length source → j < length now → v ≡ get_or source i v
-      → IsRunCopied k from to (map f source) (map f old) (map f now) → IsRunCopied n from to (map f source) (map f old) (map f (set now j v))
-  run_more now k n i j v next there here inside room is h =
-      let read = number_at f source i v (pos 0) inside is in
-      let long = length-map now f in
-      rw (map-set f now j v) (record {
+  -- one value more
+  pub run_next : (now : List ℤ) (k n i j : ℕ) (v : ℤ) → n ≡ k + 1 → i ≡ from + k → j ≡ to + k → j < length old
+      → v ≡ get_or source i (pos 0) → IsRunCopied k from to source old now
+      → IsRunCopied n from to source old (set now j v)
+  run_next now k n i j v next there here room read h =
+      record {
+        long = length-set now j v ∙ h.long;
         run = λ l small. ⊎_elim
-            (λ (before : l < k). get_or-set_other (map f now) j (to + l) (f v) (pos 0) (λ e. absurd (omega arith)) ∙ h.run l before)
+            (λ (before : l < k).
+            get_or-set_other now j (to + l) v (pos 0) (λ e. absurd (omega arith)) ∙ h.run l before)
             (λ (last : k ≤ l).
             let at : to + l ≡ j = omega arith in
             let of : from + l ≡ i = omega arith in
-            ap (λ q. get_or (set (map f now) j (f v)) q (pos 0)) at ∙ get_or-set_same (map f now) j (f v) (pos 0) (omega arith) ∙ read ∙ ap (λ q. get_or (map f source) q (pos 0)) (sym of))
+            ap (λ q. get_or (set now j v) q (pos 0)) at
+            ∙ get_or-set_same now j v (pos 0) (omega (arith, h.long))
+            ∙ read ∙ ap (λ q. get_or source q (pos 0)) (sym of))
             (cases_lt l k);
-        others = λ q free. get_or-set_other (map f now) j q (f v) (pos 0) (λ e. free k (omega arith) (omega arith)) ∙ h.others q (λ l small. free l (omega arith));
-      })
+        others = λ q free. get_or-set_other now j q v (pos 0) (λ e. free k (omega arith) (omega arith))
+            ∙ h.others q (λ l small. free l (omega arith));
+      }
+
+module _ {X : Type 0} (f : X → ℤ) (from to : ℕ) (source : List X) (k n i j : ℕ) (v : X)
+    (next : n ≡ k + 1) (there : i ≡ from + k) (here : j ≡ to + k) (inside : i < length source)
+    (is : v ≡ get_or source i v) where
+  -- of values that are copied as they are
+  pub run_more : (old now : List X) → j < length old
+      → IsRunCopied k from to (map f source) (map f old) (map f now)
+      → IsRunCopied n from to (map f source) (map f old) (map f (set now j v))
+  run_more old now room h =
+      rw (map-set f now j v)
+      (run_next from to (map f source) (map f old) (map f now) k n i j (f v) next there here
+      (omega (arith, room, length-map old f)) (number_at f source i v (pos 0) inside is) h)
+
+  -- of values that are put into others
+  pub run_put : (old now new : List ℤ) → j < length old → new ≡ take j now ++ f v ∷ drop (j + 1) now
+      → IsRunCopied k from to (map f source) old now → IsRunCopied n from to (map f source) old new
+  run_put old now new room put h =
+      let as_set = set_split now j (f v) (omega (arith, room, h.long)) in
+      let behind : j + 1 ≡ suc j = omega arith in
+      rw (put, behind, ← as_set)
+      (run_next from to (map f source) old now k n i j (f v) next there here room
+      (number_at f source i v (pos 0) inside is) h)
 
 -- ---- the places of a block, run by run
 

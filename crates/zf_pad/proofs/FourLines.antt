@@ -1,24 +1,14 @@
 -- Four lines of one layer of blocks, copied side by side.
-use Rattle.std.proofs.Common.{rules, subst, length, take, drop, ◌++◌, ◌≡◌, sym, ap, ◌∙◌, inl, inr, ℕ, zero, suc, ◌+◌, ◌*◌, ◌/◌, ◌%◌, ◌^◌, ◌<◌, ◌≤◌, ◌⊎◌, ⊎_elim, ℤ, pos, List, get_or, arith}
-use Rattle.std.proofs.Math.Nat.{add-mul-mod_self_left, add-mul-div_left, div-eq_of_lt, mod-eq_of_lt, mod-lt, div-add-mod, mul-le-mul_left}
-use Rattle.std.{proofs.Math.ListN.{get_or-append}, proofs.lemmas.List.{get_or-take, get_or-drop, get_or-append_right, length-take-le, length-drop}}
+use Rattle.std.proofs.Common.{◌≡◌, sym, ap, ◌∙◌, inl, ℕ, ◌+◌, ◌*◌, ◌/◌, ◌%◌, ◌<◌, ◌≤◌, ⊎_elim, ℤ, pos, List}
+use Rattle.std.proofs.Common.{get_or, arith}
+use Rattle.std.proofs.Math.Nat.{add-mul-mod_self_left, add-mul-div_left, div-eq_of_lt, mod-eq_of_lt, mod-lt}
+use Rattle.std.proofs.Math.Nat.{div-add-mod, mul-le-mul_left, mul-le-mul_right}
 use Rattle.std.proofs.lemmas.{Bool.{cases_lt}, Nat.{div_below}}
 use Rattle.zf_spec.specs.Grid.{IsShape, product}
-use Rattle.zf_pad.specs.Stored.{raster_of, line_len, other_sizes, IsKnown, AreFourLines}
+use Rattle.zf_pad.specs.Stored.{raster_of, line_len, other_sizes, IsKnown, AreFourLines, FourFit}
 use Rattle.zf_pad.specs.declared.storing.Known.{Known}
-use Rattle.zf_pad.{specs.Copies.{IsRunCopied}, proofs.StoredLines.{all_sizes, others_fit, blocks_there, blocks_small, block_value, line_end}}
-
--- four values that are put are copied
-pub run_put : (from to : ℕ) (source old new : List ℤ) → from + 4 ≤ length source → to + 4 ≤ length old
-    → new ≡ take to old ++ (take 4 (drop from source) ++ drop (to + 4) old) → IsRunCopied 4 from to source old new
-run_put from to source old new there room is =
-    let prefix : length (take to old) ≡ to = length-take-le to old (omega arith) in
-    let four : length (take 4 (drop from source)) ≡ 4 = length-take-le 4 (drop from source) (omega (arith, length-drop from source)) in
-    let rest = take 4 (drop from source) ++ drop (to + 4) old in
-    subst (IsRunCopied 4 from to source old) (sym is) (record {
-      run = search (rules, get_or-append_right, get_or-append, get_or-take, get_or-drop);
-      others = λ i free. search (rules, get_or-append, get_or-take, get_or-append_right, get_or-drop, cases_lt);
-    })
+use Rattle.zf_pad.specs.Copies.{IsRunCopied}
+use Rattle.zf_pad.proofs.StoredLines.{all_sizes, others_fit, part_fits, block_value, line_end}
 
 -- so many rows of four, each so far behind the one before, stand beside one another
 abbrev pub IsLineCopied : (from step to : ℕ) (source part : List ℤ) (n : ℕ) → Type 0
@@ -39,61 +29,40 @@ line_more from step to at place source old new n is there row h =
     ∙ ap (λ j. get_or source (from + j * step + k) (pos 0)) (sym same))
     (cases_lt a n)
 
--- a row elsewhere
-pub line_stays : (from step to at place : ℕ) (source old new : List ℤ) (n : ℕ) → (place + 4 ≤ to) ⊎ (to + 4 * n ≤ place)
-    → IsRunCopied 4 at place source old new → IsLineCopied from step to source old n → IsLineCopied from step to source new n
-line_stays from step to at place source old new n apart row h =
-    λ a k lt small.
-    row.others (to + (4 * a + k)) (λ j s e. ⊎_elim (λ (l : place + 4 ≤ to). absurd (omega (arith, e, s, l))) (λ (l : to + 4 * n ≤ place). absurd (omega (arith, e, lt, small, l))) apart)
-    ∙ h a k lt small
+-- the first rows of four lines of m values, line by line: row 4 * c + j is row c of line j
+pub record AreRowsCopied (from step to m : ℕ) (source part : List ℤ) (rows : ℕ) : Type 0 where
+  pub each : (j c k : ℕ) → j < 4 → k < 4 → 4 * c + j < rows
+      → get_or part (to + (j * m + (4 * c + k))) (pos 0) ≡ get_or source (from + 4 * j + c * step + k) (pos 0)
 
--- so many rows of each of four lines of m values
-pub record AreLinesCopied (from step to m : ℕ) (source part : List ℤ) (n : ℕ) : Type 0 where
-  pub first : IsLineCopied from step to source part n
-  pub second : IsLineCopied (from + 4) step (to + m) source part n
-  pub third : IsLineCopied (from + 8) step (to + 2 * m) source part n
-  pub fourth : IsLineCopied (from + 12) step (to + 3 * m) source part n
-
--- one row more of each
-pub rows_more : (from step to m b at place : ℕ) (source p0 p1 p2 p3 p4 : List ℤ) → 4 * b + 4 ≤ m → at ≡ from + b * step → place ≡ to + 4 * b
-    → IsRunCopied 4 at place source p0 p1 → IsRunCopied 4 (at + 4) (place + m) source p1 p2
-    → IsRunCopied 4 (at + 8) (place + 2 * m) source p2 p3 → IsRunCopied 4 (at + 12) (place + 3 * m) source p3 p4
-    → AreLinesCopied from step to m source p0 b → AreLinesCopied from step to m source p4 (b + 1)
-rows_more from step to m b at place source p0 p1 p2 p3 p4 room is there r1 r2 r3 r4 h = record {
-  first =
-      line_stays from step to (at + 12) (place + 3 * m) source p3 p4 (b + 1) (inr (omega (arith, there, room))) r4
-      (line_stays from step to (at + 8) (place + 2 * m) source p2 p3 (b + 1) (inr (omega (arith, there, room))) r3
-      (line_stays from step to (at + 4) (place + m) source p1 p2 (b + 1) (inr (omega (arith, there, room))) r2
-      (line_more from step to at place source p0 p1 b is there r1 h.first)));
-  second =
-      line_stays (from + 4) step (to + m) (at + 12) (place + 3 * m) source p3 p4 (b + 1) (inr (omega (arith, there, room))) r4
-      (line_stays (from + 4) step (to + m) (at + 8) (place + 2 * m) source p2 p3 (b + 1) (inr (omega (arith, there, room))) r3
-      (line_more (from + 4) step (to + m) (at + 4) (place + m) source p1 p2 b (omega (arith, is)) (omega (arith, there)) r2
-      (line_stays (from + 4) step (to + m) at place source p0 p1 b (inl (omega (arith, there, room))) r1 h.second)));
-  third =
-      line_stays (from + 8) step (to + 2 * m) (at + 12) (place + 3 * m) source p3 p4 (b + 1) (inr (omega (arith, there, room))) r4
-      (line_more (from + 8) step (to + 2 * m) (at + 8) (place + 2 * m) source p2 p3 b (omega (arith, is)) (omega (arith, there)) r3
-      (line_stays (from + 8) step (to + 2 * m) (at + 4) (place + m) source p1 p2 b (inl (omega (arith, there, room))) r2
-      (line_stays (from + 8) step (to + 2 * m) at place source p0 p1 b (inl (omega (arith, there, room))) r1 h.third)));
-  fourth =
-      line_more (from + 12) step (to + 3 * m) (at + 12) (place + 3 * m) source p3 p4 b (omega (arith, is)) (omega (arith, there)) r4
-      (line_stays (from + 12) step (to + 3 * m) (at + 8) (place + 2 * m) source p2 p3 b (inl (omega (arith, there, room))) r3
-      (line_stays (from + 12) step (to + 3 * m) (at + 4) (place + m) source p1 p2 b (inl (omega (arith, there, room))) r2
-      (line_stays (from + 12) step (to + 3 * m) at place source p0 p1 b (inl (omega (arith, there, room))) r1 h.fourth)));
+-- one row more
+pub row_more : (from step to m b i at place rows next : ℕ) (source old new : List ℤ) → i < 4 → 4 * b + 4 ≤ m
+    → rows ≡ 4 * b + i → next ≡ rows + 1 → at ≡ from + 4 * i + b * step → place ≡ to + (i * m + 4 * b)
+    → IsRunCopied 4 at place source old new → AreRowsCopied from step to m source old rows
+    → AreRowsCopied from step to m source new next
+row_more from step to m b i at place rows next source old new four room is more there here row h = record {
+  each = λ j c k less small lt. ⊎_elim
+      (λ (before : 4 * c + j < rows). row.others (to + (j * m + (4 * c + k))) (λ l s e. ⊎_elim
+      (λ (earlier : j < i).
+      absurd (omega (arith, mul-le-mul_right m (up j i earlier), e, s, small, before, is, here, room)))
+      (λ (later : i ≤ j). ⊎_elim
+      (λ (behind : i < j).
+      absurd (omega (arith, mul-le-mul_right m (up i j behind), e, s, small, before, is, here, room)))
+      (λ (same : j ≤ i).
+      let one : j ≡ i = omega (arith, same, later) in
+      absurd (omega (arith, ap (λ q. q * m) one, one, e, s, small, before, is, here)))
+      (cases_lt i j))
+      (cases_lt j i)) ∙ h.each j c k less small before)
+      (λ (last : rows ≤ 4 * c + j).
+      let block : c ≡ b = omega (arith, last, lt, more, is, four, less) in
+      let line : j ≡ i = omega (arith, last, lt, more, is, block) in
+      ap (λ q. get_or new q (pos 0)) (omega (arith, ap (λ q. q * m) line, block, here))
+      ∙ row.run k small
+      ∙ ap (λ q. get_or source q (pos 0)) (omega (arith, ap (λ q. q * step) block, line, there)))
+      (cases_lt (4 * c + j) rows);
 }
-
--- a row of any of them
-pub row_of_line : (from step to m : ℕ) (source part : List ℤ) (n : ℕ) → AreLinesCopied from step to m source part n → (j b k : ℕ) → j < 4 → b < n → k < 4
-    → get_or part (to + (j * m + (4 * b + k))) (pos 0) ≡ get_or source (from + 4 * j + b * step + k) (pos 0)
-row_of_line from step to m source part n h zero b k four lt small =
-    ap (λ i. get_or part i (pos 0)) (omega arith) ∙ h.first b k lt small ∙ ap (λ i. get_or source i (pos 0)) (omega arith)
-row_of_line from step to m source part n h (suc zero) b k four lt small =
-    ap (λ i. get_or part i (pos 0)) (omega arith) ∙ h.second b k lt small ∙ ap (λ i. get_or source i (pos 0)) (omega arith)
-row_of_line from step to m source part n h (suc (suc zero)) b k four lt small =
-    ap (λ i. get_or part i (pos 0)) (omega arith) ∙ h.third b k lt small ∙ ap (λ i. get_or source i (pos 0)) (omega arith)
-row_of_line from step to m source part n h (suc (suc (suc zero))) b k four lt small =
-    ap (λ i. get_or part i (pos 0)) (omega arith) ∙ h.fourth b k lt small ∙ ap (λ i. get_or source i (pos 0)) (omega arith)
-row_of_line from step to m source part n h (suc (suc (suc (suc j)))) b k four lt small = absurd (omega (arith, four))
+  where
+    up : (p q : ℕ) → p < q → p + 1 ≤ q
+    up p q lt = omega arith
 
 -- ---- which lines they are
 
@@ -143,20 +112,21 @@ module _ (ns : List ℕ) (from n first lines line : ℕ) (h : AreFourLines ns fr
   some_here : 0 < n
   some_here = some_values ns from n (h.each 0 (omega arith)).shape (h.each 0 (omega arith)).n_is (omega (arith, (h.each 0 (omega arith)).before))
 
-  pub four_there : (b : ℕ) → b < n / 4 → n * first + 4 * line + b * (4 * lines) + 16 ≤ product ns
-  four_there b lt = omega (arith, rw (x_of from n h.begins some_here 3) at (blocks_there _ _ _ _ _ _ _ (h.each 3 (omega arith)) b lt))
-
-  pub four_small : n * first + 4 * line + n / 4 * (4 * lines) < 2 ^ 41
-  four_small = omega (arith, rw (x_of from n h.begins some_here 0) at (blocks_small _ _ _ _ _ _ _ (h.each 0 (omega arith))))
-
-  pub lines_small : 4 * lines < 2 ^ 41
-  lines_small = omega (arith, (h.each 0 (omega arith)).fits, others_fit ns (h.each 0 (omega arith)).shape)
-
-  pub four_end : from + 4 * n ≤ product ns
-  four_end = let last = h.each 3 (omega arith) in omega (arith, line_end ns (from + 3 * n) n last.shape last.before last.within)
-
-  pub four_first : (from + 4 * n) % line_len ns % 4 ≡ 0
-  four_first = ap (λ x. x % 4) (ap (λ m. (from + 4 * n) % m) (sym (h.each 0 (omega arith)).n_is) ∙ x_of from n h.begins some_here 4)
+  -- where they lie
+  pub four_fit : FourFit ns from n first lines line
+  four_fit =
+      let top = h.each 0 (omega arith) in
+      let low = h.each 3 (omega arith) in
+      record {
+        there = λ b lt.
+            let within = (part_fits _ _ _ _ _ _ _ low).there b lt in
+            omega (arith, rw (x_of from n h.begins some_here 3) at within);
+        small = omega (arith, rw (x_of from n h.begins some_here 0) at (part_fits _ _ _ _ _ _ _ top).blocks);
+        steps = omega (arith, top.fits, others_fit ns top.shape);
+        ends = omega (arith, line_end ns (from + 3 * n) n low.shape low.before low.within);
+        next = ap (λ x. x % 4)
+            (ap (λ m. (from + 4 * n) % m) (sym top.n_is) ∙ x_of from n h.begins some_here 4);
+      }
 
   four_value : (stored : List ℤ) (j b k : ℕ) → j < 4 → b < n / 4 → k < 4
       → get_or (raster_of ns stored) (from + (j * n + (4 * b + k))) (pos 0) ≡ get_or stored (n * first + 4 * line + 4 * j + b * (4 * lines) + k) (pos 0)

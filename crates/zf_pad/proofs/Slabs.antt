@@ -225,3 +225,8 @@ IsShape-with_rows rows ns shape some few =
     let fields = all_with_rows (λ n. n ≤ 2 ^ (48 / length ns)) rows ns (omega (arith, most)) shape.fields in
     let all : AllByRecursion (λ n. n ≤ 2 ^ (48 / length (with_rows rows ns))) (with_rows rows ns) = rw dims fields in
     search (rules, all_with_rows, product-with_rows, product-rows)
+
+-- a slab is an array, and what is gathered of it is gathered of the whole one
+pub ruleset slabs_are = (product-with_rows, with_all_rows, extent_of-slab)
+
+pub ruleset slabs_gathered = (slabs_are, layout_of_slab, coordinates_of_block, gathered_of_slab)

@@ -1,6 +1,6 @@
 -- Padding in place: each place takes the value of its source.
 use Rattle.std.proofs.Common.{rules, ◌≡◌, ℕ, zero, suc, ◌+◌, ◌-◌, ◌*◌, ◌/◌, ◌%◌, ◌^◌, ◌<◌, ◌≤◌, true, ℤ, pos, List, [], ◌∷◌, ◌++◌, length, get_or, set, replicate, All, refl, ap, sym, ◌∙◌, ⊎_elim, arith, ext_get_or, pow-suc}
-use Rattle.std.proofs.lemmas.Bool.{cases_lt}
+use Rattle.std.proofs.lemmas.{Bool.{cases_lt}, List.{length-map}}
 use Rattle.zf_spec.{specs.Grid.{fours}, specs.Padding.{sources, source_place, pad}}
 use Rattle.zf_spec.proofs.Padding.{IsExtent as IsSize, source_place_below, source_place_inside, source_place_existing, length-pad, get_or-pad}
 use Rattle.zf_spec.proofs.Raster.{length-fours}
@@ -86,3 +86,6 @@ unfolding IsPadded
 padded_all es old now n whole long h =
     ext_get_or (pos 0) now (pad es old) (long ∙ whole ∙ sym (length-pad es old))
     (λ p lt. h.written p (omega arith) refl ∙ sym (get_or-pad es old p (omega arith)))
+
+-- blocks that are padded place by place
+pub ruleset padding = (length-map, used_length, padded_none, padded_all, pad-whole)

@@ -1,14 +1,14 @@
 -- The lines of an array whose values are kept in the order of blocks.
 use Rattle.std.proofs.Common.{rules, ◌≡◌, ◌≢◌, refl, sym, ap, ◌∙◌, ℕ, zero, suc, ◌+◌, ◌-◌, ◌*◌, ◌/◌, ◌%◌, ◌<◌, ◌≤◌, ◌^◌, ◌⊎◌, ⊎_elim, min, ℤ, pos, List, [], ◌∷◌, ◌++◌, length, get_or, take, drop, replicate, mod-eq_of_lt, mul-le-mul_left, arith, ext_get_or, length-drop, lit≤}
 use Rattle.std.proofs.Math.Nat.{add-mul-mod_self_left, add-mul-div_left, div-eq_of_lt, div-add-mod, mul-mod_right, mul-le-mul_right, le-mul_of_pos_right}
-use Rattle.std.{proofs.lemmas.Bool.{cases_lt}, proofs.lemmas.Nat.{div_below}, proofs.Math.Seq.{take-take}}
-use Rattle.std.proofs.lemmas.List.{length-map, get_or-take, get_or-drop, get_or-append_right, length-take-le, take-append-le}
-use Rattle.std.proofs.Math.ListN.{get_or-append}
+use Rattle.std.{proofs.lemmas.Bool.{cases_lt}, proofs.lemmas.Nat.{div_below}}
+use Rattle.std.proofs.lemmas.List.{length-map, get_or-take, get_or-drop, length-take-le}
 use Rattle.zf_spec.specs.Grid.{IsShape, product, coordinates, extents, max_values}
 use Rattle.zf_spec.{proofs.Counting.{get_or-map-upto}, proofs.Raster.{length-coordinates, length-extents}}
 use Rattle.zf_base.proofs.Boxes.{product-append_ones, raster-append_zeros, coordinates-append_ones, extents-append_ones}
 use Rattle.zf_base.{proofs.Extents.{map-zeros}, proofs.Sizes.{axes-with_unused, all_axes, product-axes}}
-use Rattle.zf_pad.specs.Stored.{start_at, stored_index, raster_of, line_len, other_sizes, IsLine, IsKnown, LinePart}
+use Rattle.zf_pad.specs.Stored.{start_at, stored_index, raster_of, line_len, other_sizes, IsLine, IsKnown}
+use Rattle.zf_pad.specs.Stored.{LinePart, PartFits}
 use Rattle.zf_pad.specs.declared.storing.{Line.{Line}, Known.{Known}}
 
 -- ---- along four axes
@@ -196,20 +196,24 @@ module _ (ns : List ℕ) (from count n first lines line : ℕ) (h : LinePart ns 
   rest_ends : (k : ℕ) → k < count % 4 → from % n + (4 * (count / 4) + count % 4) ≡ n
   rest_ends k lt = ⊎_elim (λ (fours : count % 4 ≡ 0). absurd (omega (arith, lt, fours))) (λ (all : from % line_len ns + count ≡ line_len ns). omega (arith, all, x_is, h.n_is)) h.whole
 
-  -- all of these numbers are small
-  pub numbers_small : n * first + from % n * lines + 4 * line < 2 ^ 40
-  numbers_small =
+  -- where they lie
+  pub part_fits : PartFits (from % n) count n first lines line (product ns)
+  part_fits =
       let x_below : from % n ≤ n = omega (arith, part_within) in
-      omega (arith, all_within, h.shape.not_too_large, mul-le-mul_right lines x_below, h.below, h.fits, others_fit ns h.shape)
-
-  pub blocks_there : (b : ℕ) → b < count / 4 → n * first + from % n * lines + 4 * line + b * (4 * lines) + 4 ≤ product ns
-  blocks_there b lt = block_within n first lines line (from % n) (product ns) part_begins h.below all_within b (omega (arith, lt, part_within))
-
-  pub rest_there : n * first + from % n * lines + 4 * (count / 4) * lines + count % 4 * line + count % 4 ≤ product ns
-  rest_there = rest_within n first lines line (from % n) (product ns) part_begins h.below all_within (count / 4) (count % 4) (omega (arith, part_within))
-
-  pub blocks_small : n * first + from % n * lines + 4 * line + count / 4 * (4 * lines) < 2 ^ 41
-  blocks_small = omega (arith, numbers_small, rest_there, h.shape.not_too_large)
+      let few = mul-le-mul_right lines x_below in
+      let fit = others_fit ns h.shape in
+      let small : n * first + from % n * lines + 4 * line < 2 ^ 40 =
+      omega (arith, all_within, h.shape.not_too_large, few, h.below, h.fits, fit) in
+      let rest = rest_within n first lines line (from % n) (product ns) part_begins h.below all_within
+      (count / 4) (count % 4) (omega (arith, part_within)) in
+      record {
+        small = small;
+        blocks = omega (arith, small, rest, h.shape.not_too_large);
+        there = λ b lt. block_within n first lines line (from % n) (product ns) part_begins h.below all_within
+            b (omega (arith, lt, part_within));
+        rest = rest;
+        few = omega (arith, h.shape.not_too_large);
+      }
 
   -- a value of the line
   value_there : (stored : List ℤ) (i : ℕ) → i < count → get_or (raster_of ns stored) (from + i) (pos 0) ≡ get_or stored (place_on n first lines line (from % n + i)) (pos 0)
@@ -230,41 +234,14 @@ module _ (ns : List ℕ) (from count n first lines line : ℕ) (h : LinePart ns 
       ∙ ap (λ i. get_or stored i (pos 0))
       (rest_place n first lines line (from % n) (product ns) part_begins h.below all_within (count / 4) (count % 4) k lt (omega arith) (rest_ends k lt))
 
--- ---- what is copied
-
--- some values were copied to places beside one another, and those before are as they were
-pub rest_copied : (from to count : ℕ) (source old new : List ℤ) → from + count ≤ length source → to + count ≤ length old
-    → new ≡ take to old ++ (take count (drop from source) ++ drop (to + count) old)
-    → ((i : ℕ) → i < to → get_or new i (pos 0) ≡ get_or old i (pos 0)) × ((k : ℕ) → k < count → get_or new (to + k) (pos 0) ≡ get_or source (from + k) (pos 0))
-rest_copied from to count source old new there room is =
-    let rest = take count (drop from source) ++ drop (to + count) old in
-    let prefix : length (take to old) ≡ to = length-take-le to old (omega (arith, room)) in
-    let some : length (take count (drop from source)) ≡ count = length-take-le count (drop from source) (omega (arith, length-drop from source, there)) in
-    search (rules, get_or-append, get_or-take, get_or-append_right, get_or-drop)
-
--- what stands before a place stays where values are put behind it
-pub front_stays : {X : Type 0} (to at : ℕ) (old rest new : List X) → to ≤ at → at ≤ length old → new ≡ take at old ++ rest → take to new ≡ take to old
-front_stays {X} to at old rest new before within is =
-    ap (take to) is ∙ take-append-le to (take at old) rest (omega (arith, length-take-le at old within, before)) ∙ take-take to at old before
-
 -- ---- values so far
 
--- the next values of a list
-pub taken_more : (xs values : List ℤ) (from held count : ℕ) → take held xs ≡ take held (drop from values) → ((i : ℕ) → i < count → get_or xs (held + i) (pos 0) ≡ get_or values (from + held + i) (pos 0))
-    → held + count ≤ length xs → from + held + count ≤ length values → take (held + count) xs ≡ take (held + count) (drop from values)
-taken_more xs values from held count before more room within =
-    let m = held + count in
-    let long : length (take m xs) ≡ m = length-take-le m xs room in
-    let as_long : length (take m (drop from values)) ≡ m = length-take-le m (drop from values) (omega (arith, length-drop from values, within)) in
-    ext_get_or (pos 0) (take m xs) (take m (drop from values)) (long ∙ sym as_long)
-    (λ i lt.
-    let small : i < m = omega (arith, lt, long) in
-    get_or-take m xs i (pos 0) small
-    ∙ ⊎_elim
-    (λ (l : i < held). sym (get_or-take held xs i (pos 0) l) ∙ ap (λ (zs : List ℤ). get_or zs i (pos 0)) before ∙ get_or-take held (drop from values) i (pos 0) l)
-    (λ (l : held ≤ i).
-    let place : held + (i - held) ≡ i = omega arith in
-    let there : from + held + (i - held) ≡ from + i = omega arith in
-    ap (λ j. get_or xs j (pos 0)) (sym place) ∙ more (i - held) (omega (arith, small, l)) ∙ ap (λ j. get_or values j (pos 0)) there ∙ sym (get_or-drop from values i (pos 0)))
-    (cases_lt i held)
-    ∙ sym (get_or-take m (drop from values) i (pos 0) small))
+-- values that were copied one by one, as a list
+pub all_taken : (xs values : List ℤ) (from n : ℕ) → n ≤ length xs → from + n ≤ length values
+    → ((i : ℕ) → i < n → get_or xs i (pos 0) ≡ get_or values (from + i) (pos 0))
+    → take n xs ≡ take n (drop from values)
+all_taken xs values from n room within same =
+    let long = length-take-le n xs room in
+    let as_long = length-take-le n (drop from values) (omega (arith, length-drop from values, within)) in
+    ext_get_or (pos 0) (take n xs) (take n (drop from values)) (long ∙ sym as_long)
+    (search (rules, get_or-take, get_or-drop))

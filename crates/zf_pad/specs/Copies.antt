@@ -1,5 +1,5 @@
 -- What is copied between a list of values and a block of which an extent exists.
-use Rattle.std.specs.Prelude.{ℕ, ◌+◌, ◌<◌, ◌≡◌, ◌≢◌, ℤ, pos, List, slice_index_or}
+use Rattle.std.specs.Prelude.{ℕ, ◌+◌, ◌<◌, ◌≡◌, ◌≢◌, ℤ, pos, List, length, slice_index_or}
 use Rattle.zf_base.specs.declared.position.Extent.{Extent}
 use Rattle.zf_pad.specs.declared.layout.Layout.{Layout}
 use Rattle.zf_pad.specs.Layouts.{HasPlace, index_at, place_at}
@@ -27,5 +27,6 @@ pub record IsCopied (e : Extent) (from to : Layout) (source old new : List ℤ) 
 
 -- so many values that stand beside one another were copied, all others stay
 pub record IsRunCopied (len from to : ℕ) (source old new : List ℤ) : Type 0 where
+  pub long : length new ≡ length old
   pub run : (k : ℕ) → k < len → slice_index_or new (to + k) (pos 0) ≡ slice_index_or source (from + k) (pos 0)
   pub others : (i : ℕ) → ((k : ℕ) → k < len → i ≢ to + k) → slice_index_or new i (pos 0) ≡ slice_index_or old i (pos 0)

@@ -86,3 +86,23 @@ pub record AreFourLines (ns : List ℕ) (from n first lines line : ℕ) : Type 0
   pub each : (j : ℕ) → j < 4 → LinePart ns (from + j * n) n n first lines (line + j)
   pub begins : from % n ≡ 0
   pub whole : n % 4 ≡ 0
+
+-- values before this place stay
+abbrev pub StayBefore : ℕ → List ℤ → List ℤ → Type 0
+StayBefore to old new = (i : ℕ) → i < to → slice_index_or new i (pos 0) ≡ slice_index_or old i (pos 0)
+
+-- where the values of such a part lie, which has x values of the line before it, among so many
+pub record PartFits (x count n first lines line all : ℕ) : Type 0 where
+  pub small : n * first + x * lines + 4 * line < 2 ^ 40
+  pub blocks : n * first + x * lines + 4 * line + count / 4 * (4 * lines) < 2 ^ 41
+  pub there : (b : ℕ) → b < count / 4 → n * first + x * lines + 4 * line + b * (4 * lines) + 4 ≤ all
+  pub rest : n * first + x * lines + 4 * (count / 4) * lines + count % 4 * line + count % 4 ≤ all
+  pub few : all < 2 ^ 41
+
+-- where the values of such lines lie, and what comes behind them
+pub record FourFit (ns : List ℕ) (from n first lines line : ℕ) : Type 0 where
+  pub there : (b : ℕ) → b < n / 4 → n * first + 4 * line + b * (4 * lines) + 16 ≤ product ns
+  pub small : n * first + 4 * line + n / 4 * (4 * lines) < 2 ^ 41
+  pub steps : 4 * lines < 2 ^ 41
+  pub ends : from + 4 * n ≤ product ns
+  pub next : IsFirst ns (from + 4 * n)

@@ -16,6 +16,7 @@ use zf_base::{Extent, Lane, Pos, block_len};
 ///
 /// Each position of `e` has its place in `values`. `block` has `4^d` values, x fastest; those at places that
 /// do not exist stay.
+#[tactic(auto, using(crate::proofs::Copying::gathered))]
 pub fn gather<T: Lane>(layout: &Layout, e: &Extent, d: u8, values: &[T], block: &mut [T])
     requires fits { CanCopy layout.now e.now d (length values.now) (length block.old) }
     ensures { IsGathered layout.now e.now
@@ -36,6 +37,7 @@ pub fn gather<T: Lane>(layout: &Layout, e: &Extent, d: u8, values: &[T], block: 
 ///
 /// Each position of `e` has its place in `values`, and no two have the same. `block` has `4^d` values, x
 /// fastest; those at places that do not exist are not looked at.
+#[tactic(auto, using(crate::proofs::Copying::scattered))]
 pub fn scatter<T: Lane>(layout: &Layout, e: &Extent, d: u8, block: &[T], values: &mut [T])
     requires fits { CanCopy layout.now e.now d (length values.old) (length block.now) }
     requires one_to_one { IsOneToOne layout.now e.now }

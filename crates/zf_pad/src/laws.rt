@@ -12,6 +12,7 @@ ghost use Rattle.zf_pad.specs.Rasters.{IsRasterBlock};
 ghost use Rattle.zf_pad.specs.Copies.{IsGathered, IsScattered};
 
 /// The places of each block lie within the raw values, at different indices.
+#[tactic(auto, using(crate::proofs::Blocks::one_to_one))]
 pub fn places_of_blocks()
     ensures within { (ns : List ℕ) (b n : ℕ) (layout : Layout) (e : Extent)
         → IsRasterBlock ns b layout e → product ns ≤ n → LiesWithin layout e n }
@@ -20,6 +21,7 @@ pub fn places_of_blocks()
 {}
 
 /// What is gathered of raw values is the block of the array, and padded it is the padded block.
+#[tactic(auto, using(crate::proofs::Blocks::gathered_block, crate::proofs::Blocks::gathered_padded))]
 pub fn gathered_blocks()
     ensures existing { (ns : List ℕ) (b : ℕ) (layout : Layout) (e : Extent) (values old new : List ℤ)
         → IsRasterBlock ns b layout e → IsGathered layout e values old new
@@ -31,6 +33,7 @@ pub fn gathered_blocks()
 
 /// A scatter into raw values writes the block of the array and leaves all other blocks; an array is what its
 /// blocks are.
+#[tactic(auto, using(crate::proofs::Blocks::values_from_blocks))]
 pub fn scattered_blocks()
     ensures block { (ns : List ℕ) (b : ℕ) (layout : Layout) (e : Extent) (block old new : List ℤ)
         → IsRasterBlock ns b layout e → IsScattered layout e block old new

@@ -12,6 +12,7 @@ ghost use Rattle.zf_pad.specs.Slabs.{rows_of, row_len, with_rows, rows_on, IsSla
 
 /// A slab is an array of its own: it has the sizes of the whole array but for its rows, and its values stand
 /// beside one another. Its blocks are those of the whole array, from its first block on.
+#[tactic(auto, using(crate::proofs::Slabs::slabs_are))]
 pub fn slabs_of_an_array()
     ensures values { (ns : List ℕ) (rows : ℕ) → 1 ≤ length ns → product (with_rows rows ns)
         ≡ row_len ns * rows }
@@ -26,6 +27,7 @@ pub fn slabs_of_an_array()
 
 /// What is gathered of a slab, where the origin of its block along the last axis is counted from the slab's
 /// first row, is what is gathered of the whole array: its block. The layout of the whole array serves.
+#[tactic(auto, using(crate::proofs::Slabs::slabs_gathered))]
 pub fn blocks_gathered_of_slabs()
     ensures layout { (ns : List ℕ) (rows : ℕ) (layout : Layout) → 1 ≤ length ns → length ns ≤ 4
         → rows ≤ rows_of ns

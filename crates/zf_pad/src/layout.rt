@@ -16,6 +16,7 @@ pub struct Layout {
 
 impl Layout {
     /// The layout of raw values: x fastest, then y, z and w.
+    #[tactic(auto, using(crate::proofs::Rasters::steps_fit, crate::proofs::Rasters::raster_layout))]
     pub fn raster(shape: &Shape) -> Layout
         ensures { IsRaster shape.now result }
     {

@@ -16,6 +16,7 @@ const SOURCES: [[usize; 4]; 4] = [[0, 0, 0, 0], [0, 1, 1, 0], [0, 1, 2, 0], [0, 
 /// b` becomes `a b b a`, and `a b c` becomes `a b c a`.
 ///
 /// `block` has `4^d` values, x fastest. Those that exist stay; those outside of `e` are not looked at.
+#[tactic(auto, using(crate::proofs::Sources::padding))]
 pub fn pad<T: Lane>(e: &Extent, d: u8, block: &mut [T])
     requires four_at_most { d ≤ 4 }
     requires extent { IsExtent d e.now }

@@ -3,6 +3,7 @@
 ghost use Rattle.std.specs.Prelude.{◌≡◌, ◌≤◌, ◌+◌, ◌*◌, ◌/◌, ◌<◌, ◌∷◌, ◌++◌, All, FitsSigned, map, length, take, drop};
 ghost use Rattle.std.specs.Int.{byte_len};
 ghost use Rattle.zf_spec.specs.Stream.{raw};
+ghost use Rattle.zf_pad.specs.Copies.{IsRunCopied};
 ghost use Rattle.zf_pad.specs.Stored.{values_in};
 
 use zf_base::Lane;
@@ -41,8 +42,8 @@ pub(crate) fn put_raw_at<T: Lane>(
 )
     requires there { from + count ≤ length values.now }
     requires room { to + count ≤ length bytes.old / byte_len T.width }
-    ensures { values_in T.width bytes.new ≡ take to (values_in T.width bytes.old)
-        ++ (take count (drop from (map T.value values.now)) ++ drop (to + count) (values_in T.width bytes.old)) }
+    ensures { IsRunCopied count from to (map T.value values.now)
+        (values_in T.width bytes.old) (values_in T.width bytes.new) }
 {
     for k in 0..count {
         put_value(values[from + k], bytes, to + k);
@@ -54,8 +55,8 @@ pub(crate) fn put_raw_at<T: Lane>(
 pub(crate) fn put_row<T: Lane>(values: &[T], from: usize, bytes: &mut [u8], to: usize)
     requires there { from + 4 ≤ length values.now }
     requires room { to + 4 ≤ length bytes.old / byte_len T.width }
-    ensures { values_in T.width bytes.new ≡ take to (values_in T.width bytes.old)
-        ++ (take 4 (drop from (map T.value values.now)) ++ drop (to + 4) (values_in T.width bytes.old)) }
+    ensures { IsRunCopied 4 from to (map T.value values.now)
+        (values_in T.width bytes.old) (values_in T.width bytes.new) }
 {
     let a = values[from];
     let b = values[from + 1];

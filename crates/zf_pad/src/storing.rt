@@ -9,7 +9,9 @@ ghost use Rattle.zf_spec.specs.Grid.{product, blocks, extent_of, max_values};
 ghost use Rattle.zf_spec.specs.Stream.{raw};
 ghost use Rattle.zf_base.specs.Positions.{used_axes, IsExtent};
 ghost use Rattle.zf_pad.specs.Stored.{HasWholeBlocks, AppendsBlock, raster_of, line_len, other_sizes};
-ghost use Rattle.zf_pad.specs.Stored.{IsFirst, IsKnown, LinePart, AreFourLines, values_in};
+ghost use Rattle.zf_pad.specs.Copies.{IsRunCopied};
+ghost use Rattle.zf_pad.specs.Stored.{IsFirst, IsKnown, LinePart, PartFits, AreFourLines, FourFit};
+ghost use Rattle.zf_pad.specs.Stored.{StayBefore, values_in};
 
 use crate::array_block::part_of;
 use crate::copies::scatter;
@@ -19,6 +21,7 @@ use crate::raw::{put_raw_at, put_row, value_len};
 use zf_base::{Extent, Lane, Pos, Shape};
 
 /// Whether no size of an array cuts a block.
+#[tactic(auto, using(crate::proofs::Appended::all_divide, crate::proofs::Appended::divides_at))]
 pub fn has_whole_blocks(shape: &Shape) -> bool
     ensures whole { result ≡ true → HasWholeBlocks shape.now }
     ensures cut { HasWholeBlocks shape.now → result ≡ true }
@@ -179,7 +182,7 @@ fn copy_next<T: Lane>(
     ensures room { to + result ≤ length piece.new / byte_len T.width }
     ensures within { from + result ≤ product shape.now }
     ensures first { IsFirst shape.now (from + result) }
-    ensures before { take to (values_in T.width piece.new) ≡ take to (values_in T.width piece.old) }
+    ensures before { StayBefore to (values_in T.width piece.old) (values_in T.width piece.new) }
     ensures values { (i : ℕ) → i < result → slice_index_or (values_in T.width piece.new) (to + i) (pos 0)
         ≡ slice_index_or (raster_of shape.now (map T.value stored.now)) (from + i) (pos 0) }
     ensures known { IsKnown (other_sizes shape.now) known.new }
@@ -209,12 +212,14 @@ fn copy_next<T: Lane>(
 
 // The first line of a layer of blocks that has four, where this value is its first, and no block of theirs is
 // cut. Their values are `n`. `known` becomes that line, if any.
+#[tactic(auto, using(crate::proofs::StoredLines::line_below))]
 #[inline]
 fn four_lines(shape: &Shape, n: u64, from: u64, known: &mut Known) -> Option<Line>
     requires size { n ≡ line_len shape.now }
     requires known { IsKnown (other_sizes shape.now) known.old }
     requires within { from < product shape.now }
     ensures four { IfSome result (λ l. AreFourLines shape.now from n l.first l.lines l.line) }
+    ensures fits { IfSome result (λ l. FourFit shape.now from n l.first l.lines l.line) }
     ensures known { IsKnown (other_sizes shape.now) known.new }
 {
     if from % n != 0 || n % 4 != 0 {
@@ -237,7 +242,7 @@ fn copy_four<T: Lane>(stored: &[T], from: usize, step: usize, to: usize, n: usiz
     requires there { (b : ℕ) → b < n / 4 → from + b * step + 16 ≤ length stored.now }
     requires small { from + n / 4 * step < 2 ^ 64 }
     requires room { to + 4 * n ≤ length piece.old / byte_len T.width }
-    ensures before { take to (values_in T.width piece.new) ≡ take to (values_in T.width piece.old) }
+    ensures before { StayBefore to (values_in T.width piece.old) (values_in T.width piece.new) }
     ensures rows { (j b k : ℕ) → j < 4 → b < n / 4 → k < 4
         → slice_index_or (values_in T.width piece.new) (to + (j * n + (4 * b + k))) (pos 0)
         ≡ slice_index_or (map T.value stored.now) (from + 4 * j + b * step + k) (pos 0) }
@@ -289,7 +294,7 @@ fn copy_line<T: Lane>(
     requires first { IsFirst shape.now from }
     requires whole { (count % 4 ≡ 0) ⊎ (from % line_len shape.now + count ≡ line_len shape.now) }
     requires room { to + count ≤ length piece.old / byte_len T.width }
-    ensures before { take to (values_in T.width piece.new) ≡ take to (values_in T.width piece.old) }
+    ensures before { StayBefore to (values_in T.width piece.old) (values_in T.width piece.new) }
     ensures values { (i : ℕ) → i < count → slice_index_or (values_in T.width piece.new) (to + i) (pos 0)
         ≡ slice_index_or (raster_of shape.now (map T.value stored.now)) (from + i) (pos 0) }
     ensures known { IsKnown (other_sizes shape.now) known.new }
@@ -326,7 +331,7 @@ fn copy_blocks<T: Lane>(
     requires there { (b : ℕ) → b < blocks → from + b * step + 4 ≤ length stored.now }
     requires small { from + blocks * step < 2 ^ 64 }
     requires room { to + 4 * blocks ≤ length piece.old / byte_len T.width }
-    ensures before { take to (values_in T.width piece.new) ≡ take to (values_in T.width piece.old) }
+    ensures before { StayBefore to (values_in T.width piece.old) (values_in T.width piece.new) }
     ensures rows { (b k : ℕ) → b < blocks → k < 4
         → slice_index_or (values_in T.width piece.new) (to + (4 * b + k)) (pos 0)
         ≡ slice_index_or (map T.value stored.now) (from + b * step + k) (pos 0) }
@@ -343,8 +348,8 @@ fn copy_blocks<T: Lane>(
 fn put_rest<T: Lane>(stored: &[T], from: usize, count: usize, piece: &mut [u8], to: usize)
     requires there { from + count ≤ length stored.now }
     requires room { to + count ≤ length piece.old / byte_len T.width }
-    ensures { values_in T.width piece.new ≡ take to (values_in T.width piece.old)
-        ++ (take count (drop from (map T.value stored.now)) ++ drop (to + count) (values_in T.width piece.old)) }
+    ensures { IsRunCopied count from to (map T.value stored.now)
+        (values_in T.width piece.old) (values_in T.width piece.new) }
 {
     if count == 0 {
         return;
@@ -371,6 +376,7 @@ pub(crate) struct Known {
 
 // How many values a line has. `known` becomes the line of the value with raster number `from`, of which
 // `count` are wanted.
+#[tactic(auto, using(crate::proofs::StoredLines::line_below))]
 #[inline]
 fn line_at(shape: &Shape, from: u64, count: usize, known: &mut Known) -> u64
     requires known { IsKnown (other_sizes shape.now) known.old }
@@ -380,6 +386,8 @@ fn line_at(shape: &Shape, from: u64, count: usize, known: &mut Known) -> u64
     requires whole { (count % 4 ≡ 0) ⊎ (from % line_len shape.now + count ≡ line_len shape.now) }
     ensures part { LinePart shape.now from count result
         known.new.line.first known.new.line.lines known.new.line.line }
+    ensures fits { PartFits (from % result) count result
+        known.new.line.first known.new.line.lines known.new.line.line (product shape.now) }
     ensures known { IsKnown (other_sizes shape.now) known.new }
 {
     // tells that the sizes are a shape's, so their products fit
@@ -391,6 +399,7 @@ fn line_at(shape: &Shape, from: u64, count: usize, known: &mut Known) -> u64
 
 // The line with this number. Mostly it is the one behind the line that is known, in the same layer of blocks;
 // then nothing is divided out.
+#[tactic(auto, using(crate::proofs::StoredLines::others_fit))]
 #[inline]
 fn line_after(shape: &Shape, known: &Known, number: u64) -> Known
     requires known { IsKnown (other_sizes shape.now) known.now }

@@ -1,10 +1,7 @@
 use Rattle.std.{proofs.Common.{rules}, proofs.lemmas.List.{length-map}}
 use Rattle.zf_coef.proofs.Prefixes.{each_long}
-use Rattle.zf_coef.proofs.Transposed.{group_written, digits_of_groups, below_planes}
+use Rattle.zf_coef.proofs.Transposed.{digits_of_groups, below_planes}
 use Rattle.zf_coef.proofs.digits.digits_of_planes.Goals as goal
-
-pub loop-number-preserved : goal.loop-number-preserved
-loop-number-preserved g c = search (rules, group_written)
 
 pub returns-clause-digits : goal.returns-clause-digits
 returns-clause-digits g c =

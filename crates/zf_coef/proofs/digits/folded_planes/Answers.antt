@@ -1,10 +1,7 @@
-use Rattle.std.{proofs.Common.{replicate, map, arith}, proofs.lemmas.List.{length-map}}
-use Rattle.zf_coef.{proofs.Halves.{no_word}, proofs.Folded.{no_eights, more_eights, past_eights, all_eights}}
+use Rattle.std.{proofs.Common.{map, arith}, proofs.lemmas.List.{length-map}}
+use Rattle.zf_coef.proofs.Folded.{more_eights, past_eights}
 use Rattle.zf_coef.proofs.digits.folded_planes.Goals.{then-first-planes, else-first-planes}
 use Rattle.zf_coef.proofs.digits.folded_planes.Goals as goal
-
-pub loop-eight-init : goal.loop-eight-init
-loop-eight-init g c = no_eights c.args.number c.args.from (map g.P.Plane.words c.args.planes.now) (replicate 8 0) (λ j h. no_word 8 j)
 
 pub loop-eight-preserved : goal.loop-eight-preserved
 loop-eight-preserved g c =
@@ -17,6 +14,3 @@ loop-eight-preserved g c =
       | else-first-planes w ↦
           rw w.words-is (past_eights c.args.number c.args.from eight planes c.loop-eight.words (omega (arith, length-map c.args.planes.now g.P.Plane.words, w.if-first-planes.false)) c.loop-eight.invariant)
     ]
-
-pub returns : goal.returns
-returns g c = all_eights c.args.number c.args.from c.loop-eight.eight (map g.P.Plane.words c.args.planes.now) c.loop-eight.words (omega arith) c.loop-eight.invariant

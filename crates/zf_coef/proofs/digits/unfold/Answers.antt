@@ -5,9 +5,3 @@ use Rattle.zf_coef.proofs.digits.unfold.Goals as goal
 
 pub loop-r-preserved : goal.loop-r-preserved
 loop-r-preserved g c = grind (arith, get_or-set_other, prefix_tells, low_part 32, high_part 32, length-set, get_or-set_same, low_of_high, high_of_high)
-
-pub returns-clause-lower : goal.returns-clause-lower
-returns-clause-lower g c r k h small = c.loop-r.invariant.lower r k (omega arith) small
-
-pub returns-clause-upper : goal.returns-clause-upper
-returns-clause-upper g c r k h small = c.loop-r.invariant.upper r k (omega arith) small

@@ -1,5 +1,5 @@
-use Rattle.std.{proofs.Common.{rules, map, arith}, proofs.lemmas.List.{length-map}}
-use Rattle.zf_coef.proofs.Halves.{group_of_halves, half_of_none, planes_of_first}
+use Rattle.std.{proofs.Common.{map, arith}, proofs.lemmas.List.{length-map}}
+use Rattle.zf_coef.proofs.Halves.{group_of_halves, half_of_none}
 use Rattle.zf_coef.proofs.planes.put_halves.Goals as goal
 
 pub returns-then-are_low : goal.returns-then-are_low
@@ -16,6 +16,3 @@ returns-else-number-gt0 g c =
     let mid = c.put_half.new.planes in
     let new = c.put_half-else-number-gt0.new.planes in
     group_of_halves c.args.number c.args.digits.now (map words c.args.planes.now) (map words mid) (map words new) (omega (arith, length-map mid words, length-map new words)) (omega (arith, length-map new words)) c.put_half.ensures c.put_half-else-number-gt0.ensures
-
-pub returns-else-planes-gt32 : goal.returns-else-planes-gt32
-returns-else-planes-gt32 g c = search (rules, planes_of_first, length-map)

@@ -1,5 +1,5 @@
 use Rattle.std.proofs.Common.{refl, inl, inr, arith}
-use Rattle.zf_pad.proofs.Copying.{first_within, can_gather, gathered}
+use Rattle.zf_pad.proofs.Copying.{first_within, can_gather}
 use Rattle.zf_pad.proofs.copies.gather.Goals as goal
 
 pub counted_from-from-requires : goal.counted_from-from-requires
@@ -16,12 +16,3 @@ pub copy-requires-else-d-gt1 : goal.copy-requires-else-d-gt1
 copy-requires-else-d-gt1 g c =
     rw c.places-to.ensures
     (can_gather c.args.layout.now _ c.args.e.now _ _ _ 4 c.counted_from-from.ensures.counted c.counted_from-from.ensures.step c.requires.fits (inr (refl, c.has_whole_rows.ensures.0 c.if-not-has_whole_rows.false)))
-
-pub returns-then-not-has_whole_rows : goal.returns-then-not-has_whole_rows
-returns-then-not-has_whole_rows g c = gathered _ _ c.args.e.now c.counted_from-from.ensures.counted _ _ _ (rw c.places-to.ensures at c.copy.ensures)
-
-pub returns-then-is_whole : goal.returns-then-is_whole
-returns-then-is_whole g c = gathered _ _ c.args.e.now c.counted_from-from.ensures.counted _ _ _ c.gather_whole.ensures
-
-pub returns-else-d-gt1 : goal.returns-else-d-gt1
-returns-else-d-gt1 g c = gathered _ _ c.args.e.now c.counted_from-from.ensures.counted _ _ _ (rw c.places-to.ensures at c.copy-else-d-gt1.ensures)

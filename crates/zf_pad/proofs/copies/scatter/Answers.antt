@@ -1,5 +1,5 @@
 use Rattle.std.proofs.Common.{refl, inl, inr, arith}
-use Rattle.zf_pad.proofs.Copying.{first_within, can_scatter, scattered}
+use Rattle.zf_pad.proofs.Copying.{first_within, can_scatter}
 use Rattle.zf_pad.proofs.copies.scatter.Goals as goal
 
 pub counted_from-to-requires : goal.counted_from-to-requires
@@ -13,9 +13,3 @@ copy-requires g c =
 pub copy-requires-else-has_whole_rows : goal.copy-requires-else-has_whole_rows
 copy-requires-else-has_whole_rows g c =
     rw c.places-from.ensures (can_scatter c.args.layout.now _ c.args.e.now _ _ _ 1 c.counted_from-to.ensures.counted c.counted_from-to.ensures.step c.requires.fits (inl refl) c.requires.one_to_one)
-
-pub returns-then-has_whole_rows : goal.returns-then-has_whole_rows
-returns-then-has_whole_rows g c = scattered _ _ c.args.e.now c.counted_from-to.ensures.counted _ _ _ (rw c.places-from.ensures at c.copy.ensures)
-
-pub returns-else-has_whole_rows : goal.returns-else-has_whole_rows
-returns-else-has_whole_rows g c = scattered _ _ c.args.e.now c.counted_from-to.ensures.counted _ _ _ (rw c.places-from.ensures at c.copy-else-has_whole_rows.ensures)

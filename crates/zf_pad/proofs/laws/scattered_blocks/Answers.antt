@@ -1,4 +1,4 @@
-use Rattle.zf_pad.proofs.Blocks.{scattered_block, other_block, values_from_blocks}
+use Rattle.zf_pad.proofs.Blocks.{scattered_block, other_block}
 use Rattle.zf_pad.proofs.laws.scattered_blocks.Goals as goal
 
 pub returns-clause-block : goal.returns-clause-block
@@ -6,6 +6,3 @@ returns-clause-block c = λ ns b layout e block old new h s. scattered_block ns 
 
 pub returns-clause-others : goal.returns-clause-others
 returns-clause-others c = λ ns b other layout e block old new h s lt differs. other_block ns b layout e h block old new other s lt differs
-
-pub returns-clause-all : goal.returns-clause-all
-returns-clause-all c = values_from_blocks

@@ -1,31 +1,10 @@
 use Rattle.std.proofs.Common.{◌≡◌, ℕ, ◌+◌, ◌-◌, ◌%◌, ◌≤◌, ◌⊎◌, inl, inr, ⊎_elim, map, ap, sym, arith}
 use Rattle.zf_pad.{specs.Stored.{line_len, values_in}, proofs.StoredLines.{next_first, line_end}}
-use Rattle.zf_pad.proofs.FourLines.{four_there, four_small, lines_small, four_end, four_first, four_values}
+use Rattle.zf_pad.proofs.FourLines.{four_values}
 use Rattle.zf_pad.proofs.storing.copy_next.Goals as goal
 
-pub overflow_mul-start : goal.overflow_mul-start
-overflow_mul-start g c = record { fits = omega (arith, four_small _ _ _ _ _ _ c.in-Some.ensures.four) }
-
-pub overflow_mul-start-in-Some : goal.overflow_mul-start-in-Some
-overflow_mul-start-in-Some g c = record { fits = omega (arith, four_small _ _ _ _ _ _ c.in-Some.ensures.four) }
-
-pub overflow_add-start : goal.overflow_add-start
-overflow_add-start g c = record { fits = omega (arith, four_small _ _ _ _ _ _ c.in-Some.ensures.four) }
-
-pub overflow_mul-lines : goal.overflow_mul-lines
-overflow_mul-lines g c = record { fits = omega (arith, lines_small _ _ _ _ _ _ c.in-Some.ensures.four) }
-
 pub copy_four-requires-clause-there : goal.copy_four-requires-clause-there
-copy_four-requires-clause-there g c = λ b lt. omega (arith, four_there _ _ _ _ _ _ c.in-Some.ensures.four b lt, c.requires.all)
-
-pub copy_four-requires-clause-small : goal.copy_four-requires-clause-small
-copy_four-requires-clause-small g c = omega (arith, four_small _ _ _ _ _ _ c.in-Some.ensures.four)
-
-pub returns-in-Some-clause-within : goal.returns-in-Some-clause-within
-returns-in-Some-clause-within g c = four_end _ _ _ _ _ _ c.in-Some.ensures.four
-
-pub returns-in-Some-clause-first : goal.returns-in-Some-clause-first
-returns-in-Some-clause-first g c = four_first _ _ _ _ _ _ c.in-Some.ensures.four
+copy_four-requires-clause-there g c = λ b lt. omega (arith, c.in-Some.ensures.fits.there b lt, c.requires.all)
 
 pub returns-in-Some-clause-values : goal.returns-in-Some-clause-values
 returns-in-Some-clause-values g c =

@@ -1,9 +1,6 @@
 use Rattle.std.proofs.Common.{arith}
-use Rattle.zf_pad.proofs.StoredLines.{line_below, known_here}
+use Rattle.zf_pad.proofs.StoredLines.{known_here, part_fits}
 use Rattle.zf_pad.proofs.storing.line_at.Goals as goal
-
-pub line_after-requires-clause-below : goal.line_after-requires-clause-below
-line_after-requires-clause-below c = line_below c.args.shape.now c.size-n.result c.args.from c.dims-dims.ensures.shape c.size-n.ensures c.requires.within
 
 pub returns-clause-part : goal.returns-clause-part
 returns-clause-part c = let known = c.line_after.ensures.known in record {
@@ -17,3 +14,6 @@ returns-clause-part c = let known = c.line_after.ensures.known in record {
   begins = c.requires.first;
   whole = c.requires.whole;
 }
+
+pub returns-clause-fits : goal.returns-clause-fits
+returns-clause-fits c = part_fits _ _ _ _ _ _ _ (returns-clause-part c)
