@@ -159,8 +159,8 @@ pub fn rate_bytes(h: &Header) -> u64
     8 * bits.div_ceil(64)
 }
 
-/// The length of a header, in bits.
-pub(crate) fn header_len(h: &Header) -> u32
+/// The length of a header, in bits: 96, or 148 with the long form.
+pub fn header_len(h: &Header) -> u32
     requires { IsMode h.now.mode }
     ensures { result ≡ length (header_bits h.now) }
 {

@@ -8,7 +8,7 @@ mod writing;
 
 pub use header::{
     FULL_HEADER_BYTES, Header, HeaderFault, LONG_HEADER_BITS, MAX_FILE, MAX_PRECISION, MAX_RATE,
-    Mode, mode_number, rate_bytes,
+    Mode, header_len, mode_number, rate_bytes,
 };
 pub use reading::read;
 pub use writing::write;

@@ -1,7 +1,8 @@
 //! The header that bytes begin with.
 
-ghost use Rattle.std.specs.Prelude.{◌≡◌, ◌+◌, ◌*◌, ◌^◌, ◌<◌, ◌≤◌, length, Ok, IfOk};
+ghost use Rattle.std.specs.Prelude.{◌≡◌, ◌+◌, ◌*◌, ◌^◌, ◌<◌, ◌≤◌, length, take, drop, Ok, IfOk};
 ghost use Rattle.std.specs.Result.{result_err};
+ghost use Rattle.zf_spec.specs.Numbers.{field};
 ghost use Rattle.zf_spec.specs.Stream.{to_bits};
 ghost use Rattle.zf_header.specs.declared.header.Header.{Header};
 ghost use Rattle.zf_header.specs.HeaderBits.{IsHeader, BeginsWith, header_bits};
@@ -153,19 +154,29 @@ fn long_rate(bytes: &[u8]) -> Result<Mode, HeaderFault>
     Ok(Mode::Rate(rate))
 }
 
-// The number in the `n` bits from bit `at` on, the least significant first.
+// The number in the `n` bits from bit `at` on, the least significant first. They lie in one word: that from
+// the byte of the first bit on, or the last of all.
+#[inline]
 fn number_at(bytes: &[u8], at: u32, n: u32) -> u64
-    requires width { n ≤ 64 }
+    requires some { 0 < n }
+    requires width { n ≤ 48 }
     requires near { at ≤ LONG_HEADER_BITS }
+    requires enough { 8 ≤ length bytes.now }
     requires within { at + n ≤ 8 * length bytes.now }
     ensures value { result ≡ number_at at n (to_bits bytes.now) }
     ensures bound { result < 2 ^ n }
 {
-    let mut number = 0;
-    for i in 0..n {
-        let place = at + i;
-        let byte = bytes[place as usize / 8];
-        number += u64::from((byte >> (place % 8)) % 2) << i;
-    }
-    number
+    let first = (at as usize / 8).min(bytes.len() - 8);
+    let shift = at - 8 * first as u32;
+    (word_at(bytes, first) >> shift) % (1 << n)
+}
+
+// The word of 8 bytes from a place on.
+#[inline]
+fn word_at(bytes: &[u8], first: usize) -> u64
+    requires { first + 8 ≤ length bytes.now }
+    ensures { field 64 result ≡ take 64 (drop (8 * first) (to_bits bytes.now)) }
+{
+    let b = &bytes[first..first + 8];
+    u64::from_le_bytes([b[0], b[1], b[2], b[3], b[4], b[5], b[6], b[7]])
 }

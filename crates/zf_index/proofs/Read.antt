@@ -6,8 +6,9 @@ use Rattle.zf_spec.{specs.Grid.{count_from, upto, grid, blocks, extent_of}, spec
 use Rattle.zf_spec.proofs.Counting.{from_places}
 use Rattle.zf_base.{specs.Widths.{width_of}, specs.Positions.{with_unused}, proofs.Sizes.{grid_of_shape}}
 use Rattle.zf_bits.specs.Reader.{Reader, rest}
-use Rattle.zf_header.{specs.declared.header.Header.{Header}, specs.HeaderBits.{IsHeader}, proofs.Good.{good}}
-use Rattle.zf_header.proofs.Found.{read_is_header}
+use Rattle.zf_header.{specs.declared.header.Header.{Header}, proofs.Good.{good}}
+use Rattle.zf_header.specs.HeaderBits.{IsHeader, BeginsWith, header_bits}
+use Rattle.zf_header.proofs.Found.{read_is_spelled, read_is_header, begins_within}
 use Rattle.zf_parse.{specs.declared.fault.StreamFault.{StreamFault}, proofs.Parsed.{parse_behind}}
 use Rattle.zf_parse.specs.Parsing.{read_code, coded_blocks, read_codes, Said, said_behind, parse, values_of_blocks, fill_answer, longest_code}
 use Rattle.zf_parse.proofs.Steps.{Coded, blocks_in, codes_answer, with_coded, next_coded, by_coded, behind_err}
@@ -116,6 +117,11 @@ one_more h s start xs n read last b lt =
 module _ (bytes : List ℕ) (h : Header) (has : HasHeader bytes h) where
   pub is_header : IsHeader h
   is_header = subst IsHeader (sym has.header) (read_is_header bytes (good bytes (sym has.good)))
+
+  pub begun : (bits : ℕ) → bits ≡ length (header_bits h) → BeginsWithHeader bytes h bits
+  begun bits is =
+      let begins = subst (BeginsWith bytes) (sym has.header) (read_is_spelled bytes (good bytes (sym has.good))) in
+      record { good = has.good; header = has.header; bits_is = is; within = omega (arith, is, begins_within bytes h begins) }
 
 module _ (bytes : List ℕ) (h : Header) (start : ℕ) (begun : BeginsWithHeader bytes h start) where
   pub has_header : HasHeader bytes h

@@ -11,7 +11,7 @@ use crate::walk::{check_rate, code_lengths};
 use crate::{IndexFault, Span};
 use std::alloc::{AllocError, Global};
 use std::marker::Model;
-use zf_header::{Header, Mode};
+use zf_header::{Header, Mode, header_len};
 
 /// The spans of the codes of a stream. At a fixed rate each code has as many bits, and its place is computed;
 /// else there are a place for each `STEP` blocks and a length of 16 bits for each block.
@@ -54,33 +54,28 @@ impl<const STEP: usize> Spans<STEP> {
     /// that ends too early; b is the number of blocks where only fill bits are missing. `Pad`: a bit of the
     /// fill is one. `Trailing`: a byte follows the fill. The first that holds, in this order; or `Memory`:
     /// there was no memory.
+    #[tactic(auto, using(crate::proofs::Read::begun))]
     pub fn build(alloc: Global, h: &Header, file: &[u8]) -> Result<Self, IndexFault>
         requires header { HasHeader file.now h.now }
         requires step { 0 < STEP }
         ensures ok { IfOk result (IsIndexOf file.now h.now) }
         ensures fault { IfErr result (λ e. IsFault (parse file.now) (stream_fault e)) }
     {
-        let start = header_len(h, file);
+        let start = u64::from(header_len(h));
         match h.mode {
-            Mode::Rate(bits) => Spans::even(alloc, h, bits, file, start),
+            Mode::Rate(bits) => Spans::even(h, bits, file, start),
             _ => Spans::listed(alloc, h, file, start),
         }
     }
 
     // The index at a fixed rate, where the header has `start` bits. No code is looked at.
-    fn even(
-        alloc: Global,
-        h: &Header,
-        rate: u32,
-        file: &[u8],
-        start: u64,
-    ) -> Result<Self, IndexFault>
+    fn even(h: &Header, rate: u32, file: &[u8], start: u64) -> Result<Self, IndexFault>
         requires begun { BeginsWithHeader file.now h.now start }
         requires rate { h.now.mode ≡ Mode.Rate rate }
         ensures ok { IfOk result (IsIndexOf file.now h.now) }
         ensures fault { IfErr result (λ e. IsFault (parse file.now) (stream_fault e)) }
     {
-        check_rate(alloc, h, rate, file, start)?;
+        check_rate(h, rate, file, start)?;
         Ok(Spans {
             kept: Kept::Even {
                 start,
@@ -134,17 +129,6 @@ fn listed_span(places: &[u64], lens: &[u16], step: usize, b: usize) -> Span
         at,
         len: u64::from(lens[b]),
     }
-}
-
-// The length of the header that a file begins with, in bits.
-fn header_len(h: &Header, file: &[u8]) -> u64
-    requires { HasHeader file.now h.now }
-    ensures { BeginsWithHeader file.now h.now result }
-{
-    let Ok((_, bits)) = zf_header::read(file) else {
-        unreachable!()
-    };
-    u64::from(bits)
 }
 
 // Where the first of each `step` codes of these lengths begins.

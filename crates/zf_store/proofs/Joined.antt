@@ -1,13 +1,12 @@
 -- The words of two runs of bits end to end, and their bytes.
-use Rattle.std.proofs.Common.{◌≡◌, refl, sym, ap, ◌∙◌, ◌⊎◌, inl, inr, ℕ, zero, suc, ◌+◌, ◌-◌, ◌*◌, ◌/◌, ◌^◌, ◌<◌, ◌≤◌, min, Bool, false, List, [], ◌∷◌, ◌++◌, length, get_or, take, drop, replicate, append_assoc, append-nil, length-append, length-drop, arith, rules}
-use Rattle.std.{specs.Int.{w64, to_le_bytes, from_le_bytes, div_ceil}, proofs.lemmas.Bool.{cases_lt}}
+use Rattle.std.proofs.Common.{◌≡◌, refl, sym, ap, ◌∙◌, ℕ, zero, suc, ◌+◌, ◌-◌, ◌*◌, ◌/◌, ◌^◌, ◌<◌, ◌≤◌, min, Bool, false, List, [], ◌∷◌, ◌++◌, length, get_or, take, drop, replicate, append_assoc, append-nil, length-append, length-drop, arith, rules}
+use Rattle.std.{specs.Int.{w64, to_le_bytes, div_ceil}, proofs.lemmas.Bool.{cases_lt}}
 use Rattle.std.proofs.Math.Seq.{drop-append-add, take-append-add}
-use Rattle.std.proofs.lemmas.List.{length-take-le, length-take, length-replicate, take-take, take_at, take_all, take-append-le, drop-take, drop-drop, drop_all, drop-append-le, take-replicate, get_or-take, get_or-drop, get_or_past}
-use Rattle.zf_spec.{specs.Numbers.{field, number, word_bits}, proofs.Bytes.{first_bytes-all}}
-use Rattle.zf_spec.specs.Stream.{bytes_from, to_bytes, to_bits, with_fill, fill_len, first_bytes}
+use Rattle.std.proofs.lemmas.List.{length-take-le, length-replicate, take-take, take_at, take_all, take-append-le, drop-take, drop-drop, drop_all, drop-append-le, take-replicate}
+use Rattle.zf_spec.specs.Numbers.{field, number, word_bits}
+use Rattle.zf_spec.specs.Stream.{bytes_from, to_bytes, to_bits, with_fill, fill_len}
 use Rattle.zf_spec.proofs.Fields.{length-field}
-use Rattle.zf_bits.{specs.Packing.{word_of}, proofs.Fields.{take-field}}
-use Rattle.zf_bits.{proofs.Packed.{bytes-words, field-word_of}, proofs.Words.{take-words, drop-words}}
+use Rattle.zf_bits.{proofs.Fields.{take-field}, proofs.Packed.{bytes-words}}
 use Rattle.zf_store.proofs.Runs.{field_of_number}
 
 -- ---- bits continued with zeros
@@ -107,20 +106,6 @@ bytes_more bs i j x now new within small is_j held is_x is_now is_new =
 
 pub bytes_all : (bs : List Bool) (i : ℕ) (out : List ℕ) → length out ≡ 8 * div_ceil (length bs) 64 → length out ≤ 8 * i → i ≤ length out / 8 → take (8 * i) out ≡ bytes_from (8 * i) (with_fill bs) → out ≡ to_bytes (with_fill bs)
 bytes_all bs i out size all last is = search (rules, length-append, length-replicate, take_all)
-
--- the word of 8 bytes
-pub word_of_bytes : (bytes : List ℕ) (at : ℕ) → at + 8 ≤ length bytes → ((i : ℕ) → get_or bytes i 0 < 256) → field 64 (from_le_bytes w64 (take 8 (drop at bytes))) ≡ take 64 (drop (8 * at) (to_bits bytes))
-unfolding word_of
-word_of_bytes bytes at within small =
-    let piece = take 8 (drop at bytes) in
-    let long : length piece ≡ 8 = length-take-le 8 (drop at bytes) (omega (arith, length-drop at bytes)) in
-    let same : first_bytes 8 piece ≡ piece = ap (λ k. first_bytes k piece) (sym long) ∙ first_bytes-all piece in
-    sym (ap (λ (bs : List ℕ). field 64 (from_le_bytes w64 bs)) same) ∙ field-word_of piece (λ i. by i (cases_lt i 8)) ∙ ap to_bits same
-    ∙ sym (take-words 8 8 (drop at bytes)) ∙ ap (take 64) (sym (drop-words 8 at bytes))
-  where
-    by : (i : ℕ) → (i < 8) ⊎ (8 ≤ i) → get_or (take 8 (drop at bytes)) i 0 < 256
-    by i (inl h) = rw (get_or-take 8 (drop at bytes) i 0 h, get_or-drop at bytes i 0) (small (at + i))
-    by i (inr h) = rw (get_or_past (take 8 (drop at bytes)) i 0 (omega (arith, length-take 8 (drop at bytes)))) (omega arith)
 
 -- the last bits of a word before the end of whole words are the fill
 pub fill_of_word : (bytes : List ℕ) (used whole fill word x : ℕ) → whole ≡ 8 * div_ceil used 64 → 8 ≤ whole → whole ≤ length bytes → fill ≡ 8 * whole - used

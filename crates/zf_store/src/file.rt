@@ -17,7 +17,7 @@ use crate::StoreFault;
 use crate::words::{joined_word, move_to_front};
 use std::alloc::{AllocError, Global};
 use zf_bits::{get_bits, words_of_bytes};
-use zf_header::{Header, Mode, rate_bytes};
+use zf_header::{Header, Mode, header_len, rate_bytes};
 
 /// The bits of each block.
 pub(crate) fn rate(h: &Header) -> u32
@@ -81,21 +81,8 @@ fn cut_block(h: &Header, file: &[u8]) -> u64
     requires short { length file.now < rate_bytes_of h.now }
     ensures { parse file.now ≡ Err (stream.Truncated result) }
 {
-    let behind = 8 * file.len() as u64 - header_len(h, file);
+    let behind = 8 * file.len() as u64 - u64::from(header_len(h));
     (behind / u64::from(rate(h))).min(h.shape.blocks())
-}
-
-// The length of the header that a file begins with, in bits.
-fn header_len(h: &Header, file: &[u8]) -> u64
-    requires { HasHeader file.now h.now }
-    ensures value { result ≡ length (header_bits h.now) }
-    ensures within { result ≤ 8 * length file.now }
-    ensures least { 96 ≤ result }
-{
-    let Ok((_, bits)) = zf_header::read(file) else {
-        unreachable!()
-    };
-    u64::from(bits)
 }
 
 // Whether a bit of the fill is one.
@@ -106,7 +93,7 @@ fn has_one_in_fill(h: &Header, file: &[u8]) -> bool
         number (take (fill_len used) (drop used (to_bits file.now))) ≢ 0) }
 {
     let whole = rate_bytes(h);
-    let fill = 8 * whole - header_len(h, file) - code_bits(h);
+    let fill = 8 * whole - u64::from(header_len(h)) - code_bits(h);
     let last = [word_before(file, whole as usize)];
     get_bits(&last, 64 - fill, fill as u32) != 0
 }
@@ -133,7 +120,7 @@ pub(crate) fn words_of_file(alloc: Global, h: &Header, file: &[u8]) -> Result<Ve
 {
     let mut words = words_of_bytes(alloc, file)?;
     let len = code_bits(h);
-    move_to_front(&mut words, header_len(h, file), len);
+    move_to_front(&mut words, u64::from(header_len(h)), len);
     words.truncate(len.div_ceil(64) as usize);
     Ok(words)
 }

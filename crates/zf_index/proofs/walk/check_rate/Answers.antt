@@ -1,9 +1,13 @@
-use Rattle.std.proofs.Common.{◌≡◌, refl, sym, ap, subst, ◌∙◌, inl, ℕ, ◌+◌, ◌-◌, ◌*◌, ◌/◌, ◌%◌, ◌^◌, ◌<◌, ◌≤◌, Err, List, length, take, drop, length-drop, arith, rules}
+use Rattle.std.proofs.Common.{◌≡◌, refl, sym, ap, subst, ◌∙◌, inl, ℕ, ◌+◌, ◌-◌, ◌*◌, ◌/◌, ◌%◌, ◌^◌, ◌<◌, ◌≤◌, Bool, Err, List, length, take, drop, length-drop, arith}
 use Rattle.std.proofs.Math.Nat.{div-lt_iff_lt-mul, le-div_iff_mul-le}
+use Rattle.std.proofs.lemmas.List.{length-take-le}
 use Rattle.std.proofs.lemmas.Result.{IfOk-weaker, IfErr-weaker}
-use Rattle.zf_spec.{specs.Grid.{blocks}, specs.Stream.{to_bits}, proofs.Bytes.{length-to_bits}}
+use Rattle.zf_spec.{specs.Grid.{blocks}, specs.Numbers.{word_bits}, specs.Stream.{to_bits}}
+use Rattle.zf_spec.{proofs.Bytes.{length-to_bits}, proofs.WordBits.{length-word_bits}}
 use Rattle.zf_bits.specs.Reader.{Reader, rest}
 use Rattle.zf_header.{specs.declared.header.Header.{Header}, specs.HeaderBits.{IsMode}}
+use Rattle.zf_header.specs.declared.header.Mode.TheVariants.{Rate}
+use Rattle.zf_parse.specs.ReadStreams.{BeginsWithHeader}
 use Rattle.zf_parse.specs.declared.fault.StreamFault.TheVariants as faults
 use Rattle.zf_parse.{proofs.Steps.{codes_answer, behind_err}, proofs.RateStreams.{read_codes-cut}}
 use Rattle.zf_index.{specs.declared.fault.IndexFault.TheVariants.{Truncated}, specs.Spans.{even_index}}
@@ -29,30 +33,25 @@ returns-then-whole-blocks-clause-fault c =
     fault_is file h start c.requires.begun all (Truncated whole) refl refl
     (inl (behind_err h (length s) left (faults.Truncated whole) (ap (codes_answer h (length s)) (read_codes-cut h rate 0 (blocks h.shape) left c.requires.rate some cut ∙ ap (λ (k : ℕ). Err k) first))))
 
--- what stands behind the codes, which are all there
-record Behind (file : List ℕ) (h : Header) (rate start : ℕ) (r : Reader) : Type 0 where
-  enough : start + blocks h.shape * rate ≤ length (to_bits file)
-  end : ℕ
-  most : ℕ
-  end_is : end ≡ start + blocks h.shape * rate
-  at : r.at ≡ end % 64
-  seen : rest r ≡ take most (drop end (to_bits file))
-  many : 64 ≤ most
+pub seek-requires : goal.seek-requires
+seek-requires c =
+    let end = c.put_end-bits in
+    let words = end.new.words in
+    let held = length-take-le end.result (word_bits words) (omega (arith, length-word_bits words, end.ensures.within, end.ensures.two)) in
+    omega (arith, ap (λ (r : Reader). length r.all) c.new-reader.ensures, held, end.ensures.place)
 
-behind : (c : goal.After-drop-excerpt-inside) → Behind c.args.file.now c.args.h.now c.args.rate c.args.start c.reader.result
-behind c =
-    let file = c.args.file.now in
-    let h = c.args.h.now in
-    let s = to_bits file in
-    let start = c.args.start in
-    let rate = c.args.rate in
-    let some : 1 ≤ rate = (subst IsMode c.requires.rate (is_header file h (has_header file h start c.requires.begun)).mode).0 in
-    let n = blocks h.shape in
-    let left : length (drop start s) ≡ c.in-Some.bits - start = omega (arith, length-drop start s, length-to_bits file, c.in-Some.ensures) in
-    let whole : n ≤ length (drop start s) / rate =
-    omega (arith, c.if-whole-blocks.false, c.blocks-2.ensures.value, ap (λ k. k / rate) left, ap (λ k. (c.in-Some.bits - start) / k) c.from-rate.ensures) in
-    let codes : n * rate ≤ length (drop start s) = (le-div_iff_mul-le some).0 whole in
-    let last = start + c.blocks-3.result * c.from-rate.result in search (rules, length-drop)
+-- all codes are there
+enough : (file : List ℕ) (h : Header) (rate start bits : ℕ) → BeginsWithHeader file h start → h.mode ≡ Rate rate → bits ≡ 8 * length file → blocks h.shape ≤ (bits - start) / rate
+    → start + blocks h.shape * rate ≤ length (to_bits file)
+enough file h rate start bits begun is all whole =
+    let some : 1 ≤ rate = (subst IsMode is (is_header file h (has_header file h start begun)).mode).0 in
+    let codes : blocks h.shape * rate ≤ bits - start = (le-div_iff_mul-le some).0 whole in
+    omega (arith, length-to_bits file, begun.within)
+
+-- a reader that went to a place sees what stands there
+seen_at : (first now : Reader) (bits held : List Bool) (at : ℕ) → first ≡ record { all = held; at = 0 } → now ≡ record first { at = at } → drop at held ≡ bits
+    → (now.at ≡ at) × (rest now ≡ bits)
+seen_at first now bits held at is_first is_now is = (ap (λ (r : Reader). r.at) is_now, ap rest is_now ∙ ap (λ (r : Reader). drop at r.all) is_first ∙ is)
 
 pub returns-clause-ok : goal.returns-clause-ok
 returns-clause-ok c =
@@ -60,12 +59,19 @@ returns-clause-ok c =
     let h = c.args.h.now in
     let start = c.args.start in
     let rate = c.args.rate in
+    let s = to_bits file in
     let i = even_index start rate (blocks h.shape) in
-    let few : length (to_bits file) < 2 ^ 64 = omega (arith, length-to_bits file, c.in-Some.ensures) in
-    let b = behind c in
+    let few : length s < 2 ^ 64 = omega (arith, length-to_bits file, c.in-Some.ensures) in
+    let end = start + c.blocks-3.result * c.from-rate.result in
+    let end_is : end ≡ start + blocks h.shape * rate =
+    ap (λ k. start + k * c.from-rate.result) c.blocks-3.ensures.value ∙ ap (λ k. start + blocks h.shape * k) c.from-rate.ensures in
+    let whole : blocks h.shape ≤ (c.in-Some.bits - start) / rate =
+    omega (arith, c.if-whole-blocks.false, c.blocks-2.ensures.value, ap (λ k. (c.in-Some.bits - start) / k) c.from-rate.ensures) in
+    let all = enough file h rate start c.in-Some.bits c.requires.begun c.requires.rate (omega (arith, c.in-Some.ensures)) whole in
+    let there = seen_at c.new-reader.result c.seek.new.self (take (128 - end % 64) (drop end s)) (take c.put_end-bits.result (word_bits c.put_end-bits.new.words)) (end % 64) c.new-reader.ensures c.seek.ensures c.put_end-bits.ensures.seen in
     IfOk-weaker c.check_fill.result _ (λ _. IsIndexOf file h i)
     (λ u good. index_is file h start c.requires.begun i.lens few
-    (even_walked h rate start (to_bits file) c.requires.rate b.enough c.reader.result b.end b.most b.end_is b.at b.seen b.many good))
+    (even_walked h rate start s c.requires.rate all c.seek.new.self end (128 - end % 64) end_is there.0 there.1 (omega arith) good))
     c.check_fill.ensures.ok
 
 pub returns-clause-fault : goal.returns-clause-fault
@@ -73,8 +79,16 @@ returns-clause-fault c =
     let file = c.args.file.now in
     let h = c.args.h.now in
     let start = c.args.start in
-    let b = behind c in
+    let rate = c.args.rate in
+    let s = to_bits file in
+    let end = start + c.blocks-3.result * c.from-rate.result in
+    let end_is : end ≡ start + blocks h.shape * rate =
+    ap (λ k. start + k * c.from-rate.result) c.blocks-3.ensures.value ∙ ap (λ k. start + blocks h.shape * k) c.from-rate.ensures in
+    let whole : blocks h.shape ≤ (c.in-Some.bits - start) / rate =
+    omega (arith, c.if-whole-blocks.false, c.blocks-2.ensures.value, ap (λ k. (c.in-Some.bits - start) / k) c.from-rate.ensures) in
+    let all = enough file h rate start c.in-Some.bits c.requires.begun c.requires.rate (omega (arith, c.in-Some.ensures)) whole in
+    let there = seen_at c.new-reader.result c.seek.new.self (take (128 - end % 64) (drop end s)) (take c.put_end-bits.result (word_bits c.put_end-bits.new.words)) (end % 64) c.new-reader.ensures c.seek.ensures c.put_end-bits.ensures.seen in
     IfErr-weaker c.check_fill.result _ _
-    (λ e bad. fault_is file h start c.requires.begun (record { all = to_bits file; at = start }) e refl refl
-    (inl (even_fault h c.args.rate start (to_bits file) c.requires.rate b.enough c.reader.result b.end b.most b.end_is b.at b.seen b.many (stream_fault e) bad)))
+    (λ e bad. fault_is file h start c.requires.begun (record { all = s; at = start }) e refl refl
+    (inl (even_fault h rate start s c.requires.rate all c.seek.new.self end (128 - end % 64) end_is there.0 there.1 (omega arith) (stream_fault e) bad)))
     c.check_fill.ensures.err

@@ -1,5 +1,5 @@
 use Rattle.std.proofs.Common.{◌≡◌, ◌-◌, arith}
-use Rattle.zf_store.proofs.Joined.{word_of_bytes}
+use Rattle.zf_header.proofs.Bits.{word_of_bytes}
 use Rattle.zf_store.proofs.file.word_before.Goals as goal
 
 pub returns : goal.returns
