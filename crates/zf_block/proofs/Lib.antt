@@ -7,6 +7,8 @@
 --     ZeroPlanes  planes of zeros: their code, what is read as such, and the block that they stand for
 --     FirstAlone  planes in which the first rank alone has ones: their code, what is read as such, and their digits
 --     AfterReserve   room that was asked for before
+--     PartsPassed  the parts of a code that bits begin with: how many bits they have, and how far the ones reach
+--     PlanesPassed planes whose codes are passed one behind another
 --     Answered    what follows of an answer that may be nothing
 --     Decoded     what comes of reading a code
 --     ReadCodes   what reading a code is, from what was read of it
@@ -21,6 +23,8 @@ pub mod Zeros
 pub mod ZeroPlanes
 pub mod FirstAlone
 pub mod AfterReserve
+pub mod PartsPassed
+pub mod PlanesPassed
 pub mod Answered
 pub mod Decoded
 pub mod ReadCodes

@@ -16,6 +16,7 @@ use Rattle.zf_spec.{proofs.Counting.{length-upto, get_or-upto}, specs.Codes.{pla
 use Rattle.zf_spec.{specs.Kept.{kept_planes}, specs.Padding.{pad}, specs.Lift.{lift}}
 use Rattle.zf_block.specs.WholePlanes.{planes_from, whole_from, rate_whole_from}
 use Rattle.zf_block.proofs.Kept.{length-kept_planes, kept_planes-top}
+use Rattle.zf_block.proofs.PlanesPassed.{take-planes_in_from}
 
 -- ---- the least plane from which on the codes fit a budget
 
@@ -137,3 +138,34 @@ planes_kept_from w budget es block k from =
     let whole : whole_from (length s) (planes_in (bits w) (4 ^ d) s) ≡ whole_from budget (planes_in (length ps) (4 ^ d) s) =
     search (rules, length-first_bits, length-planes) in
     kept_from (4 ^ d) budget ps (planes-length w d c) k (omega (arith, whole, from))
+
+-- ---- how many of the planes above one have their codes among the bits
+
+module _ (w : Width) (d least m : ℕ) (s : List Bool) (within : least ≤ bits w) (most : m ≤ bits w - least) where
+  top_whole : (k : ℕ) → k ≤ bits w - least → take k (planes_in (bits w - least) (4 ^ d) s) ≡ take k (planes_in (bits w) (4 ^ d) s)
+  top_whole k low = take-planes_in_from k (bits w - least) (bits w) (4 ^ d) 0 s low (omega (arith, low))
+
+  -- says which is the least plane, or that it is no greater than that one
+  pub whole_from-above : length (code (take m (planes_in (bits w - least) (4 ^ d) s))) ≤ length s
+      → (m < bits w - least → length s < length (code (take (m + 1) (planes_in (bits w - least) (4 ^ d) s)))) → bits w - m ≡ max least (rate_whole_from w d s)
+  unfolding rate_whole_from planes_from
+  whole_from-above fits no_more =
+      let ps = planes_in (bits w) (4 ^ d) s in
+      let k = whole_from (length s) ps in
+      let count = length-planes_in (bits w) (4 ^ d) s in
+      let top : length ps - (bits w - m) ≡ m = omega (arith, count, most) in
+      let own_fits : length (code (take m ps)) ≤ length s = rw (top_whole m most) at fits in
+      ⊎_elim
+      (λ (below : m < bits w - least).
+      let one_more : length s < length (code (take (m + 1) ps)) = rw (top_whole (m + 1) (omega (arith, below))) at (no_more below) in
+      let is = whole_from-only (length s) ps (bits w - m) (omega (arith, count)) (rw top own_fits)
+      (λ j less. omega (arith, one_more, length-code_take-le ps (m + 1) (length ps - j) (omega (arith, less, count, most)))) in
+      omega (arith, is, below))
+      (λ (all : bits w - least ≤ m).
+      ⊎_elim
+      (λ (more : least < k).
+      let same : length ps - least ≡ m = omega (arith, count, all, most) in
+      absurd (omega (arith, rw same at (whole_from-least (length s) ps least more), own_fits)))
+      (λ (no_more : k ≤ least). omega (arith, all, most, within))
+      (cases_lt least k))
+      (cases_lt m (bits w - least))

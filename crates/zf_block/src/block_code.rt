@@ -77,7 +77,6 @@ pub(crate) trait BlockCode<T: Lane> {
 
     /// Appends the code of the planes that these digits have, by way of planes that it makes. Digits and
     /// planes become anything.
-    #[inline(always)]
     fn write_digits<P: Plane>(
         &self,
         size: usize,
@@ -88,11 +87,7 @@ pub(crate) trait BlockCode<T: Lane> {
         requires room { IsWorkRoom size P.word_count T.WIDTH digits.old planes.old }
         requires fits { longest self.now size ≤ out.old.room }
         ensures { Appends out.old out.new
-            (code_of self.now (planes_of T.WIDTH (digits_in T.WIDTH digits.old))) }
-    {
-        zf_coef::planes_of_digits(digits, planes);
-        self.write(size, digits, planes, out);
-    }
+            (code_of self.now (planes_of T.WIDTH (digits_in T.WIDTH digits.old))) };
 
     /// Reads the code of planes into planes of zeros, or answers `None` where the bits end before it does.
     /// The planes below those that it has stay zero.

@@ -3,12 +3,14 @@
 //! a fixed rate has whole.
 #![tactic(auto)]
 
+mod ahead;
 mod block_code;
 mod codec;
 mod coefficients;
 mod dims;
 mod first_code;
 pub mod laws;
+mod passing;
 mod precision;
 mod rate;
 mod reversible;
@@ -25,4 +27,4 @@ pub use precision::{
 pub use rate::{decode_rate, encode_rate, encode_rate_padded, pass_rate_zeros, rate_len_of_zeros};
 pub use reversible::{decode_rev, encode_rev, encode_rev_padded, pass_rev_zeros, rev_len_of_zeros};
 pub use scratch::Scratch;
-pub use whole::whole_planes;
+pub use whole::{plane_from, whole_planes};

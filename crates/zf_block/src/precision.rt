@@ -166,6 +166,17 @@ impl<T: Lane> BlockCode<T> for Precision {
         write_uncut(zeros, prec, size, planes, out);
     }
 
+    fn write_digits<P: Plane>(
+        &self,
+        size: usize,
+        digits: &mut [u64],
+        planes: &mut [P],
+        out: &mut BitWriter,
+    ) {
+        zf_coef::planes_of_digits(digits, planes);
+        BlockCode::<T>::write(self, size, digits, planes, out);
+    }
+
     fn read<P: Plane>(
         &self,
         size: usize,

@@ -131,10 +131,12 @@ impl<T: Lane> BlockCode<T> for Reversible {
 
     ghost zeros_next = { λ self s. ZerosNext (count_bits T.width + 1) (count_bits T.width + 1) s };
 
+    #[inline(always)]
     fn forward(d: u8, block: &mut [T]) {
         zf_lorenzo::forward(d, block);
     }
 
+    #[inline(always)]
     fn inverse(d: u8, block: &mut [T]) {
         zf_lorenzo::inverse(d, block);
     }
@@ -152,6 +154,18 @@ impl<T: Lane> BlockCode<T> for Reversible {
         let prec = write_count::<T>(digits, out);
         let zeros = zeros_above::<T>(prec, digits);
         write_uncut(zeros, prec, size, planes, out);
+    }
+
+    #[inline(always)]
+    fn write_digits<P: Plane>(
+        &self,
+        size: usize,
+        digits: &mut [u64],
+        planes: &mut [P],
+        out: &mut BitWriter,
+    ) {
+        zf_coef::planes_of_digits(digits, planes);
+        BlockCode::<T>::write(self, size, digits, planes, out);
     }
 
     fn read<P: Plane>(

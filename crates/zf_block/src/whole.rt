@@ -1,12 +1,14 @@
 //! How far down the code of a block at a fixed rate has its planes whole.
 
-ghost use Rattle.std.specs.Prelude.{◌≡◌, ◌≤◌, ◌*◌, ◌^◌, length, take};
+ghost use Rattle.std.specs.Prelude.{◌≡◌, ◌≤◌, ◌*◌, ◌^◌, max, length, take};
 ghost use Rattle.zf_spec.specs.ReadPlanes.{planes_in};
 ghost use Rattle.zf_bits.specs.Reader.{rest, Reads};
 ghost use Rattle.zf_block.specs.Held.{IsHeldSize};
 ghost use Rattle.zf_block.specs.WholePlanes.{whole_from, rate_whole_from};
 
+use crate::ahead::Ahead;
 use crate::block_code::BlockCode;
+use crate::passing::planes_there;
 use crate::rate::Rate;
 use crate::{Dims, Scratch};
 use zf_base::{Lane, block_len};
@@ -34,6 +36,19 @@ pub fn whole_planes<T: Lane>(
     } else {
         whole_planes_in::<T, [u64; 4]>(size, bits, reader, &mut s.wide_planes)
     }
+}
+
+/// The greater of `least` and the plane that [`whole_planes`] finds of the next `bits` bits. It needs no
+/// room, and is quicker: no value is read, and no plane below `least` is looked at.
+pub fn plane_from<T: Lane>(d: Dims, least: u32, bits: u32, reader: &BitReader<'_>) -> u32
+    requires least { least ≤ T.WIDTH }
+    requires enough { bits ≤ length (rest reader.now) }
+    ensures plane { result ≡ max least (rate_whole_from T.width d.count (take bits (rest reader.now))) }
+    ensures bound { result ≤ T.WIDTH }
+{
+    let width = T::WIDTH;
+    let mut ahead = Ahead::new(u64::from(bits), reader);
+    width - planes_there(width - least, block_len(d.count), &mut ahead)
 }
 
 /// Finds it by way of these planes.

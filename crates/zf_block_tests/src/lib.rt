@@ -9,6 +9,8 @@ mod planes;
 #[cfg(test)]
 mod planes_of_four;
 #[cfg(test)]
+mod rows;
+#[cfg(test)]
 mod support;
 #[cfg(test)]
 mod zeros;

@@ -1,18 +1,29 @@
 -- A code among bits, and the plane of the codes of an index.
-use Rattle.std.proofs.Common.{◌≡◌, ap, ◌∙◌, ℕ, ◌+◌, ◌≤◌, max, Bool, List, [], ◌∷◌, ◌++◌, map, length, take, drop, take-take, arith, rules}
-use Rattle.std.{specs.Int.{Width}, proofs.lemmas.List.{length-take, length-drop, map-append}}
+use Rattle.std.proofs.Common.{◌≡◌, sym, ap, ◌∙◌, ℕ, ◌+◌, ◌-◌, ◌≤◌, min, max, Bool, List, [], ◌∷◌, ◌++◌, map, length, take, drop, take-take, drop-drop, arith, rules}
+use Rattle.std.{specs.Int.{Width}, proofs.lemmas.List.{length-take, take_min, drop-take, map-append}}
 use Rattle.zf_spec.{specs.Grid.{upto}, proofs.Counting.{count_from-add}}
-use Rattle.zf_bits.specs.Reader.{Reader, rest}
 use Rattle.zf_block.specs.WholePlanes.{rate_whole_from}
-use Rattle.zf_bound.specs.Bounds.{plane_of}
+use Rattle.zf_bound.specs.{Bounds.{plane_of}, Spans.{AreFrom}}
 
--- ---- a code that is read from the bits of its file, of which there are at least as many
-module _ (bits : List Bool) (at len most : ℕ) (r : Reader) (left : rest r ≡ take most (drop at bits)) (inside : at + len ≤ length bits) (fits : len ≤ most) where
-  pub code_enough : len ≤ length (rest r)
-  code_enough = omega (arith, ap length left, length-take most (drop at bits), length-drop at bits)
+-- ---- bits of a file from a place on
 
-  pub code_is : take len (rest r) ≡ take len (drop at bits)
-  code_is = ap (take len) left ∙ take-take len most (drop at bits) fits
+-- as many as there is room for
+pub are_from : (from most : ℕ) (file bits : List Bool) → bits ≡ take most (drop from file) → AreFrom from file bits
+are_from from most file bits e =
+    let s = drop from file in
+    let count : length bits ≡ min most (length s) = ap length e ∙ length-take most s in
+    e ∙ sym (ap (λ n. take n s) count ∙ take_min most s)
+
+-- a code among them
+module _ (file bits : List Bool) (from at len : ℕ) (are : AreFrom from file bits) (behind : from ≤ at) (there : at - from + len ≤ length bits) where
+  pub code_is : take len (drop (at - from) bits) ≡ take len (drop at file)
+  code_is =
+      let n = at - from in
+      let s = drop from file in
+      let parts : n + (length bits - n) ≡ length bits = omega (arith, there) in
+      let place : from + n ≡ at = omega (arith, behind) in
+      ap (λ (bs : List Bool). take len (drop n bs)) (are ∙ ap (λ k. take k s) (sym parts)) ∙ ap (take len) (drop-take n (length bits - n) s) ∙ take-take len (length bits - n) (drop n s) (omega (arith, there))
+      ∙ ap (take len) (drop-drop n from file ∙ ap (λ k. drop k file) place)
 
 -- ---- the greatest plane over codes
 

@@ -5,10 +5,10 @@ use mir.Val.{bits}
 use Rattle.zf_spec.{specs.Grid.{IsShape, extent_of}, specs.Codes.{read_rate}, specs.Stream.{to_bits}}
 use Rattle.zf_spec.{proofs.Bytes.{length-to_bits}, proofs.Counting.{map-upto_same, get_or-map-upto}}
 use Rattle.zf_base.specs.Widths.{width_of}
-use Rattle.zf_header.{specs.declared.header.Header.{Header}, specs.declared.header.Mode.{Mode}}
+use Rattle.zf_header.specs.declared.header.Header.{Header}
 use Rattle.zf_header.{specs.declared.header.Mode.TheVariants.{Rate}, specs.HeaderBits.{IsRate, block_bits}}
 use Rattle.zf_header.proofs.Modes.{mode_is_rate, rate_is_some}
-use Rattle.zf_parse.specs.Parsing.{Said, parse, read_code, values_of_blocks, longest_code}
+use Rattle.zf_parse.specs.Parsing.{Said, parse, read_code, values_of_blocks}
 use Rattle.zf_index.{specs.Spans.{Index, len_at, code_in, codes_in}, proofs.Places.{ends_within}}
 use Rattle.zf_index.specs.Files.{IsIndexOf, found, block_read, len_read, blocks_found}
 use Rattle.zf_bound.{specs.Errors.{IsSmallEnough}, specs.Bounds.{plane_of, error_of, IsBound}}
@@ -32,14 +32,10 @@ module _ (bytes : List ℕ) (h : Header) (i : Index) (index : IsIndexOf bytes h 
     code_found : (b : ℕ) → b < length i.lens → (len_at i b ≡ block_bits h.mode) × (block_read (found h i (to_bits bytes) b) ≡ read_rate (width_of h.ty) (extent_of h.shape b) (code_in i (to_bits bytes) b))
     code_found b below = search (rules, mode_is_rate, rate_found)
 
-    -- the longest code is as long as each
-    longest_is : longest_code h ≡ block_bits h.mode
-    longest_is = let With : Mode → Header = λ m. record { ty = h.ty; shape = h.shape; mode = m } in ap (λ m. longest_code (With m)) (mode_is_rate h.mode rate)
-
-    -- all codes lie in the file, and have room where the longest has
-    pub are_inside : (room : ℕ) → longest_code h + 64 ≤ room → AreInside i (8 * length bytes) room
+    -- all codes lie in the file, and have room where the longest of any rate has
+    pub are_inside : (room : ℕ) → 32832 ≤ room → AreInside i (8 * length bytes) room
     are_inside room fits b below =
-        let ends = ends_within i b (length i.lens) below in search (rules, code_found, length-to_bits, longest_is, rate_is_some)
+        let ends = ends_within i b (length i.lens) below in search (rules, code_found, length-to_bits, rate_is_some)
 
     blocks_same : blocks_found h i (to_bits bytes) ≡ blocks_read h (codes_in i (to_bits bytes))
     blocks_same = search (rules, map-upto_same, code_found, get_or-map-upto)

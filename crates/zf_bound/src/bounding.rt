@@ -15,10 +15,11 @@ use crate::planes::stream_plane;
 use std::alloc::Global;
 use zf_base::Lane;
 use zf_bits::Excerpt;
-use zf_block::Scratch;
 use zf_header::Header;
 use zf_index::{IndexFault, Verbatim};
-use zf_parse::longest_code;
+
+// How many bits of a file are made words at once: those of many codes, as none has more than half of them.
+const AT_ONCE: u64 = 65536;
 
 /// How far the values of a stream of a fixed rate are, at most, from whatever was stored in it, if that had
 /// magnitudes up to `m`.
@@ -49,9 +50,8 @@ pub fn bound<T: Lane>(
     ensures fault { IfErr result (λ e. IsFault (parse file.now) (stream_fault e)) }
 {
     let index = Verbatim::build(alloc, h, file)?;
-    let mut excerpt = Excerpt::new(alloc, longest_code::<T>(h))?;
-    let mut room = Scratch::<T>::new(alloc)?;
-    let plane = stream_plane(h, &index, file, &mut excerpt, &mut room);
+    let mut excerpt = Excerpt::new(alloc, AT_ONCE)?;
+    let plane = stream_plane::<T>(h, &index, file, &mut excerpt);
     let error = error_from(h.shape.dims(), plane);
     Ok(Certified {
         plane,

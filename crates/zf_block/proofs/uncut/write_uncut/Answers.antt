@@ -2,7 +2,7 @@ use Rattle.std.{proofs.Common.{◌≤◌, map, length, take, arith}, proofs.lemm
 use Rattle.std.proofs.Math.Nat.{mul-le-mul_right}
 use Rattle.zf_spec.{specs.Planes.{code}, specs.HeldPlanes.{planes_held}}
 use Rattle.zf_bits.proofs.Appending.{Appends-same}
-use Rattle.zf_planes.{proofs.Lengths.{length-code_words-le}, proofs.Unpacking.{each_long}}
+use Rattle.zf_planes.proofs.Lengths.{length-code_words-le}
 use Rattle.zf_block.proofs.uncut.write_uncut.Goals as goal
 
 pub returns : goal.returns
@@ -13,7 +13,7 @@ returns g c =
     let all = map words c.args.planes.now in
     let many = length-map c.args.planes.now words in
     let small : size ≤ 256 = omega (arith, c.requires.size.0) in
-    let most = length-code_words-le prec size all (omega (arith, many, c.requires.planes)) (λ i below. let long = each_long words _ g.met.P.Plane.long c.args.planes.now i (omega (arith, many)) in omega (arith, long, c.requires.size.1)) in
+    let most = length-code_words-le words _ prec size c.args.planes.now g.met.P.Plane.long c.requires.size.1 (omega (arith, c.requires.planes)) in
     let digits = mul-le-mul_right prec small in
     -- a code is far shorter than the greatest budget
     let short : length (code (take prec (planes_held size all))) ≤ 18446744073709551615 = omega (arith, most, digits, c.requires.planes, c.requires.few) in

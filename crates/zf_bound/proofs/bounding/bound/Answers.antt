@@ -6,13 +6,9 @@ use Rattle.zf_bound.{specs.Errors.{IsSmallEnough}, specs.Bounds.{plane_of, error
 use Rattle.zf_bound.proofs.Indexed.{are_inside, is_said, bound_holds}
 use Rattle.zf_bound.proofs.bounding.bound.Goals as goal
 
-pub longest_code-requires-clause-mode : goal.longest_code-requires-clause-mode
-longest_code-requires-clause-mode g c = (is_header c.args.file.now c.args.h.now c.requires.header).mode
-
 pub stream_plane-plane-requires-clause-inside : goal.stream_plane-plane-requires-clause-inside
 stream_plane-plane-requires-clause-inside g c =
-    are_inside c.args.file.now c.args.h.now c.in_ok-index.index c.in_ok-index.ensures.ok c.requires.rate _
-    (omega (arith, c.in_ok-excerpt.ensures, c.longest_code.ensures.value))
+    are_inside c.args.file.now c.args.h.now c.in_ok-index.index c.in_ok-index.ensures.ok c.requires.rate _ (omega (arith, c.in_ok-excerpt.ensures))
 
 pub returns-clause-plane : goal.returns-clause-plane
 returns-clause-plane g c = search (rules, is_said)
