@@ -1,0 +1,20 @@
+mod Exposed
+mod Streaming
+mod Heading
+mod Statuses
+mod Causes
+mod Stopping
+mod Stepping
+mod Ends
+mod Promises
+pub mod Making
+mod Sampling
+mod Opening
+mod Loading
+mod Fetching
+mod HandedOn
+mod Scripting
+mod TwoWays
+mod Subjects
+mod Certifying
+mod Rungs

@@ -1,0 +1,4 @@
+pub mod Decimals
+pub mod ShapeWords
+pub mod Completed
+pub mod CommandWords
