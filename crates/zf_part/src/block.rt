@@ -1,13 +1,13 @@
 //! Blocks of a stream.
 
-ghost use Rattle.std.specs.Prelude.{◌≡◌, ◌<◌, ◌*◌, ◌^◌, All, map, length, IfErr, OnOk};
+ghost use Rattle.std.specs.Prelude.{◌≡◌, ◌+◌, ◌<◌, ◌≤◌, ◌*◌, ◌^◌, All, map, length, IfErr, OnOk};
 ghost use Rattle.std.specs.Prelude.{OnSome, IfNone};
 ghost use Rattle.zf_spec.specs.Grid.{blocks};
 ghost use Rattle.zf_base.specs.Widths.{width_of};
 ghost use Rattle.zf_header.specs.HeaderBits.{IsRate};
-ghost use Rattle.zf_parse.specs.Parsing.{parse};
+ghost use Rattle.zf_parse.specs.Parsing.{parse, longest_code};
 ghost use Rattle.zf_parse.specs.ReadStreams.{IsFault};
-ghost use Rattle.zf_index.specs.Files.{HasHeader, stream_fault};
+ghost use Rattle.zf_index.specs.Files.{HasHeader, IsIndexOf, stream_fault};
 ghost use Rattle.zf_part.specs.Blocks.{IsBlockOf, AreBlocksOf, IsWritten};
 ghost use Rattle.zf_part.specs.Places.{ArePlacesOf, IsPlaceFault};
 ghost use Rattle.zf_part.specs.Readings.{IsReading, AreRight};
@@ -15,12 +15,14 @@ ghost use Rattle.zf_part.specs.Readings.{IsReading, AreRight};
 use crate::places::PlaceFault;
 use crate::put::put_run;
 use crate::reading::{Reading, begin, begin_at, read};
+use crate::words::take_words;
 use std::alloc::Global;
 use zf_base::{Lane, block_len};
-use zf_bits::BitWriter;
+use zf_bits::{BitReader, BitWriter};
 use zf_block::{Dims, Scratch};
 use zf_header::{Header, Mode};
 use zf_index::{IndexFault, Verbatim};
+use zf_parse::{longest_code, read_code};
 
 /// Reads block `b` of a stream that begins with the header `h`. `block` gets `4^d` values, x fastest; those
 /// that do not exist mean nothing.
@@ -40,11 +42,41 @@ pub fn read_block<T: Lane>(
     ensures block { OnOk result (IsBlockOf stream.now h.now b (map T.value block.new)) }
     ensures fault { IfErr result (λ e. IsFault (parse stream.now) (stream_fault e)) }
 {
-    let mut reading = begin::<T>(alloc, h, stream)?;
-    let Some(()) = read(&mut reading, h, stream, b, block) else {
+    let index = Verbatim::build(alloc, h, stream)?;
+    // Words for a code of up to 1,024 bits, or for any, behind any place: none are allocated.
+    if longest_code::<T>(h) <= 1024 {
+        read_by::<T, 18>(h, stream, &index, b, block);
+    } else {
+        read_by::<T, 514>(h, stream, &index, b, block);
+    }
+    Ok(())
+}
+
+// The same by way of so many words. They stand here, so that no call clears more of them than it needs.
+#[inline(never)]
+fn read_by<T: Lane, const N: usize>(
+    h: &Header,
+    stream: &[u8],
+    index: &Verbatim,
+    b: u64,
+    block: &mut [T],
+)
+    requires index { IsIndexOf stream.now h.now index.now }
+    requires same_type { T.width ≡ width_of h.now.ty }
+    requires in_array { b < blocks h.now.shape }
+    requires whole { length block.old ≡ 4 ^ length h.now.shape }
+    requires room { longest_code h.now + 128 ≤ 64 * N }
+    requires few { N ≤ 1024 }
+    ensures { IsBlockOf stream.now h.now b (map T.value block.new) }
+{
+    let mut words = [0; N];
+    let at = index.span(b).at;
+    let bits = take_words(stream, at, &mut words);
+    let mut reader = BitReader::new(&words, bits);
+    reader.seek(at % 64);
+    let Some(()) = read_code(h, &mut reader, block) else {
         unreachable!()
     };
-    Ok(())
 }
 
 /// Reads the blocks of a list, in its order, one behind the other, as `read_block` each. Where there is no

@@ -11,10 +11,11 @@ ghost use Rattle.zfpi_c.specs.Parts.{ReadsBlocksAt, LacksBlocksAt, ReadsWindowAt
 
 use crate::parts::{Axes, has_all, has_room, window_of};
 use crate::status::Status;
+use crate::values::put_over;
 use std::alloc::Global;
 use zf_base::{Lane, Ty, block_len};
 use zf_header::Header;
-use zf_pad::{put_raw, value_len};
+use zf_pad::value_len;
 use zf_part::{read_blocks_at, read_window_at, write_places};
 use zf_window::Window;
 
@@ -116,7 +117,7 @@ fn list_at<T: Lane>(
     }
     let mut values = vec![in alloc; T::zero(); list.len() * size]?;
     read_blocks_at(alloc, h, stream, places, list, &mut values)?;
-    put_raw(&values, &mut out[..list.len() * bytes]);
+    put_over(&values, out);
     Ok(())
 }
 
@@ -194,6 +195,6 @@ fn part_at<T: Lane>(
     }
     let mut values = vec![in alloc; T::zero(); count]?;
     read_window_at(alloc, h, stream, places, w, &mut values)?;
-    put_raw(&values, &mut out[..count * bytes]);
+    put_over(&values, out);
     Ok(())
 }

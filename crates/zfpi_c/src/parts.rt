@@ -1,6 +1,6 @@
 //! The calls on parts of a stream.
 
-ghost use Rattle.std.specs.Prelude.{◌≡◌, ◌↔◌, ◌*◌, ◌<◌, ◌≤◌, [], ◌∷◌, All, length, take};
+ghost use Rattle.std.specs.Prelude.{◌≡◌, ◌↔◌, ◌*◌, ◌^◌, ◌<◌, ◌≤◌, [], ◌∷◌, All, length, take};
 ghost use Rattle.std.specs.Prelude.{Some, IsTrue, IfOk, OnOk, IfErr};
 ghost use Rattle.zf_spec.specs.Grid.{blocks};
 ghost use Rattle.zf_base.specs.Widths.{width_of};
@@ -16,12 +16,12 @@ ghost use Rattle.zfpi_c.specs.Parts.{numbers, asked, ReadsWindow, LacksWindow};
 ghost use Rattle.zfpi_c.specs.Parts.{block_of_raw, LacksWrite, EndsWrite};
 
 use crate::status::Status;
-use crate::values::put_values;
+use crate::values::{put_over, put_values};
 use std::alloc::Global;
 use zf_base::{Lane, Pos, Shape, Ty, block_len};
 use zf_header::{Header, Mode};
-use zf_pad::{put_raw, value_len};
-use zf_part::{read_blocks, read_window, write_block};
+use zf_pad::value_len;
+use zf_part::{read_block, read_blocks, read_window, write_block};
 use zf_window::{ViewFault, Window};
 
 /// A number along each axis, x first.
@@ -41,10 +41,59 @@ pub extern "C" fn zfpi_read_block(alloc: Global, stream: &[u8], block: u64, out:
     ensures { EndsPart (ReadsBlocks (header_of stream.now) stream.now (block ∷ []))
         (LacksBlocks (header_of stream.now) stream.now (block ∷ []) (length out.old)) out.old out.new result }
 {
-    match read_list(alloc, stream, &[block], out) {
+    match read_one(alloc, stream, block, out) {
         Ok(()) => 0,
         Err(status) => status.code(),
     }
+}
+
+fn read_one(alloc: Global, stream: &[u8], block: u64, out: &mut [u8]) -> Result<(), Status>
+    ensures ok { OnOk result (Wrote (ReadsBlocks (header_of stream.now) stream.now (block ∷ []))
+        out.old out.new) }
+    ensures err { IfErr result (LacksBlocks (header_of stream.now) stream.now (block ∷ []) (length out.old)) }
+    ensures stays { IfErr result (λ status. out.new ≡ out.old) }
+{
+    let Ok((h, _)) = zf_header::read(stream) else {
+        return Err(Status::Header);
+    };
+    if block >= h.shape.blocks() {
+        return Err(Status::Part);
+    }
+    // Room for the values: for no more than those of three dimensions, where that is enough.
+    let few = h.shape.dims() <= 3;
+    match h.ty {
+        Ty::I32 if few => block_by(alloc, &h, stream, block, &mut [0i32; 64], out),
+        Ty::I32 => block_by(alloc, &h, stream, block, &mut [0i32; 256], out),
+        Ty::I64 if few => block_by(alloc, &h, stream, block, &mut [0i64; 64], out),
+        Ty::I64 => block_by(alloc, &h, stream, block, &mut [0i64; 256], out),
+    }
+}
+
+// A block, by way of values of one type.
+fn block_by<T: Lane>(
+    alloc: Global,
+    h: &Header,
+    stream: &[u8],
+    block: u64,
+    room: &mut [T],
+    out: &mut [u8],
+) -> Result<(), Status>
+    requires header { HasHeader stream.now h.now }
+    requires same_type { T.width ≡ width_of h.now.ty }
+    requires in_array { block < blocks h.now.shape }
+    requires room { 4 ^ length h.now.shape ≤ length room.old }
+    ensures ok { OnOk result (Wrote (ReadsBlocks h.now stream.now (block ∷ [])) out.old out.new) }
+    ensures err { IfErr result (LacksBlocks h.now stream.now (block ∷ []) (length out.old)) }
+    ensures stays { IfErr result (λ status. out.new ≡ out.old) }
+{
+    let size = block_len(h.shape.dims());
+    if size * value_len::<T>() > out.len() {
+        return Err(Status::Room);
+    }
+    let values = &mut room[..size];
+    read_block(alloc, h, stream, block, values)?;
+    put_over(values, out);
+    Ok(())
 }
 
 /// Reads the blocks of a list, in its order, one behind the other.
@@ -117,7 +166,7 @@ fn list_of<T: Lane>(
     }
     let mut values = vec![in alloc; T::zero(); list.len() * size]?;
     read_blocks(alloc, h, stream, list, &mut values)?;
-    put_raw(&values, &mut out[..list.len() * bytes]);
+    put_over(&values, out);
     Ok(())
 }
 
@@ -256,7 +305,7 @@ fn part_of<T: Lane>(
     }
     let mut values = vec![in alloc; T::zero(); count]?;
     read_window(alloc, h, stream, w, &mut values)?;
-    put_raw(&values, &mut out[..count * bytes]);
+    put_over(&values, out);
     Ok(())
 }
 

@@ -1,11 +1,20 @@
-//! Values of raw bytes.
+//! Values of raw bytes, and raw bytes of values.
 
 ghost use Rattle.std.specs.Prelude.{◌≡◌, ◌*◌, ◌≤◌, map, length};
 ghost use Rattle.std.specs.Int.{w64, byte_len, from_le_bytes, cast_signed};
-ghost use Rattle.zf_spec.specs.Stream.{first_bytes, values_from};
+ghost use Rattle.zf_spec.specs.Stream.{first_bytes, values_from, raw};
+ghost use Rattle.zfpi_c.specs.Parts.{Wrote};
 
 use zf_base::Lane;
-use zf_pad::value_len;
+use zf_pad::{put_raw, value_len};
+
+/// Puts the raw bytes of values over the start of `out`. All behind them stays.
+pub(crate) fn put_over<T: Lane>(values: &[T], out: &mut [u8])
+    requires room { length values.now * byte_len T.width ≤ length out.old }
+    ensures { Wrote (λ text. text ≡ raw T.width (map T.value values.now)) out.old out.new }
+{
+    put_raw(values, &mut out[..values.len() * value_len::<T>()]);
+}
 
 /// Makes values of raw bytes.
 pub(crate) fn put_values<T: Lane>(bytes: &[u8], values: &mut [T])
