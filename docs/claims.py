@@ -234,7 +234,7 @@ def unsnipped(page):
 
 def error_lines():
     """The texts of the error lines, as the program has them; a number in one is N."""
-    text = (CRATES / "zfpi/src/commands/line.rt").read_text()
+    text = (CRATES / "zf_program/src/commands/line.rt").read_text()
     lines = [line for line in re.findall(r'plain\("([^"]+)"\)', text)]
     return lines + [
         f"{before}N{after}" for before, after in re.findall(r'counted\("([^"]*)", .*?, "([^"]*)"\)', text)
@@ -242,7 +242,7 @@ def error_lines():
 
 
 def commands():
-    first = re.search(r"fn first\(.*?^}", (CRATES / "zfpi/src/words.rt").read_text(), re.M | re.S).group(0)
+    first = re.search(r"fn first\(.*?^}", (CRATES / "zf_words/src/words.rt").read_text(), re.M | re.S).group(0)
     return re.findall(r'"(\w+)" =>', first)
 
 
@@ -267,7 +267,7 @@ def missing_in_manual():
 
 def codes_of_the_program():
     """Whether the codes of the program are those that are looked for here."""
-    text = (CRATES / "zfpi/src/status.rt").read_text()
+    text = (CRATES / "zf_program/src/status.rt").read_text()
     codes = {int(code) for code in re.findall(r"=> (\d+),", text)} | {22}
     return [] if codes == set(CODES) else [f"docs/claims.py: the codes are {sorted(codes)}"]
 
