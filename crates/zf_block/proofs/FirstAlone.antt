@@ -1,14 +1,14 @@
 -- Planes in which the first rank alone has ones: their code, what is read as such, and the digits that they hold.
 use Rattle.std.{proofs.lemmas.List.Elements.{All-map}, proofs.Math.Pow.{pow_mono}, specs.Int.{Width}}
-use Rattle.std.proofs.Common.{rules, ◌≡◌, refl, sym, ap, subst, ◌∙◌, ℕ, zero, suc, ◌+◌, ◌-◌, ◌*◌, ◌/◌, ◌%◌, ◌^◌, ◌<◌, ◌≤◌, ◌≢◌, max, Bool, true, false, pos, List, [], ◌∷◌, ◌++◌, map, reverse, length, take, drop, replicate, get_or, ext_get_or, ◌==◌, All, arith}
-use Rattle.std.proofs.lemmas.Nat.{pow_pos, pow-add, shr-shr, shl_whole}
+use Rattle.std.proofs.Common.{rules, ◌≡◌, refl, sym, ap, subst, ◌∙◌, ℕ, zero, suc, ◌+◌, ◌-◌, ◌*◌, ◌%◌, ◌^◌, ◌<◌, ◌≤◌, ◌≢◌, max, Bool, true, false, pos, List, [], ◌∷◌, ◌++◌, map, reverse, length, take, drop, replicate, get_or, ext_get_or, All, arith}
+use Rattle.std.proofs.lemmas.Nat.{pow_pos, pow-add, shl_whole}
 use Rattle.std.proofs.lemmas.List.{append-nil, map-append, reverse-append, length-append, length-map, length-replicate, length-reverse, length-take, take_all, take-append-le, take-take, take-append-drop, get_or-reverse}
 use mir.Val.{bits}
-use Rattle.zf_spec.{specs.Numbers.{field, is_odd, digit_value, value_of}, specs.Kept.{kept_planes}}
+use Rattle.zf_spec.{specs.Numbers.{field, value_of}, specs.Kept.{kept_planes}}
 use Rattle.zf_spec.{specs.Grid.{IsDimension, IsBlockSize, upto}, specs.Codes.{coefficients_of}}
 use Rattle.zf_spec.specs.Planes.{plane, planes_of, reach, tail, code_from, code}
 use Rattle.zf_spec.{specs.ReadPlanes.{Begins, planes_in}, proofs.Beginnings.{begins_itself}}
-use Rattle.zf_spec.proofs.Fields.{length-field, field-add, field-mod, field-zero, sum_below, is_odd-digit_value}
+use Rattle.zf_spec.proofs.Fields.{length-field, field-mod, field-zero, sum_below}
 use Rattle.zf_spec.{proofs.Full.{full_only}, proofs.Reach.{has_one-zeros, reach_none}}
 use Rattle.zf_spec.proofs.PlaneDigits.{length-map-reverse-upto, get_or-map-reverse-upto}
 use Rattle.zf_bits.{specs.Reader.{Reader, rest, Reads}, proofs.Words.{field_shifted}}
@@ -197,36 +197,6 @@ passes_first size k u len old new sizes is reads =
     record { whole = omega (arith, long, is.there); passed = subst Passed long reads }
 
 -- ---- digits as they are read
-
--- of a word, i digits have come, each with a zero behind it
-pub record HaveCome (word i digits rest : ℕ) : Type 0 where
-  pub code : field (2 * i) word ≡ lone_code (digits_down i digits)
-  pub small : digits < 2 ^ i
-  pub behind : rest ≡ word / 2 ^ (2 * i)
-
-pub none_come : (word : ℕ) → HaveCome word 0 0 word
-none_come word = record { code = refl; small = omega arith; behind = omega arith }
-
-pub one_more : (word i digits left : ℕ) → left % 4 ≤ 1 → HaveCome word i digits left → HaveCome word (i + 1) (2 * digits + left % 2) (left / 4)
-one_more word i digits left low come =
-    let d = left % 2 in
-    let two : 2 * (i + 1) ≡ 2 * i + 2 = omega arith in
-    let twice : 2 * digits + d ≡ digits * 2 ^ 1 + d = omega arith in
-    let first : is_odd left ≡ is_odd d = let same : d ≡ d % 2 = omega arith in ap (λ k. k == 1) same in
-    let second : is_odd (left / 2) ≡ false = let even : left / 2 ≡ digit_value false + 2 * (left / 4) = omega arith in ap is_odd even ∙ is_odd-digit_value false (left / 4) in
-    record {
-      code = search (rules, field-add, digits_down-add, lone_code-append);
-      small = omega (arith, come.small, pow-add 2 i 1);
-      behind = omega (arith, come.behind, shr-shr word (2 * i) 2, ap (λ n. word / 2 ^ n) two);
-    }
-
--- there is room for one more
-pub fits_more : (i digits bit : ℕ) → digits < 2 ^ i → i ≤ 31 → bit ≤ 1 → 2 * digits + bit < 2 ^ 64
-fits_more i digits bit small few one = let bound : 2 ^ i ≤ 2 ^ 31 = pow_mono {i = i} {j = 31} few in omega arith
-
--- what was read is what is needed
-pub have_come : {old new : Reader} (word count digits left : ℕ) → HaveCome word count digits left → field (2 * count) word ≡ take (2 * count) (rest old) → Reads old new (take (2 * count) (rest old)) → ReadsDigits count digits old new
-have_come word count digits left come seen reads = record { reads = Reads-same reads (sym seen ∙ come.code); small = come.small }
 
 -- two parts, one behind the other
 pub ReadsDigits-append : {a b c : Reader} (m n u v : ℕ) → ReadsDigits m u a b → ReadsDigits n v b c → ReadsDigits (m + n) (u * 2 ^ n + v) a c

@@ -6,6 +6,7 @@
 --     Zeros       zero bits that fill a code
 --     ZeroPlanes  planes of zeros: their code, what is read as such, and the block that they stand for
 --     FirstAlone  planes in which the first rank alone has ones: their code, what is read as such, and their digits
+--     TurnedDigits  digits that stand two bits apart, put together and turned
 --     AfterReserve   room that was asked for before
 --     PartsPassed  the parts of a code that bits begin with: how many bits they have, and how far the ones reach
 --     PlanesPassed planes whose codes are passed one behind another
@@ -22,6 +23,7 @@ pub mod Kept
 pub mod Zeros
 pub mod ZeroPlanes
 pub mod FirstAlone
+pub mod TurnedDigits
 pub mod AfterReserve
 pub mod PartsPassed
 pub mod PlanesPassed

@@ -2,15 +2,21 @@
 
 ghost use Rattle.std.specs.Prelude.{◌≡◌, ◌<◌, ◌≤◌, IfSome};
 ghost use Rattle.zf_bits.specs.Reader.{rest};
-ghost use Rattle.zf_block.specs.FirstAlone.{IsFirstCode, ReadsDigits};
+ghost use Rattle.zf_block.specs.FirstAlone.{IsFirstCode, ReadsDigits, turned};
 
 use crate::zero_block::are_zeros;
 use zf_bits::BitReader;
 
+/// How many digits a look at 64 bits shows.
+const IN_SIGHT: u32 = 32;
+/// Where the group bits behind them lie.
+const GROUP_BITS: u64 = 0xaaaa_aaaa_aaaa_aaaa;
 /// How many digits are looked at before any is read.
 const AHEAD: u32 = 16;
 /// Where the group bits behind them lie.
-const GROUP_BITS: u64 = 0xaaaa_aaaa;
+const GROUPS_AHEAD: u64 = 0xaaaa_aaaa;
+/// Three bits at the first one, and those group bits.
+const FIRST_AND_GROUPS: u64 = 7 + 8 * GROUPS_AHEAD;
 
 /// The code of planes in which the first rank alone has ones.
 #[derive(Clone, Copy)]
@@ -70,8 +76,25 @@ fn may_be(word: u64, zeros: u32, below: u32) -> bool
 {
     let seen = word >> zeros;
     let begins = zeros > 61 || seen % 8 == 3;
-    let goes_on = below < AHEAD || zeros > 61 - 2 * AHEAD || (seen >> 3) & GROUP_BITS == 0;
+    let goes_on = below < AHEAD || zeros > 61 - 2 * AHEAD || (seen >> 3) & GROUPS_AHEAD == 0;
     begins && goes_on
+}
+
+/// [`may_be`] of bits that begin with the count of the planes less one, in so many bits.
+#[inline(always)]
+pub(crate) fn may_be_counted(count_bits: u32, word: u64) -> bool
+    requires { count_bits ≤ 6 }
+{
+    let count = word % (1 << count_bits);
+    let code = word - count;
+    // The first one. Masks that are moved to it lose what is not in sight.
+    let one = code & code.wrapping_neg();
+    let first = one.wrapping_mul(3);
+    if code & one.wrapping_mul(FIRST_AND_GROUPS) == first {
+        return true;
+    }
+    let begins = code & one.wrapping_mul(7) == first;
+    begins && count as u32 + count_bits < one.trailing_zeros() + AHEAD
 }
 
 /// Reads so many digits, each with a group bit of zero behind it, where it is seen that they come next.
@@ -80,10 +103,12 @@ fn read_digits(count: u32, place: &mut BitReader<'_>) -> Option<u64>
     requires few { count ≤ 63 }
     ensures { IfSome result (λ u. ReadsDigits count u place.old place.new) }
 {
-    // At most as many at once as a look at 64 bits shows.
-    let first = count.min(32);
+    let first = count.min(IN_SIGHT);
     let second = count - first;
     let above = next_digits(first, place)?;
+    if second == 0 {
+        return Some(above);
+    }
     let below = next_digits(second, place)?;
     Some((above << second) + below)
 }
@@ -98,15 +123,25 @@ fn next_digits(count: u32, place: &mut BitReader<'_>) -> Option<u64>
     if place.left() < len {
         return None;
     }
-    let mut rest = place.peek();
-    let mut digits = 0;
-    for _ in 0..count {
-        if rest % 4 > 1 {
-            return None;
-        }
-        digits = 2 * digits + rest % 2;
-        rest /= 4;
+    let word = place.peek();
+    let unseen = IN_SIGHT - count;
+    if word & (GROUP_BITS >> unseen >> unseen) != 0 {
+        return None;
     }
     place.skip(len);
-    Some(digits)
+    Some(turned_digits(word) >> unseen)
+}
+
+/// Of the 32 digits that stand two bits apart, the number in which the first one is the greatest.
+#[inline(always)]
+fn turned_digits(word: u64) -> u64
+    ensures { result ≡ turned 32 word }
+{
+    // Those of two parts that lie beside one another are put together, the lower one above the other.
+    let parts = word & 0x5555_5555_5555_5555;
+    let of_two = (parts << 1 | parts >> 2) & 0x3333_3333_3333_3333;
+    let of_four = (of_two << 2 | of_two >> 4) & 0x0f0f_0f0f_0f0f_0f0f;
+    let of_eight = (of_four << 4 | of_four >> 8) & 0x00ff_00ff_00ff_00ff;
+    let of_sixteen = (of_eight << 8 | of_eight >> 16) & 0x0000_ffff_0000_ffff;
+    (of_sixteen << 16 | of_sixteen >> 32) & 0xffff_ffff
 }

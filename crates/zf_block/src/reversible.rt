@@ -2,7 +2,7 @@
 
 ghost use Rattle.std.specs.Prelude.{◌≡◌, ◌≤◌, ◌<◌, ◌+◌, ◌-◌, ◌*◌, ◌^◌, ◌↔◌, max, map, length, take, OnOk};
 ghost use Rattle.std.specs.Prelude.{OnErr, IsTrue, false, pos, replicate};
-ghost use Rattle.std.specs.Prelude.{IfNone, IfSome, OnSome};
+ghost use Rattle.std.specs.Prelude.{◌∷◌, IfNone, IfSome, OnSome};
 ghost use Rattle.zf_spec.specs.Grid.{fours};
 ghost use Rattle.zf_spec.specs.Numbers.{field, number};
 ghost use Rattle.zf_spec.specs.Planes.{planes_of, needed_planes};
@@ -12,14 +12,14 @@ ghost use Rattle.zf_spec.specs.Lorenzo.{lorenzo, unlorenzo};
 ghost use Rattle.zf_base.specs.Positions.{used_axes, IsExtent};
 ghost use Rattle.zf_bits.specs.Writer.{Appends};
 ghost use Rattle.zf_bits.specs.Reader.{rest, Reads};
-ghost use Rattle.zf_block.specs.Decoding.{LacksBits, ZerosNext, MovesIf};
+ghost use Rattle.zf_block.specs.Decoding.{LacksBits, ZerosNext, MovesIf, PassesCode, HoldsAbove};
 ghost use Rattle.zf_block.specs.Room.{longest_rev};
 ghost use Rattle.zf_lorenzo.proofs.FirstAlone.{lorenzo-zeros, unlorenzo-zeros};
 ghost use Rattle.zf_block.specs.ReadBlocks.{ReadsRev, LacksRev, rev_planes, rev_len};
 
 use crate::block_code::BlockCode;
 use crate::codec::{decode, encode, encode_part, len_of_zeros, pass_zeros};
-use crate::first_code::first_code;
+use crate::first_code::{first_code, may_be_counted};
 use crate::uncut::{read_uncut, read_uncut_four, write_uncut, write_uncut_four, zeros_above};
 use crate::zero_block::are_zeros;
 use crate::{Dims, Scratch};
@@ -219,12 +219,11 @@ impl<T: Lane> BlockCode<T> for Reversible {
 
     #[inline(always)]
     fn read_first(&self, d: Dims, reader: &mut BitReader<'_>) -> Option<u64> {
-        let mut place = reader.another();
-        let prec = read_count::<T>(&mut place)?;
-        let first = first_code(prec, &place)?;
-        place.skip(first.len);
-        *reader = place;
-        Some(first.digits << (T::WIDTH - prec))
+        // Most blocks have another code. One look tells, and they are read but once.
+        if !may_be_counted(count_bits::<T>(), reader.peek()) {
+            return None;
+        }
+        read_counted::<T>(d, reader)
     }
 
     // The count of planes less one, and the bit of one plane.
@@ -245,6 +244,24 @@ fn write_count<T: Lane>(digits: &[u64], out: &mut BitWriter) -> u32
     let prec = zf_coef::needed_planes(digits, T::WIDTH).max(1);
     out.write_reserved(u64::from(prec - 1), count_bits::<T>());
     prec
+}
+
+/// Reads the count of planes and their code, where the first rank alone has ones in them, and has some. The
+/// answer is its digits. It stands apart, so that other blocks do not enter it.
+#[inline(never)]
+fn read_counted<T: Lane>(d: Dims, reader: &mut BitReader<'_>) -> Option<u64>
+    ensures unread { IfNone result (reader.new ≡ reader.old) }
+    ensures reads { OnSome result
+        (PassesCode (rev_len T.width (4 ^ d.count) (rest reader.old)) reader.old reader.new) }
+    ensures planes { IfSome result (λ u. HoldsAbove (4 ^ d.count) (rev_planes T.width (4 ^ d.count))
+        (planes_of T.WIDTH (digits_in T.WIDTH (u ∷ replicate (4 ^ d.count - 1) 0))) (rest reader.old)) }
+{
+    let mut place = reader.another();
+    let prec = read_count::<T>(&mut place)?;
+    let first = first_code(prec, &place)?;
+    place.skip(first.len);
+    *reader = place;
+    Some(first.digits << (T::WIDTH - prec))
 }
 
 /// Reads the count of planes, or answers `None` where the bits end before it does.

@@ -4,7 +4,7 @@ use Rattle.zf_coef.specs.HeldDigits.{digits_in}
 use Rattle.zf_bits.specs.Reader.{rest}
 use Rattle.zf_block.{proofs.ReadCodes.{planes-behind_count, passes-behind_count}, specs.Block.{AreAbove}}
 use Rattle.zf_block.{proofs.FirstAlone.{uncut_first, passes_first}, proofs.Widths.{width_bounds}, proofs.Sizes.{block_sizes}}
-use Rattle.zf_block.proofs.reversible.ReversibleBlockCode.read_first.Goals as goal
+use Rattle.zf_block.proofs.reversible.read_counted.Goals as goal
 
 pub returns-clause-reads : goal.returns-clause-reads
 returns-clause-reads g c =
