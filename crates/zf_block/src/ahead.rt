@@ -1,4 +1,4 @@
-//! The bits of a code that are still to come.
+//! The bits that are still to come.
 
 ghost use Rattle.std.specs.Prelude.{◌≡◌, ◌≤◌, length, take, drop};
 ghost use Rattle.zf_bits.specs.Reader.{rest};
@@ -6,6 +6,14 @@ ghost use Rattle.zf_block.specs.Passing.{HasNext};
 
 use std::marker::Model;
 use zf_bits::BitReader;
+
+/// The next 64 bits as a number, the first one lowest. Where fewer are left, the others are anything.
+#[inline(always)]
+pub(crate) fn look(reader: &BitReader<'_>) -> u64
+    ensures { HasNext result (rest reader.now) }
+{
+    reader.peek()
+}
 
 /// A reader that ends where a code does. Contracts see the bits that are left.
 #[derive(Drop)]

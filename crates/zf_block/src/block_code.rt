@@ -13,6 +13,7 @@ ghost use Rattle.zf_base.specs.WholeBlocks.{IsBlockOf};
 ghost use Rattle.zf_block.specs.Block.{AreAbove};
 ghost use Rattle.zf_block.specs.Held.{IsHeldSize, IsWorkRoom, AreBlank};
 ghost use Rattle.zf_block.specs.Decoding.{PassesCode, MovesIf, Decodes, HoldsAbove};
+ghost use Rattle.zf_block.specs.Passing.{HasNext};
 
 use crate::Dims;
 use zf_base::Lane;
@@ -90,14 +91,16 @@ pub(crate) trait BlockCode<T: Lane> {
             (code_of self.now (planes_of T.WIDTH (digits_in T.WIDTH digits.old))) };
 
     /// Reads the code of planes into planes of zeros, or answers `None` where the bits end before it does.
-    /// The planes below those that it has stay zero.
+    /// The planes below those that it has stay zero. The next bits are those of `word`, here and below.
     fn read<P: Plane>(
         &self,
         size: usize,
+        word: u64,
         reader: &mut BitReader<'_>,
         planes: &mut [P],
     ) -> Option<()>
         requires size { IsHeldSize size P.word_count }
+        requires next { HasNext word (rest reader.old) }
         requires blank { AreBlank T.WIDTH P.word_count P.words planes.old }
         ensures { Decodes (len_at self.now size)
             (HoldsAbove size (planes_at self.now size) (planes_held size (map P.words planes.new)))
@@ -111,13 +114,15 @@ pub(crate) trait BlockCode<T: Lane> {
 
     /// Reads the code of the planes of four coefficients straight into their digits, or answers `None` where
     /// the bits end before it does. The digits below the planes that it has are zero.
-    fn read_four(&self, reader: &mut BitReader<'_>, digits: &mut [u64; 4]) -> Option<()>
+    fn read_four(&self, word: u64, reader: &mut BitReader<'_>, digits: &mut [u64; 4]) -> Option<()>
+        requires next { HasNext word (rest reader.old) }
         ensures { Decodes (len_at self.now 4)
             (HoldsAbove 4 (planes_at self.now 4) (planes_of T.WIDTH (digits_in T.WIDTH digits.new)))
             result reader.old reader.new };
 
     /// Passes the code of a block of zeros, where it is seen that one is next.
-    fn pass_zeros(&self, d: Dims, reader: &mut BitReader<'_>) -> bool
+    fn pass_zeros(&self, d: Dims, word: u64, reader: &mut BitReader<'_>) -> bool
+        requires next { HasNext word (rest reader.old) }
         ensures seen { IsTrue result ↔ zeros_next self.now (rest reader.old) }
         ensures passes { MovesIf result reader.old reader.new
             (PassesCode (len_at self.now (4 ^ d.count) (rest reader.old)) reader.old reader.new) }
@@ -126,7 +131,7 @@ pub(crate) trait BlockCode<T: Lane> {
 
     /// Reads the code of a block of which the first coefficient alone is not zero, where it is seen that one
     /// is next. The answer is the digits of the first.
-    fn read_first(&self, d: Dims, reader: &mut BitReader<'_>) -> Option<u64>
+    fn read_first(&self, d: Dims, word: u64, reader: &mut BitReader<'_>) -> Option<u64>
         ensures unread { IfNone result (reader.new ≡ reader.old) }
         ensures reads { OnSome result
             (PassesCode (len_at self.now (4 ^ d.count) (rest reader.old)) reader.old reader.new) }

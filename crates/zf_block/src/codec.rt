@@ -8,8 +8,10 @@ ghost use Rattle.zf_base.specs.Positions.{used_axes, IsExtent};
 ghost use Rattle.zf_base.specs.WholeBlocks.{IsBlockOf};
 ghost use Rattle.zf_block.specs.Held.{IsHeldSize, IsWorkRoom, AreBlank};
 ghost use Rattle.zf_bits.specs.Reader.{rest};
+ghost use Rattle.zf_block.specs.Passing.{HasNext};
 ghost use Rattle.zf_block.specs.Decoding.{Decodes, PassesCode, MovesIf, StandsFor};
 
+use crate::ahead::look;
 use crate::block_code::BlockCode;
 use crate::coefficients::{from_digits, from_planes, is_all, to_digits, to_planes_of_first};
 use crate::{Dims, Scratch};
@@ -187,7 +189,7 @@ pub(crate) fn pass_zeros<C: BlockCode<T>, T: Lane>(
     ensures zeros { IsTrue result → StandsFor T.width d.count (C.back d.count)
         (C.planes_at code.now (4 ^ d.count)) (replicate (4 ^ d.count) (pos 0)) (rest reader.old) }
 {
-    code.pass_zeros(d, reader)
+    code.pass_zeros(d, look(reader), reader)
 }
 
 /// Reads the code of a block, or answers `None` where the bits end before it does.
@@ -203,32 +205,53 @@ pub(crate) fn decode<C: BlockCode<T>, T: Lane>(
         (StandsFor T.width d.count (C.back d.count) (C.planes_at code.now (4 ^ d.count))
         (map T.value block.new)) result reader.old reader.new }
 {
+    // One look tells which kind of block is next.
+    let word = look(reader);
     if d.count == 1 {
-        return read_row(code, d, reader, block);
+        return read_row(code, d, word, reader, block);
     }
-    if code.pass_zeros(d, reader) {
+    if code.pass_zeros(d, word, reader) {
         C::inverse_of_first(d.count, T::zero(), block);
         return Some(());
     }
     // A block of one value needs neither planes nor a transform.
-    if let Some(digits) = code.read_first(d, reader) {
+    if let Some(digits) = code.read_first(d, word, reader) {
         C::inverse_of_first(d.count, zf_coef::from_digits(digits), block);
         return Some(());
     }
+    read_any(code, d, word, reader, block)
+}
+
+/// Reads the code of a block of more than one dimension, whatever its planes are.
+#[inline(always)]
+fn read_any<C: BlockCode<T>, T: Lane>(
+    code: &C,
+    d: Dims,
+    word: u64,
+    reader: &mut BitReader<'_>,
+    block: &mut [T],
+) -> Option<()>
+    requires more { ¬ (d.count ≡ 1) }
+    requires next { HasNext word (rest reader.old) }
+    requires block { length block.old ≡ 4 ^ d.count }
+    ensures { Decodes (C.len_at code.now (4 ^ d.count))
+        (StandsFor T.width d.count (C.back d.count) (C.planes_at code.now (4 ^ d.count))
+        (map T.value block.new)) result reader.old reader.new }
+{
     // Planes of up to 64 coefficients lie in one word each, and no more are cleared than the values have
     // digits. Each arm says its number of dimensions.
     let width = T::WIDTH;
     if width == 32 {
         match d.count {
-            2 => read_block::<C, T, u64, 16>(code, 2, reader, block, &mut [0; 32]),
-            3 => read_block::<C, T, u64, 64>(code, 3, reader, block, &mut [0; 32]),
-            _ => read_block::<C, T, [u64; 4], 256>(code, 4, reader, block, &mut [[0; 4]; 32]),
+            2 => read_block::<C, T, u64, 16>(code, 2, word, reader, block, &mut [0; 32]),
+            3 => read_block::<C, T, u64, 64>(code, 3, word, reader, block, &mut [0; 32]),
+            _ => read_block::<C, T, [u64; 4], 256>(code, 4, word, reader, block, &mut [[0; 4]; 32]),
         }
     } else {
         match d.count {
-            2 => read_block::<C, T, u64, 16>(code, 2, reader, block, &mut [0; 64]),
-            3 => read_block::<C, T, u64, 64>(code, 3, reader, block, &mut [0; 64]),
-            _ => read_block::<C, T, [u64; 4], 256>(code, 4, reader, block, &mut [[0; 4]; 64]),
+            2 => read_block::<C, T, u64, 16>(code, 2, word, reader, block, &mut [0; 64]),
+            3 => read_block::<C, T, u64, 64>(code, 3, word, reader, block, &mut [0; 64]),
+            _ => read_block::<C, T, [u64; 4], 256>(code, 4, word, reader, block, &mut [[0; 4]; 64]),
         }
     }
 }
@@ -238,23 +261,25 @@ pub(crate) fn decode<C: BlockCode<T>, T: Lane>(
 fn read_row<C: BlockCode<T>, T: Lane>(
     code: &C,
     d: Dims,
+    word: u64,
     reader: &mut BitReader<'_>,
     block: &mut [T],
 ) -> Option<()>
     requires size { 4 ≡ 4 ^ d.count }
+    requires next { HasNext word (rest reader.old) }
     requires block { length block.old ≡ 4 ^ d.count }
     ensures { Decodes (C.len_at code.now (4 ^ d.count))
         (StandsFor T.width d.count (C.back d.count) (C.planes_at code.now (4 ^ d.count))
         (map T.value block.new)) result reader.old reader.new }
 {
-    if code.pass_zeros(d, reader) {
+    if code.pass_zeros(d, word, reader) {
         let mut zeros = [T::zero(); 4];
         C::inverse_of_first(d.count, T::zero(), &mut zeros);
         put_four(&zeros, block);
         return Some(());
     }
     let mut digits = [0; 4];
-    code.read_four(reader, &mut digits)?;
+    code.read_four(word, reader, &mut digits)?;
     from_digits(d.count, &digits, block);
     C::inverse(d.count, block);
     Some(())
@@ -274,19 +299,21 @@ fn put_four<T: Lane>(four: &[T; 4], block: &mut [T])
 fn read_block<C: BlockCode<T>, T: Lane, P: Plane, const N: usize>(
     code: &C,
     d: u8,
+    word: u64,
     reader: &mut BitReader<'_>,
     block: &mut [T],
     planes: &mut [P],
 ) -> Option<()>
     requires size { N ≡ 4 ^ d }
     requires held { IsHeldSize N P.word_count }
+    requires next { HasNext word (rest reader.old) }
     requires block { IsBlockOf d block.old }
     requires blank { AreBlank T.WIDTH P.word_count P.words planes.old }
     ensures { Decodes (C.len_at code.now (4 ^ d))
         (StandsFor T.width d (C.back d) (C.planes_at code.now (4 ^ d)) (map T.value block.new))
         result reader.old reader.new }
 {
-    code.read(N, reader, planes)?;
+    code.read(N, word, reader, planes)?;
     // They stand here, behind the reading, so that no block clears those of another size.
     let mut digits = [0; N];
     from_planes(d, planes, &mut digits, block);

@@ -4,6 +4,7 @@ ghost use Rattle.std.specs.Prelude.{◌≡◌, ◌<◌, ◌≤◌, IfSome};
 ghost use Rattle.zf_bits.specs.Reader.{rest};
 ghost use Rattle.zf_block.specs.FirstAlone.{IsFirstCode, ReadsDigits, turned};
 
+use crate::ahead::look;
 use crate::zero_block::are_zeros;
 use zf_bits::BitReader;
 
@@ -28,13 +29,12 @@ pub(crate) struct FirstCode {
 }
 
 /// The code of `prec` planes that comes next, where it is seen that the first rank alone has ones in them,
-/// and has some. All its bits are there. Most blocks have another one, as a look at one word tells.
+/// and has some. All its bits are there. Most blocks have another one, as `word` tells, which has the next bits.
 #[inline(always)]
-pub(crate) fn first_code(prec: u32, reader: &BitReader<'_>) -> Option<FirstCode>
+pub(crate) fn first_code(prec: u32, word: u64, reader: &BitReader<'_>) -> Option<FirstCode>
     requires in_word { prec ≤ 64 }
     ensures { IfSome result (λ code. IsFirstCode prec code.digits code.len (rest reader.now)) }
 {
-    let word = reader.peek();
     let zeros = word.trailing_zeros().min(prec);
     if zeros == prec || !may_be(word, zeros, prec - zeros - 1) {
         return None;
@@ -51,7 +51,7 @@ fn code_behind(zeros: u32, prec: u32, reader: &BitReader<'_>) -> Option<FirstCod
     ensures { IfSome result (λ code. IsFirstCode prec code.digits code.len (rest reader.now)) }
 {
     let mut place = reader.another();
-    if !are_zeros(zeros, &place) {
+    if !are_zeros(zeros, look(&place), &place) {
         return None;
     }
     place.skip(u64::from(zeros));

@@ -180,6 +180,7 @@ impl<T: Lane> BlockCode<T> for Precision {
     fn read<P: Plane>(
         &self,
         size: usize,
+        word: u64,
         reader: &mut BitReader<'_>,
         planes: &mut [P],
     ) -> Option<()> {
@@ -192,13 +193,18 @@ impl<T: Lane> BlockCode<T> for Precision {
         write_uncut_four::<T>(zeros, prec, digits, out);
     }
 
-    fn read_four(&self, reader: &mut BitReader<'_>, digits: &mut [u64; 4]) -> Option<()> {
+    fn read_four(
+        &self,
+        word: u64,
+        reader: &mut BitReader<'_>,
+        digits: &mut [u64; 4],
+    ) -> Option<()> {
         read_uncut_four::<T>(self.prec.min(T::WIDTH), reader, digits)
     }
 
-    fn pass_zeros(&self, d: Dims, reader: &mut BitReader<'_>) -> bool {
+    fn pass_zeros(&self, d: Dims, word: u64, reader: &mut BitReader<'_>) -> bool {
         let prec = self.prec.min(T::WIDTH);
-        if are_zeros(prec, reader) {
+        if are_zeros(prec, word, reader) {
             reader.skip(u64::from(prec));
             return true;
         }
@@ -206,10 +212,10 @@ impl<T: Lane> BlockCode<T> for Precision {
     }
 
     #[inline(always)]
-    fn read_first(&self, d: Dims, reader: &mut BitReader<'_>) -> Option<u64> {
+    fn read_first(&self, d: Dims, word: u64, reader: &mut BitReader<'_>) -> Option<u64> {
         let width = T::WIDTH;
         let prec = self.prec.min(width);
-        let first = first_code(prec, reader)?;
+        let first = first_code(prec, word, reader)?;
         reader.skip(first.len);
         Some(first.digits << (width - prec))
     }

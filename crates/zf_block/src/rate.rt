@@ -177,6 +177,7 @@ impl<T: Lane> BlockCode<T> for Rate {
     fn read<P: Plane>(
         &self,
         size: usize,
+        word: u64,
         reader: &mut BitReader<'_>,
         planes: &mut [P],
     ) -> Option<()> {
@@ -198,7 +199,12 @@ impl<T: Lane> BlockCode<T> for Rate {
         out.write_zeros_reserved(bits - used);
     }
 
-    fn read_four(&self, reader: &mut BitReader<'_>, digits: &mut [u64; 4]) -> Option<()> {
+    fn read_four(
+        &self,
+        word: u64,
+        reader: &mut BitReader<'_>,
+        digits: &mut [u64; 4],
+    ) -> Option<()> {
         let bits = u64::from(self.bits);
         if reader.left() < bits {
             return None;
@@ -209,9 +215,9 @@ impl<T: Lane> BlockCode<T> for Rate {
         Some(())
     }
 
-    fn pass_zeros(&self, d: Dims, reader: &mut BitReader<'_>) -> bool {
+    fn pass_zeros(&self, d: Dims, word: u64, reader: &mut BitReader<'_>) -> bool {
         let bits = u64::from(self.bits);
-        if bits <= reader.left() && are_zeros(self.bits.min(T::WIDTH), reader) {
+        if bits <= reader.left() && are_zeros(self.bits.min(T::WIDTH), word, reader) {
             reader.skip(bits);
             return true;
         }
@@ -219,9 +225,9 @@ impl<T: Lane> BlockCode<T> for Rate {
     }
 
     #[inline(always)]
-    fn read_first(&self, d: Dims, reader: &mut BitReader<'_>) -> Option<u64> {
+    fn read_first(&self, d: Dims, word: u64, reader: &mut BitReader<'_>) -> Option<u64> {
         let bits = u64::from(self.bits);
-        let first = first_code(T::WIDTH, reader)?;
+        let first = first_code(T::WIDTH, word, reader)?;
         if bits < first.len || reader.left() < bits {
             return None;
         }

@@ -13,10 +13,12 @@ ghost use Rattle.zf_base.specs.Positions.{used_axes, IsExtent};
 ghost use Rattle.zf_bits.specs.Writer.{Appends};
 ghost use Rattle.zf_bits.specs.Reader.{rest, Reads};
 ghost use Rattle.zf_block.specs.Decoding.{LacksBits, ZerosNext, MovesIf, PassesCode, HoldsAbove};
+ghost use Rattle.zf_block.specs.Passing.{HasNext};
 ghost use Rattle.zf_block.specs.Room.{longest_rev};
 ghost use Rattle.zf_lorenzo.proofs.FirstAlone.{lorenzo-zeros, unlorenzo-zeros};
 ghost use Rattle.zf_block.specs.ReadBlocks.{ReadsRev, LacksRev, rev_planes, rev_len};
 
+use crate::ahead::look;
 use crate::block_code::BlockCode;
 use crate::codec::{decode, encode, encode_part, len_of_zeros, pass_zeros};
 use crate::first_code::{first_code, may_be_counted};
@@ -171,13 +173,14 @@ impl<T: Lane> BlockCode<T> for Reversible {
     fn read<P: Plane>(
         &self,
         size: usize,
+        word: u64,
         reader: &mut BitReader<'_>,
         planes: &mut [P],
     ) -> Option<()> {
         let start = reader.at();
         // Known by this call: the start is within the bits, so that the reader can go back.
         let _left = reader.left();
-        let prec = read_count::<T>(reader)?;
+        let prec = read_count::<T>(word, reader)?;
         match read_uncut(prec, size, reader, planes) {
             Some(()) => Some(()),
             None => {
@@ -193,11 +196,16 @@ impl<T: Lane> BlockCode<T> for Reversible {
         write_uncut_four::<T>(zeros, prec, digits, out);
     }
 
-    fn read_four(&self, reader: &mut BitReader<'_>, digits: &mut [u64; 4]) -> Option<()> {
+    fn read_four(
+        &self,
+        word: u64,
+        reader: &mut BitReader<'_>,
+        digits: &mut [u64; 4],
+    ) -> Option<()> {
         let start = reader.at();
         // Known by this call: the start is within the bits, so that the reader can go back.
         let _left = reader.left();
-        let prec = read_count::<T>(reader)?;
+        let prec = read_count::<T>(word, reader)?;
         match read_uncut_four::<T>(prec, reader, digits) {
             Some(()) => Some(()),
             None => {
@@ -208,9 +216,9 @@ impl<T: Lane> BlockCode<T> for Reversible {
     }
 
     // The count of planes less one, and the bit of one plane.
-    fn pass_zeros(&self, d: Dims, reader: &mut BitReader<'_>) -> bool {
+    fn pass_zeros(&self, d: Dims, word: u64, reader: &mut BitReader<'_>) -> bool {
         let count = count_bits::<T>() + 1;
-        if are_zeros(count, reader) {
+        if are_zeros(count, word, reader) {
             reader.skip(u64::from(count));
             return true;
         }
@@ -218,9 +226,8 @@ impl<T: Lane> BlockCode<T> for Reversible {
     }
 
     #[inline(always)]
-    fn read_first(&self, d: Dims, reader: &mut BitReader<'_>) -> Option<u64> {
-        // Most blocks have another code. One look tells, and they are read but once.
-        if !may_be_counted(count_bits::<T>(), reader.peek()) {
+    fn read_first(&self, d: Dims, word: u64, reader: &mut BitReader<'_>) -> Option<u64> {
+        if !may_be_counted(count_bits::<T>(), word) {
             return None;
         }
         read_counted::<T>(d, reader)
@@ -257,24 +264,30 @@ fn read_counted<T: Lane>(d: Dims, reader: &mut BitReader<'_>) -> Option<u64>
         (planes_of T.WIDTH (digits_in T.WIDTH (u ∷ replicate (4 ^ d.count - 1) 0))) (rest reader.old)) }
 {
     let mut place = reader.another();
-    let prec = read_count::<T>(&mut place)?;
-    let first = first_code(prec, &place)?;
+    let prec = read_count::<T>(look(&place), &mut place)?;
+    let first = first_code(prec, look(&place), &place)?;
     place.skip(first.len);
     *reader = place;
     Some(first.digits << (T::WIDTH - prec))
 }
 
-/// Reads the count of planes, or answers `None` where the bits end before it does.
+/// Reads the count of planes, or answers `None` where the bits end before it does. The next bits are those of
+/// `word`.
 #[inline(always)]
-fn read_count<T: Lane>(reader: &mut BitReader<'_>) -> Option<u32>
+fn read_count<T: Lane>(word: u64, reader: &mut BitReader<'_>) -> Option<u32>
+    requires next { HasNext word (rest reader.old) }
     ensures none { IfNone result (LacksBits (count_bits T.width) reader.old reader.new) }
     ensures value { IfSome result (λ prec. prec ≡ number (take (count_bits T.width) (rest reader.old)) + 1) }
     ensures within { IfSome result (λ prec. prec ≤ T.WIDTH) }
     ensures reads { IfSome result
         (λ prec. Reads reader.old reader.new (field (count_bits T.width) (prec - 1))) }
 {
-    let count = reader.read(count_bits::<T>())?;
-    Some(count as u32 + 1)
+    let bits = count_bits::<T>();
+    if reader.left() < u64::from(bits) {
+        return None;
+    }
+    reader.skip(u64::from(bits));
+    Some((word % (1 << bits)) as u32 + 1)
 }
 
 /// How many bits hold the count of planes.

@@ -6,7 +6,7 @@ ghost use Rattle.zf_bits.specs.Reader.{rest, Reads};
 ghost use Rattle.zf_block.specs.Held.{IsHeldSize};
 ghost use Rattle.zf_block.specs.WholePlanes.{whole_from, rate_whole_from};
 
-use crate::ahead::Ahead;
+use crate::ahead::{Ahead, look};
 use crate::block_code::BlockCode;
 use crate::passing::planes_there;
 use crate::rate::Rate;
@@ -66,7 +66,8 @@ fn whole_planes_in<T: Lane, P: Plane>(
 {
     zf_planes::clear(planes);
     let code = Rate { bits };
-    BlockCode::<T>::read(&code, size, reader, planes).unwrap();
+    let word = look(reader);
+    BlockCode::<T>::read(&code, size, word, reader, planes).unwrap();
     // What is kept of a plane that is cut has a code that is too long as well.
     T::WIDTH - zf_planes::planes_within(u64::from(bits), size, planes)
 }

@@ -1,4 +1,4 @@
-use Rattle.std.proofs.Common.{◌≡◌, ◌∙◌, refl, arith}
+use Rattle.std.proofs.Common.{refl}
 use Rattle.zf_block.{proofs.Decoded.{passes_block, passes_zeros}, proofs.FirstAlone.{coefficients_first}}
 use Rattle.zf_block.proofs.codec.decode.Goals as goal
 
@@ -23,34 +23,8 @@ returns-in-Some g c =
           _ c.in-Some.ensures.planes (cc (c.inverse_of_first-in-Some.ensures, c.from_digits.ensures.value, coefficients)),
     )
 
-pub returns-in-2 : goal.returns-in-2
-returns-in-2 g c =
-    let same = c.in_default.ensures.unread ∙ c.pass_zeros.ensures.passes.0 (λ passed. cc) in
-    rw (c.in-2.is, ← same) c.read_block.ensures
+pub read_any-requires-clause-next : goal.read_any-requires-clause-next
+read_any-requires-clause-next g c = rw (c.in_default.ensures.unread, c.pass_zeros.ensures.passes.0 (λ passed. cc)) c.look-word.ensures
 
-pub returns-in-3 : goal.returns-in-3
-returns-in-3 g c =
-    let same = c.in_default.ensures.unread ∙ c.pass_zeros.ensures.passes.0 (λ passed. cc) in
-    rw (c.in-3.is, ← same) c.read_block-in-3.ensures
-
-pub returns-in-2-count : goal.returns-in-2-count
-returns-in-2-count g c =
-    let same = c.in_default.ensures.unread ∙ c.pass_zeros.ensures.passes.0 (λ passed. cc) in
-    rw (c.in-2-count.is, ← same) c.read_block-in-2-count.ensures
-
-pub returns-in-3-count : goal.returns-in-3-count
-returns-in-3-count g c =
-    let same = c.in_default.ensures.unread ∙ c.pass_zeros.ensures.passes.0 (λ passed. cc) in
-    rw (c.in-3-count.is, ← same) c.read_block-in-3-count.ensures
-
-pub returns-in_default-count : goal.returns-in_default-count
-returns-in_default-count g c =
-    let four : c.args.d.count ≡ 4 = omega (arith, c.args.d.range, c.if-d-eq1.false, c.in_default-count) in
-    let same = c.in_default.ensures.unread ∙ c.pass_zeros.ensures.passes.0 (λ passed. cc) in
-    rw (four, ← same) c.read_block-in_default-count.ensures
-
-pub returns-in_default-count-2 : goal.returns-in_default-count-2
-returns-in_default-count-2 g c =
-    let four : c.args.d.count ≡ 4 = omega (arith, c.args.d.range, c.if-d-eq1.false, c.in_default-count-2) in
-    let same = c.in_default.ensures.unread ∙ c.pass_zeros.ensures.passes.0 (λ passed. cc) in
-    rw (four, ← same) c.read_block-in_default-count-2.ensures
+pub returns : goal.returns
+returns g c = rw (← c.pass_zeros.ensures.passes.0 (λ passed. cc), ← c.in_default.ensures.unread) c.read_any.ensures

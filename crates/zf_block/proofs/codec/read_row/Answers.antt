@@ -12,6 +12,9 @@ returns-then-pass_zeros g c =
           g.T.Lane.width (g.C.BlockCode.back d) _ (c.pass_zeros.ensures.passes.1 zeros) _ c.args.d.range (c.pass_zeros.ensures.zeros zeros) c.zero.ensures.value (ap (map g.T.Lane.value) c.put_four.ensures ∙ c.inverse_of_first.ensures),
     )
 
+pub read_four-requires : goal.read_four-requires
+read_four-requires g c = rw (c.pass_zeros.ensures.passes.0 (λ t. false≢true (sym c.if-pass_zeros.false ∙ t))) (record { next = c.requires.next })
+
 pub returns-in_err-read_four : goal.returns-in_err-read_four
 returns-in_err-read_four g c = search (rules, false≢true, lacks_block)
 
