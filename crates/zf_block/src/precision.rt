@@ -17,7 +17,9 @@ ghost use Rattle.zf_block.specs.ReadBlocks.{ReadsPrec, LacksPrec, prec_planes, p
 use crate::block_code::BlockCode;
 use crate::codec::{decode, encode, encode_part, len_of_zeros, pass_zeros};
 use crate::first_code::first_code;
-use crate::uncut::{read_uncut, read_uncut_four, write_uncut, write_uncut_four, zeros_above};
+use crate::uncut::{
+    read_uncut, read_uncut_four, write_uncut, write_uncut_digits, write_uncut_four, zeros_above,
+};
 use crate::zero_block::are_zeros;
 use crate::{Dims, Scratch};
 use std::alloc::AllocError;
@@ -166,6 +168,7 @@ impl<T: Lane> BlockCode<T> for Precision {
         write_uncut(zeros, prec, size, planes, out);
     }
 
+    #[inline(always)]
     fn write_digits<P: Plane>(
         &self,
         size: usize,
@@ -173,8 +176,9 @@ impl<T: Lane> BlockCode<T> for Precision {
         planes: &mut [P],
         out: &mut BitWriter,
     ) {
-        zf_coef::planes_of_digits(digits, planes);
-        BlockCode::<T>::write(self, size, digits, planes, out);
+        let prec = self.prec.min(T::WIDTH);
+        let zeros = zeros_above::<T>(prec, digits);
+        write_uncut_digits::<T, P>(zeros, prec, size, digits, planes, out);
     }
 
     fn read<P: Plane>(

@@ -5,6 +5,7 @@ ghost use Rattle.std.specs.Prelude.{IsTrue, false, pos, replicate};
 ghost use Rattle.zf_spec.specs.Grid.{fours};
 ghost use Rattle.zf_spec.specs.Codes.{rate};
 ghost use Rattle.zf_spec.specs.Lift.{lift, unlift};
+ghost use Rattle.zf_spec.specs.HeldPlanes.{planes_held};
 ghost use Rattle.zf_spec.specs.Planes.{code};
 ghost use Rattle.zf_spec.specs.Kept.{kept_planes};
 ghost use Rattle.zf_spec.specs.ReadPlanes.{first_bits, planes_in};
@@ -13,6 +14,7 @@ ghost use Rattle.zf_bits.specs.Writer.{Appends};
 ghost use Rattle.zf_bits.specs.Reader.{rest};
 ghost use Rattle.zf_lift.proofs.FirstAlone.{lift-zeros, unlift-zeros};
 ghost use Rattle.zf_block.specs.Decoding.{ZerosNext, MovesIf};
+ghost use Rattle.zf_block.specs.Held.{IsHeldSize};
 ghost use Rattle.zf_block.specs.ReadBlocks.{ReadsRate};
 
 use crate::block_code::BlockCode;
@@ -143,12 +145,9 @@ impl<T: Lane> BlockCode<T> for Rate {
     }
 
     fn write<P: Plane>(&self, size: usize, digits: &[u64], planes: &[P], out: &mut BitWriter) {
-        let bits = u64::from(self.bits);
-        let width = T::WIDTH;
         // The digits tell at once how many planes at the top are zero.
-        let zeros = zf_coef::zero_planes(digits, width);
-        let written = zf_planes::write_planes_below(zeros, bits, width, size, planes, out);
-        out.write_zeros_reserved(bits - written);
+        let zeros = zf_coef::zero_planes(digits, T::WIDTH);
+        write_first(zeros, self.bits, T::WIDTH, size, planes, out);
     }
 
     #[inline(always)]
@@ -161,17 +160,20 @@ impl<T: Lane> BlockCode<T> for Rate {
     ) {
         let bits = u64::from(self.bits);
         let width = T::WIDTH;
-        // Half as many planes are turned in half the time.
-        if reaches_upper::<T>(bits, 16, digits) {
-            write_upper::<T, P>(bits, 16, digits, planes, out);
+        let zeros = zf_coef::zero_planes(digits, width);
+        // Half as many planes are turned in half the time, and sixteen of many digits in a quarter.
+        let few = (zeros + 16).min(width);
+        if reaches_upper::<T>(bits, few, digits) {
+            write_upper::<T, P>(zeros, bits, few, 16, digits, planes, out);
             return;
         }
-        if width == 64 && reaches_upper::<T>(bits, 32, digits) {
-            write_upper::<T, P>(bits, 32, digits, planes, out);
+        let half = (zeros + 32).min(width);
+        if width == 64 && reaches_upper::<T>(bits, half, digits) {
+            write_upper::<T, P>(zeros, bits, half, 32, digits, planes, out);
             return;
         }
         zf_coef::planes_of_digits(digits, planes);
-        BlockCode::<T>::write(self, size, digits, planes, out);
+        write_first(zeros, self.bits, width, size, planes, out);
     }
 
     fn read<P: Plane>(
@@ -238,4 +240,28 @@ impl<T: Lane> BlockCode<T> for Rate {
     fn len_of_zeros(&self, d: Dims) -> u64 {
         u64::from(self.bits)
     }
+}
+
+/// Appends the first `bits` bits of the code of planes, filled with zeros. The top `zeros` planes have no one.
+#[inline(always)]
+fn write_first<P: Plane>(
+    zeros: u32,
+    bits: u32,
+    count: u32,
+    size: usize,
+    planes: &[P],
+    out: &mut BitWriter,
+)
+    requires size { IsHeldSize size P.word_count }
+    requires planes { length planes.now ≡ count }
+    requires few { count ≤ 64 }
+    requires fits { bits ≤ out.old.room }
+    requires within { zeros ≤ count }
+    requires zeros { take zeros (planes_held size (map P.words planes.now))
+        ≡ replicate zeros (replicate size false) }
+    ensures { Appends out.old out.new (first_bits bits (code (planes_held size (map P.words planes.now)))) }
+{
+    let bits = u64::from(bits);
+    let written = zf_planes::write_planes_below(zeros, bits, count, size, planes, out);
+    out.write_zeros_reserved(bits - written);
 }

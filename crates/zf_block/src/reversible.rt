@@ -22,7 +22,9 @@ use crate::ahead::look;
 use crate::block_code::BlockCode;
 use crate::codec::{decode, encode, encode_part, len_of_zeros, pass_zeros};
 use crate::first_code::{first_code, may_be_counted};
-use crate::uncut::{read_uncut, read_uncut_four, write_uncut, write_uncut_four, zeros_above};
+use crate::uncut::{
+    read_uncut, read_uncut_four, write_uncut, write_uncut_digits, write_uncut_four, zeros_above,
+};
 use crate::zero_block::are_zeros;
 use crate::{Dims, Scratch};
 use std::alloc::AllocError;
@@ -166,8 +168,9 @@ impl<T: Lane> BlockCode<T> for Reversible {
         planes: &mut [P],
         out: &mut BitWriter,
     ) {
-        zf_coef::planes_of_digits(digits, planes);
-        BlockCode::<T>::write(self, size, digits, planes, out);
+        let zeros = zf_coef::zero_planes(digits, T::WIDTH);
+        let prec = write_count::<T>(digits, out);
+        write_uncut_digits::<T, P>(zeros.min(prec), prec, size, digits, planes, out);
     }
 
     fn read<P: Plane>(

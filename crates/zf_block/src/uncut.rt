@@ -6,10 +6,11 @@ ghost use Rattle.zf_spec.specs.ReadPlanes.{planes_in};
 ghost use Rattle.zf_spec.specs.HeldPlanes.{planes_held};
 ghost use Rattle.zf_coef.specs.HeldDigits.{digits_in};
 ghost use Rattle.zf_bits.specs.Writer.{Appends};
-ghost use Rattle.zf_block.specs.Held.{IsHeldSize};
+ghost use Rattle.zf_block.specs.Held.{IsHeldSize, IsWorkRoom};
 ghost use Rattle.zf_block.specs.Decoding.{Decodes, HoldsAbove};
 ghost use Rattle.zf_block.specs.ReadBlocks.{uncut_len};
 
+use crate::upper::write_upper;
 use zf_base::Lane;
 use zf_bits::{BitReader, BitWriter, Plane};
 
@@ -41,6 +42,38 @@ pub(crate) fn write_uncut<P: Plane>(
     ensures { Appends out.old out.new (code (take prec (planes_held size (map P.words planes.now)))) }
 {
     zf_planes::write_planes_below(zeros, u64::MAX, prec, size, planes, out);
+}
+
+/// Appends the whole code of the top `prec` planes of these digits. Planes that have no one, and those that
+/// are not kept, are not turned where few are left. The top `zeros` planes have no one. Digits and planes
+/// become anything.
+#[inline(always)]
+pub(crate) fn write_uncut_digits<T: Lane, P: Plane>(
+    zeros: u32,
+    prec: u32,
+    size: usize,
+    digits: &mut [u64],
+    planes: &mut [P],
+    out: &mut BitWriter,
+)
+    requires room { IsWorkRoom size P.word_count T.WIDTH digits.old planes.old }
+    requires planes { prec ≤ T.WIDTH }
+    requires fits { size * prec + size ≤ out.old.room }
+    requires within { zeros ≤ prec }
+    requires zeros { take zeros (planes_of T.WIDTH (digits_in T.WIDTH digits.old))
+        ≡ replicate zeros (replicate size false) }
+    ensures { Appends out.old out.new (code (take prec (planes_of T.WIDTH (digits_in T.WIDTH digits.old)))) }
+{
+    if zeros == prec {
+        out.write_zeros_reserved(u64::from(prec));
+    } else if size > 16 && prec <= zeros + 16 {
+        write_upper::<T, P>(zeros, u64::MAX, prec, 16, digits, planes, out);
+    } else if T::WIDTH == 64 && prec <= zeros + 32 {
+        write_upper::<T, P>(zeros, u64::MAX, prec, 32, digits, planes, out);
+    } else {
+        zf_coef::planes_of_digits(digits, planes);
+        write_uncut(zeros, prec, size, planes, out);
+    }
 }
 
 /// Appends the whole code of the top `prec` planes of four coefficients, from their digits. The top `zeros`

@@ -1,7 +1,10 @@
-//! The code of planes of which the upper ones alone are reached.
+//! The code of planes of which few are turned: those from the first that has a one down to the last that is
+//! reached.
 
-ghost use Rattle.std.specs.Prelude.{◌≡◌, ◌≤◌, ◌<◌, ◌*◌, ◌/◌, ◌^◌, ℕ, IsTrue, length, slice_index_or};
-ghost use Rattle.zf_spec.specs.ReadPlanes.{first_bits};
+ghost use Rattle.std.specs.Prelude.{◌≡◌, ◌≤◌, ◌<◌, ◌+◌, ◌*◌, ◌/◌, ◌^◌, ℕ, IsTrue, false, min, length};
+ghost use Rattle.std.specs.Prelude.{take, replicate, slice_index_or};
+ghost use Rattle.zf_spec.specs.Planes.{planes_of};
+ghost use Rattle.zf_coef.specs.HeldDigits.{digits_in};
 ghost use Rattle.zf_bits.specs.Writer.{Appends};
 ghost use Rattle.zf_block.specs.Held.{top_code};
 
@@ -23,11 +26,14 @@ pub(crate) fn reaches_upper<T: Lane>(bits: u64, count: u32, digits: &[u64]) -> b
     above < count && bits <= size as u64 * u64::from(count - 1 - above)
 }
 
-/// Appends the first bits of the code of all planes, which the upper `count` have, by way of these.
-/// Digits and planes become anything.
+/// Appends the code of the top `prec` planes, or its first `budget` bits where it is longer, by way of `count`
+/// planes. The top `zeros` planes have no one; they are not turned where as many below are. Digits and planes
+/// become anything.
 #[inline(always)]
 pub(crate) fn write_upper<T: Lane, P: Plane>(
-    bits: u64,
+    zeros: u32,
+    budget: u64,
+    prec: u32,
     count: u32,
     digits: &mut [u64],
     planes: &mut [P],
@@ -37,16 +43,29 @@ pub(crate) fn write_upper<T: Lane, P: Plane>(
     requires words { length digits.old ≤ 64 * P.word_count }
     requires upper { (0 < count) × (count ≤ T.WIDTH) }
     requires planes { count ≤ length planes.old }
-    requires fits { bits ≤ out.old.room }
-    requires enough { bits ≤ length (top_code count T.WIDTH digits.old) }
-    ensures { Appends out.old out.new (first_bits bits (top_code T.WIDTH T.WIDTH digits.old)) }
+    requires order { (zeros ≤ prec) × (prec ≤ T.WIDTH) }
+    requires reach { prec ≤ zeros + count }
+    requires zeros { take zeros (planes_of T.WIDTH (digits_in T.WIDTH digits.old))
+        ≡ replicate zeros (replicate (length digits.old) false) }
+    requires fits { min budget (length digits.old * prec + length digits.old) ≤ out.old.room }
+    ensures { Appends out.old out.new (take budget (top_code prec T.WIDTH digits.old)) }
 {
     let size = digits.len();
-    keep_upper(T::WIDTH - count, digits);
-    let upper = &mut planes[..count as usize];
-    zf_coef::planes_of_digits(digits, upper);
-    let zeros = zf_coef::zero_planes(digits, count);
-    zf_planes::write_planes_below(zeros, bits, count, size, upper, out);
+    let below = T::WIDTH - count;
+    let above = zeros.min(below);
+    keep_upper(below - above, digits);
+    let turned = &mut planes[..count as usize];
+    zf_coef::planes_of_digits(digits, turned);
+    let passed = budget.min(u64::from(above));
+    out.write_zeros_reserved(passed);
+    zf_planes::write_planes_below(
+        zeros - above,
+        budget - passed,
+        prec - above,
+        size,
+        turned,
+        out,
+    );
 }
 
 /// Drops the lowest `count` binary digits of each word.
