@@ -4,7 +4,8 @@ ghost use Rattle.std.specs.Prelude.{◌≡◌, ◌+◌, ◌-◌, ◌*◌, ◌%�
 ghost use Rattle.zf_spec.specs.Stream.{to_bits};
 ghost use Rattle.zf_bits.specs.Reader.{rest};
 
-use crate::{BitReader, put_words_at};
+use crate::BitReader;
+use crate::packing::take_words;
 use std::alloc::{AllocError, Global};
 use std::marker::Model;
 
@@ -54,10 +55,7 @@ impl Excerpt {
         ensures place { self.new.reader.at ≡ at % 64 }
         ensures room { self.new.room ≡ self.old.room }
     {
-        let first = 8 * (at / 64) as usize;
-        let count = (file.len() - first).min(8 * self.words.len());
-        put_words_at(&file[first..first + count], &mut self.words, 0);
-        self.bits = 8 * count as u64;
+        self.bits = take_words(file, at, &mut self.words);
         self.at = at % 64;
     }
 

@@ -1,7 +1,7 @@
 //! Bytes as words of 64, and words as bytes.
-ghost use Rattle.std.specs.Prelude.{◌≡◌, ◌+◌, ◌*◌, ◌<◌, ◌≤◌, ◌++◌, length, take, vec_len, IfOk};
+ghost use Rattle.std.specs.Prelude.{◌≡◌, ◌+◌, ◌-◌, ◌*◌, ◌%◌, ◌^◌, ◌<◌, ◌≤◌, ◌++◌, length, take, drop, vec_len, IfOk};
 ghost use Rattle.std.specs.Int.{div_ceil};
-ghost use Rattle.zf_spec.specs.Numbers.{word_bits};
+ghost use Rattle.zf_spec.specs.Numbers.{field, word_bits};
 ghost use Rattle.zf_spec.specs.Stream.{with_fill, to_bits, to_bytes};
 ghost use Rattle.zf_bits.specs.Packing.{word_of, words_from, words_of};
 
@@ -22,6 +22,33 @@ pub fn words_of_bytes(alloc: Global, bytes: &[u8]) -> Result<Vec<u64>, AllocErro
         words.push(word(piece))?;
     }
     Ok(words)
+}
+
+/// The word of the 8 bytes from byte `at` on, the least significant first.
+#[inline]
+pub fn word_of_bytes(bytes: &[u8], at: usize) -> u64
+    requires { at + 8 ≤ length bytes.now }
+    ensures { field 64 result ≡ take 64 (drop (8 * at) (to_bits bytes.now)) }
+{
+    word(&bytes[at..at + 8])
+}
+
+/// Puts the bits of a file into words, from the word on in which bit `at` lies, as many as there is room for;
+/// how many there are.
+pub(crate) fn take_words(file: &[u8], at: u64, words: &mut [u64]) -> u64
+    requires within { at ≤ 8 * length file.now }
+    requires some { 1 ≤ length words.old }
+    requires few { 64 * length words.old < 2 ^ 64 }
+    ensures seen { drop (at % 64) (take result (word_bits words.new))
+        ≡ take (64 * length words.old - at % 64) (drop at (to_bits file.now)) }
+    ensures within { result ≤ 64 * length words.new }
+    ensures place { at % 64 ≤ result }
+    ensures len { length words.new ≡ length words.old }
+{
+    let first = 8 * (at / 64) as usize;
+    let count = (file.len() - first).min(8 * words.len());
+    put_words_at(&file[first..first + count], words, 0);
+    8 * count as u64
 }
 
 /// Makes words of bytes, from word `at` on: the bits of the bytes come behind those of the words before.

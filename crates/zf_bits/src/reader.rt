@@ -1,8 +1,10 @@
 //! A place in the bits of words.
-ghost use Rattle.std.specs.Prelude.{◌≡◌, ◌+◌, ◌*◌, ◌^◌, ◌<◌, ◌≤◌, [], ◌∷◌, length, take, IfSome, IfNone};
+ghost use Rattle.std.specs.Prelude.{◌≡◌, ◌+◌, ◌-◌, ◌*◌, ◌%◌, ◌^◌, ◌<◌, ◌≤◌, [], ◌∷◌, length, take, drop, IfSome, IfNone};
 ghost use Rattle.zf_spec.specs.Numbers.{field, number, word_bits};
+ghost use Rattle.zf_spec.specs.Stream.{to_bits};
 ghost use Rattle.zf_bits.specs.Reader.{rest, Reads};
 
+use crate::packing::take_words;
 use crate::slots::{bits_from, get_bits};
 use std::marker::Model;
 
@@ -35,6 +37,23 @@ impl<'a> BitReader<'a> {
         ensures { result ≡ record { all = take bits (word_bits words.now); at = 0 } }
     {
         BitReader { words, bits, at: 0 }
+    }
+
+    /// A reader of the bits of a file from bit `at` on, as many as there is room for in the words that they are
+    /// put into.
+    pub fn of_file(file: &[u8], at: u64, words: &'a mut [u64]) -> BitReader<'a>
+        requires within { at ≤ 8 * length file.now }
+        requires some { 1 ≤ length words.old }
+        requires few { 64 * length words.old < 2 ^ 64 }
+        ensures bits { rest result ≡ take (64 * length words.old - at % 64) (drop at (to_bits file.now)) }
+        ensures place { result.at ≡ at % 64 }
+    {
+        let bits = take_words(file, at, words);
+        BitReader {
+            words,
+            bits,
+            at: at % 64,
+        }
     }
 
     /// Another reader of the same bits, at the same place.

@@ -1,8 +1,7 @@
 //! The header that bytes begin with.
 
-ghost use Rattle.std.specs.Prelude.{◌≡◌, ◌+◌, ◌*◌, ◌^◌, ◌<◌, ◌≤◌, length, take, drop, Ok, IfOk};
+ghost use Rattle.std.specs.Prelude.{◌≡◌, ◌+◌, ◌*◌, ◌^◌, ◌<◌, ◌≤◌, length, Ok, IfOk};
 ghost use Rattle.std.specs.Result.{result_err};
-ghost use Rattle.zf_spec.specs.Numbers.{field};
 ghost use Rattle.zf_spec.specs.Stream.{to_bits};
 ghost use Rattle.zf_header.specs.declared.header.Header.{Header};
 ghost use Rattle.zf_header.specs.HeaderBits.{IsHeader, BeginsWith, header_bits};
@@ -15,6 +14,7 @@ use crate::header::{
     MAX_SHORT_RATE, Mode, OWN_CODEC, REVERSIBLE, SHORT_HEADER_BYTES, codec, header_len,
 };
 use zf_base::{Shape, Ty};
+use zf_bits::word_of_bytes;
 
 /// The header that the bytes begin with and its length in bits, 96 or 148; or the first fault, field by
 /// field.
@@ -168,15 +168,5 @@ fn number_at(bytes: &[u8], at: u32, n: u32) -> u64
 {
     let first = (at as usize / 8).min(bytes.len() - 8);
     let shift = at - 8 * first as u32;
-    (word_at(bytes, first) >> shift) % (1 << n)
-}
-
-// The word of 8 bytes from a place on.
-#[inline]
-fn word_at(bytes: &[u8], first: usize) -> u64
-    requires { first + 8 ≤ length bytes.now }
-    ensures { field 64 result ≡ take 64 (drop (8 * first) (to_bits bytes.now)) }
-{
-    let b = &bytes[first..first + 8];
-    u64::from_le_bytes([b[0], b[1], b[2], b[3], b[4], b[5], b[6], b[7]])
+    (word_of_bytes(bytes, first) >> shift) % (1 << n)
 }

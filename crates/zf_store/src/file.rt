@@ -3,7 +3,7 @@
 ghost use Rattle.std.specs.Prelude.{◌≡◌, ◌≢◌, ◌+◌, ◌-◌, ◌*◌, ◌<◌, ◌≤◌, ◌^◌, ◌↔◌, ◌++◌, IsTrue, false, length, take, drop, replicate, vec_len, IfOk, IfErr, OnOk};
 ghost use Rattle.std.specs.Int.{w64, div_ceil, to_le_bytes};
 ghost use Rattle.zf_spec.specs.Grid.{blocks};
-ghost use Rattle.zf_spec.specs.Numbers.{field, number, word_bits};
+ghost use Rattle.zf_spec.specs.Numbers.{number, word_bits};
 ghost use Rattle.zf_spec.specs.Stream.{fill_len, to_bits, to_bytes, with_fill};
 ghost use Rattle.zf_header.specs.HeaderBits.{IsRate, block_bits, header_bits, rate_bytes_of};
 ghost use Rattle.zf_header.specs.HeaderFaults.{header_fault};
@@ -16,7 +16,7 @@ ghost use Rattle.zf_store.specs.Words.{all_bits, IsWholeFile};
 use crate::StoreFault;
 use crate::words::{joined_word, move_to_front};
 use std::alloc::{AllocError, Global};
-use zf_bits::{get_bits, words_of_bytes};
+use zf_bits::{get_bits, word_of_bytes, words_of_bytes};
 use zf_header::{Header, Mode, header_len, rate_bytes};
 
 /// The bits of each block.
@@ -94,19 +94,8 @@ fn has_one_in_fill(h: &Header, file: &[u8]) -> bool
 {
     let whole = rate_bytes(h);
     let fill = 8 * whole - u64::from(header_len(h)) - code_bits(h);
-    let last = [word_before(file, whole as usize)];
+    let last = [word_of_bytes(file, whole as usize - 8)];
     get_bits(&last, 64 - fill, fill as u32) != 0
-}
-
-// The word of the 8 bytes before a place.
-fn word_before(bytes: &[u8], end: usize) -> u64
-    requires some { 8 ≤ end }
-    requires within { end ≤ length bytes.now }
-    ensures { field 64 result ≡ take 64 (drop (8 * (end - 8)) (to_bits bytes.now)) }
-{
-    let mut word = [0; 8];
-    word.copy_from_slice(&bytes[end - 8..end]);
-    u64::from_le_bytes(word)
 }
 
 /// The words of the codes of a whole file.
