@@ -1,9 +1,9 @@
 -- A few of the bits of a file.
 use Rattle.std.proofs.Common.{◌≡◌, sym, ap, ◌∙◌, ℕ, ◌+◌, ◌-◌, ◌*◌, ◌/◌, ◌%◌, ◌<◌, ◌≤◌, min, Bool, List, ◌++◌, length, get_or, take, drop, length-drop, arith, rules}
-use Rattle.std.{proofs.lemmas.Bool.{cases_lt}, proofs.lemmas.Grind.{flat_map-append}}
+use Rattle.std.{specs.Int.{w64, from_le_bytes}, proofs.lemmas.Bool.{cases_lt}, proofs.lemmas.Grind.{flat_map-append}}
 use Rattle.std.proofs.lemmas.List.{take_at, take_all, take-append-drop, drop_at, drop-drop, drop-take, get_or-drop, length-take-le}
 use Rattle.zf_spec.{specs.Numbers.{field}, specs.Stream.{first_bytes, to_bits}, proofs.Bytes.{length-to_bits, first_bytes-all}}
-use Rattle.zf_bits.{specs.Packing.{word_of}, proofs.Packed.{field-word_of, first_bytes-more, word_of-eight}}
+use Rattle.zf_bits.{specs.Packing.{word_of}, proofs.Packed.{field-word_of, first_bytes-more}}
 
 -- the bits of some of the bytes
 to_bits-cut : (bytes : List ℕ) (first n : ℕ) → first + n ≤ length bytes → to_bits (take n (drop first bytes)) ≡ take (8 * n) (drop (8 * first) (to_bits bytes))
@@ -22,18 +22,18 @@ to_bits-cut bytes first n within =
     ∙ take_at (to_bits some) (to_bits rest) (8 * n) long_some)
 
 -- the word of 8 of the bytes
-pub field-eight : (bytes : List ℕ) (at : ℕ) → at + 8 ≤ length bytes → ((i : ℕ) → get_or bytes i 0 < 256) → field 64 (word_of (take 8 (drop at bytes))) ≡ take 64 (drop (8 * at) (to_bits bytes))
+pub field-eight : (bytes : List ℕ) (at : ℕ) → at + 8 ≤ length bytes → ((i : ℕ) → get_or bytes i 0 < 256) → field 64 (from_le_bytes w64 (take 8 (drop at bytes))) ≡ take 64 (drop (8 * at) (to_bits bytes))
+unfolding word_of
 field-eight bytes at within small =
     let behind = drop at bytes in
+    let piece = take 8 behind in
     let enough : 8 ≤ length behind = omega (arith, length-drop at bytes) in
-    ap (field 64) (word_of-eight behind enough) ∙ field-word_of behind (λ i. rw (get_or-drop at bytes i 0) (small (at + i)))
-    ∙ ap to_bits (whole behind enough) ∙ to_bits-cut bytes at 8 within
-  where
-    whole : (s : List ℕ) → 8 ≤ length s → first_bytes 8 s ≡ take 8 s
-    whole s enough =
-        let long : length (take 8 s) ≡ 8 = length-take-le 8 s enough in
-        sym (ap (first_bytes 8) (take-append-drop 8 s)) ∙ first_bytes-more 8 (take 8 s) (drop 8 s) (omega arith)
-        ∙ ap (λ k. first_bytes k (take 8 s)) (sym long) ∙ first_bytes-all (take 8 s)
+    let long : length piece ≡ 8 = length-take-le 8 behind enough in
+    let whole : first_bytes 8 piece ≡ piece = ap (λ k. first_bytes k piece) (sym long) ∙ first_bytes-all piece in
+    let same : first_bytes 8 behind ≡ piece =
+    sym (ap (first_bytes 8) (take-append-drop 8 behind)) ∙ first_bytes-more 8 piece (drop 8 behind) (omega arith) ∙ whole in
+    ap (λ (bs : List ℕ). field 64 (from_le_bytes w64 bs)) (sym same) ∙ field-word_of behind (λ i. rw (get_or-drop at bytes i 0) (small (at + i)))
+    ∙ ap to_bits same ∙ to_bits-cut bytes at 8 within
 
 -- the bits that are taken from a place on
 module _ (file : List ℕ) (at room count : ℕ) (within : at ≤ 8 * length file) (some : 1 ≤ room) (is : count ≡ min (length file - 8 * (at / 64)) (8 * room)) where

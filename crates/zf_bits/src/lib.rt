@@ -10,7 +10,7 @@ mod slots;
 mod writer;
 
 pub use excerpt::Excerpt;
-pub use packing::{bytes_of_words, put_words_at, word_of_bytes, words_of_bytes};
+pub use packing::{bytes_of_words, put_words_at, word_of_bytes, word_of_bytes_at, words_of_bytes};
 pub use plane::Plane;
 pub use reader::BitReader;
 pub use slots::{get_bits, put_bits};

@@ -19,18 +19,30 @@ pub fn words_of_bytes(alloc: Global, bytes: &[u8]) -> Result<Vec<u64>, AllocErro
 {
     let mut words = Vec::with_capacity(alloc, bytes.len().div_ceil(8))?;
     for piece in bytes.chunks(8) {
-        words.push(word(piece))?;
+        words.push(word_of_bytes(piece))?;
     }
     Ok(words)
 }
 
+/// The word of at most 8 bytes, the least significant first. Where there are fewer, the others are zeros.
+#[inline]
+pub fn word_of_bytes(bytes: &[u8]) -> u64
+    requires { length bytes.now ≤ 8 }
+    ensures { result ≡ word_of bytes.now }
+{
+    let mut all = [0; 8];
+    all[..bytes.len()].copy_from_slice(bytes);
+    u64::from_le_bytes(all)
+}
+
 /// The word of the 8 bytes from byte `at` on, the least significant first.
 #[inline]
-pub fn word_of_bytes(bytes: &[u8], at: usize) -> u64
+pub fn word_of_bytes_at(bytes: &[u8], at: usize) -> u64
     requires { at + 8 ≤ length bytes.now }
     ensures { field 64 result ≡ take 64 (drop (8 * at) (to_bits bytes.now)) }
 {
-    word(&bytes[at..at + 8])
+    let b = &bytes[at..at + 8];
+    u64::from_le_bytes([b[0], b[1], b[2], b[3], b[4], b[5], b[6], b[7]])
 }
 
 /// Puts the bits of a file into words, from the word on in which bit `at` lies, as many as there is room for;
@@ -69,22 +81,11 @@ fn put_words(bytes: &[u8], words: &mut [u64])
 {
     let whole = bytes.len() / 8;
     for i in 0..whole {
-        words[i] = word(&bytes[8 * i..8 * i + 8]);
+        words[i] = word_of_bytes(&bytes[8 * i..8 * i + 8]);
     }
     if whole < words.len() {
-        words[whole] = word(&bytes[8 * whole..]);
+        words[whole] = word_of_bytes(&bytes[8 * whole..]);
     }
-}
-
-// The word of at most 8 bytes.
-#[inline]
-fn word(bytes: &[u8]) -> u64
-    requires { length bytes.now ≤ 8 }
-    ensures { result ≡ word_of bytes.now }
-{
-    let mut whole = [0; 8];
-    whole[..bytes.len()].copy_from_slice(bytes);
-    u64::from_le_bytes(whole)
 }
 
 /// The bytes of words, the least significant byte of each word first. `AllocError`: there was no memory.

@@ -14,7 +14,7 @@ use crate::header::{
     MAX_SHORT_RATE, Mode, OWN_CODEC, REVERSIBLE, SHORT_HEADER_BYTES, codec, header_len,
 };
 use zf_base::{Shape, Ty};
-use zf_bits::word_of_bytes;
+use zf_bits::word_of_bytes_at;
 
 /// The header that the bytes begin with and its length in bits, 96 or 148; or the first fault, field by
 /// field.
@@ -168,5 +168,5 @@ fn number_at(bytes: &[u8], at: u32, n: u32) -> u64
 {
     let first = (at as usize / 8).min(bytes.len() - 8);
     let shift = at - 8 * first as u32;
-    (word_of_bytes(bytes, first) >> shift) % (1 << n)
+    (word_of_bytes_at(bytes, first) >> shift) % (1 << n)
 }

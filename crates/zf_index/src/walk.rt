@@ -1,8 +1,7 @@
 //! The walk over the codes of a stream.
 
-ghost use Rattle.std.specs.Prelude.{◌≡◌, ◌-◌, ◌*◌, ◌%◌, ◌<◌, ◌≤◌, ◌^◌, length, take, drop, Err, IfOk, IfErr, OnOk, IfSome, IfNone};
+ghost use Rattle.std.specs.Prelude.{◌≡◌, ◌*◌, ◌<◌, ◌≤◌, ◌^◌, length, Err, IfOk, IfErr, OnOk, IfSome, IfNone};
 ghost use Rattle.zf_spec.specs.Grid.{blocks};
-ghost use Rattle.zf_spec.specs.Numbers.{word_bits};
 ghost use Rattle.zf_spec.specs.Stream.{to_bits};
 ghost use Rattle.zf_base.specs.Widths.{width_of};
 ghost use Rattle.zf_bits.specs.Reader.{rest};
@@ -17,7 +16,7 @@ ghost use Rattle.zf_index.specs.Walks.{IsWalked, HasFault, HasCode};
 use crate::IndexFault;
 use std::alloc::Global;
 use zf_base::{Lane, Ty, block_len};
-use zf_bits::{BitReader, Excerpt, put_words_at};
+use zf_bits::{BitReader, Excerpt};
 use zf_header::Header;
 use zf_parse::{StreamFault, longest_code};
 
@@ -62,26 +61,7 @@ pub(crate) fn check_rate(h: &Header, rate: u32, file: &[u8], start: u64) -> Resu
     }
     let end = start + h.shape.blocks() * rate;
     let mut words = [0; 2];
-    let bits = put_end(file, end, &mut words);
-    let mut reader = BitReader::new(&words, bits);
-    reader.seek(end % 64);
-    check_fill(h, &mut reader)
-}
-
-/// Puts the bits of a file into two words, from the word on in which bit `at` lies; how many there are.
-fn put_end(file: &[u8], at: u64, words: &mut [u64]) -> u64
-    requires within { at ≤ 8 * length file.now }
-    requires two { length words.old ≡ 2 }
-    ensures seen { drop (at % 64) (take result (word_bits words.new))
-        ≡ take (128 - at % 64) (drop at (to_bits file.now)) }
-    ensures within { result ≤ 128 }
-    ensures place { at % 64 ≤ result }
-    ensures two { length words.new ≡ 2 }
-{
-    let first = 8 * (at / 64) as usize;
-    let count = (file.len() - first).min(16);
-    put_words_at(&file[first..first + count], words, 0);
-    8 * count as u64
+    check_fill(h, &mut BitReader::of_file(file, end, &mut words))
 }
 
 /// How many bits the code of each block has, of values of this type, from bit `start` of the file on.

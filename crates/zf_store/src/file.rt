@@ -16,7 +16,7 @@ ghost use Rattle.zf_store.specs.Words.{all_bits, IsWholeFile};
 use crate::StoreFault;
 use crate::words::{joined_word, move_to_front};
 use std::alloc::{AllocError, Global};
-use zf_bits::{get_bits, word_of_bytes, words_of_bytes};
+use zf_bits::{get_bits, word_of_bytes_at, words_of_bytes};
 use zf_header::{Header, Mode, header_len, rate_bytes};
 
 /// The bits of each block.
@@ -94,7 +94,7 @@ fn has_one_in_fill(h: &Header, file: &[u8]) -> bool
 {
     let whole = rate_bytes(h);
     let fill = 8 * whole - u64::from(header_len(h)) - code_bits(h);
-    let last = [word_of_bytes(file, whole as usize - 8)];
+    let last = [word_of_bytes_at(file, whole as usize - 8)];
     get_bits(&last, 64 - fill, fill as u32) != 0
 }
 

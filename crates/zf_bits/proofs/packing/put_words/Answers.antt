@@ -17,11 +17,11 @@ returns-then-whole-words c =
     let bytes = c.args.bytes.now in
     let words = c.loop-i.words in
     let whole = length bytes / 8 in
-    let v = c.word-then-whole-words.result in
+    let v = c.word_of_bytes-then-whole-words.result in
     let all : c.loop-i.i ≡ whole = omega (arith, c.loop-i-test.false, c.loop-i.auto.i-end) in
     let count : whole + 1 ≡ length c.args.words.now = omega (arith, c.if-whole-words.true, c.loop-i.auto.words, c.requires.no_more) in
     let So : ℕ → Type 0 = λ n. take n words ≡ words_from n bytes in
-    let word : v ≡ word_of (drop (8 * whole) bytes) = c.word-then-whole-words.ensures ∙ ap word_of (take_rest bytes (8 * whole)) in
+    let word : v ≡ word_of (drop (8 * whole) bytes) = c.word_of_bytes-then-whole-words.ensures ∙ ap word_of (take_rest bytes (8 * whole)) in
     sym (take_all (whole + 1) (set words whole v) (omega (arith, length-set words whole v, count, c.loop-i.auto.words)))
     ∙ one_more words bytes whole v (omega (arith, count, c.loop-i.auto.words)) (subst So all c.loop-i.invariant) word
     ∙ ap (λ n. words_from n bytes) count

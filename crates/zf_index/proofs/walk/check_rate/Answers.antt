@@ -1,10 +1,8 @@
 use Rattle.std.proofs.Common.{◌≡◌, refl, sym, ap, subst, ◌∙◌, inl, ℕ, ◌+◌, ◌-◌, ◌*◌, ◌/◌, ◌%◌, ◌^◌, ◌<◌, ◌≤◌, Bool, Err, List, length, take, drop, length-drop, arith}
 use Rattle.std.proofs.Math.Nat.{div-lt_iff_lt-mul, le-div_iff_mul-le}
-use Rattle.std.proofs.lemmas.List.{length-take-le}
 use Rattle.std.proofs.lemmas.Result.{IfOk-weaker, IfErr-weaker}
-use Rattle.zf_spec.{specs.Grid.{blocks}, specs.Numbers.{word_bits}, specs.Stream.{to_bits}}
-use Rattle.zf_spec.{proofs.Bytes.{length-to_bits}, proofs.WordBits.{length-word_bits}}
-use Rattle.zf_bits.specs.Reader.{Reader, rest}
+use Rattle.zf_spec.{specs.Grid.{blocks}, specs.Stream.{to_bits}, proofs.Bytes.{length-to_bits}}
+use Rattle.zf_bits.specs.Reader.{Reader}
 use Rattle.zf_header.{specs.declared.header.Header.{Header}, specs.HeaderBits.{IsMode}}
 use Rattle.zf_header.specs.declared.header.Mode.TheVariants.{Rate}
 use Rattle.zf_parse.specs.ReadStreams.{BeginsWithHeader}
@@ -33,13 +31,6 @@ returns-then-whole-blocks-clause-fault c =
     fault_is file h start c.requires.begun all (Truncated whole) refl refl
     (inl (behind_err h (length s) left (faults.Truncated whole) (ap (codes_answer h (length s)) (read_codes-cut h rate 0 (blocks h.shape) left c.requires.rate some cut ∙ ap (λ (k : ℕ). Err k) first))))
 
-pub seek-requires : goal.seek-requires
-seek-requires c =
-    let end = c.put_end-bits in
-    let words = end.new.words in
-    let held = length-take-le end.result (word_bits words) (omega (arith, length-word_bits words, end.ensures.within, end.ensures.two)) in
-    omega (arith, ap (λ (r : Reader). length r.all) c.new-reader.ensures, held, end.ensures.place)
-
 -- all codes are there
 enough : (file : List ℕ) (h : Header) (rate start bits : ℕ) → BeginsWithHeader file h start → h.mode ≡ Rate rate → bits ≡ 8 * length file → blocks h.shape ≤ (bits - start) / rate
     → start + blocks h.shape * rate ≤ length (to_bits file)
@@ -47,11 +38,6 @@ enough file h rate start bits begun is all whole =
     let some : 1 ≤ rate = (subst IsMode is (is_header file h (has_header file h start begun)).mode).0 in
     let codes : blocks h.shape * rate ≤ bits - start = (le-div_iff_mul-le some).0 whole in
     omega (arith, length-to_bits file, begun.within)
-
--- a reader that went to a place sees what stands there
-seen_at : (first now : Reader) (bits held : List Bool) (at : ℕ) → first ≡ record { all = held; at = 0 } → now ≡ record first { at = at } → drop at held ≡ bits
-    → (now.at ≡ at) × (rest now ≡ bits)
-seen_at first now bits held at is_first is_now is = (ap (λ (r : Reader). r.at) is_now, ap rest is_now ∙ ap (λ (r : Reader). drop at r.all) is_first ∙ is)
 
 pub returns-clause-ok : goal.returns-clause-ok
 returns-clause-ok c =
@@ -68,10 +54,10 @@ returns-clause-ok c =
     let whole : blocks h.shape ≤ (c.in-Some.bits - start) / rate =
     omega (arith, c.if-whole-blocks.false, c.blocks-2.ensures.value, ap (λ k. (c.in-Some.bits - start) / k) c.from-rate.ensures) in
     let all = enough file h rate start c.in-Some.bits c.requires.begun c.requires.rate (omega (arith, c.in-Some.ensures)) whole in
-    let there = seen_at c.new-reader.result c.seek.new.self (take (128 - end % 64) (drop end s)) (take c.put_end-bits.result (word_bits c.put_end-bits.new.words)) (end % 64) c.new-reader.ensures c.seek.ensures c.put_end-bits.ensures.seen in
+    let seen = c.of_file.ensures in
     IfOk-weaker c.check_fill.result _ (λ _. IsIndexOf file h i)
     (λ u good. index_is file h start c.requires.begun i.lens few
-    (even_walked h rate start s c.requires.rate all c.seek.new.self end (128 - end % 64) end_is there.0 there.1 (omega arith) good))
+    (even_walked h rate start s c.requires.rate all c.of_file.result end (128 - end % 64) end_is seen.place seen.bits (omega arith) good))
     c.check_fill.ensures.ok
 
 pub returns-clause-fault : goal.returns-clause-fault
@@ -87,8 +73,8 @@ returns-clause-fault c =
     let whole : blocks h.shape ≤ (c.in-Some.bits - start) / rate =
     omega (arith, c.if-whole-blocks.false, c.blocks-2.ensures.value, ap (λ k. (c.in-Some.bits - start) / k) c.from-rate.ensures) in
     let all = enough file h rate start c.in-Some.bits c.requires.begun c.requires.rate (omega (arith, c.in-Some.ensures)) whole in
-    let there = seen_at c.new-reader.result c.seek.new.self (take (128 - end % 64) (drop end s)) (take c.put_end-bits.result (word_bits c.put_end-bits.new.words)) (end % 64) c.new-reader.ensures c.seek.ensures c.put_end-bits.ensures.seen in
+    let seen = c.of_file.ensures in
     IfErr-weaker c.check_fill.result _ _
     (λ e bad. fault_is file h start c.requires.begun (record { all = s; at = start }) e refl refl
-    (inl (even_fault h rate start s c.requires.rate all c.seek.new.self end (128 - end % 64) end_is there.0 there.1 (omega arith) (stream_fault e) bad)))
+    (inl (even_fault h rate start s c.requires.rate all c.of_file.result end (128 - end % 64) end_is seen.place seen.bits (omega arith) (stream_fault e) bad)))
     c.check_fill.ensures.err
