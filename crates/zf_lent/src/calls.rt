@@ -1,6 +1,5 @@
 //! Raw values to their stream and back, from bytes that are lent into bytes that are lent.
 
-ghost use Rattle.std.specs.Prelude.{◌≡◌};
 ghost use Rattle.zf_header.specs.HeaderBits.{IsMode};
 ghost use Rattle.zf_parse.specs.Raw.{stream_text, compress_answer};
 ghost use Rattle.zf_parse.specs.Parsing.{restore_answer, restored_text};
@@ -8,11 +7,9 @@ ghost use Rattle.zf_parse.specs.declared.fault.StreamFault.TheVariants.{Memory};
 ghost use Rattle.zf_stream.specs.Outcomes.{IsBeforeWriting};
 ghost use Rattle.zf_lent.specs.Lent.{Lent};
 
-use crate::begun::Begun;
 use crate::slice_sink::SliceSink;
 use crate::slice_source::SliceSource;
 use std::alloc::Global;
-use std::marker::Brand;
 use zf_header::Header;
 use zf_stream::{StreamFault, most_bytes};
 
@@ -32,24 +29,10 @@ pub fn compress_into(
     ensures { Lent (compress_answer h.now) (stream_text h.now) Memory IsBeforeWriting result
         raw.now out.old out.new }
 {
-    compress_begun::<Brand>(alloc, h, raw, out)
-}
-
-fn compress_begun<K: Begun>(
-    alloc: Global,
-    h: &Header,
-    raw: &[u8],
-    out: &mut [u8],
-) -> Result<u64, StreamFault>
-    requires start { K.bytes ≡ out.old }
-    requires mode { IsMode h.now.mode }
-    ensures { Lent (compress_answer h.now) (stream_text h.now) Memory IsBeforeWriting result
-        raw.now out.old out.new }
-{
     // Known by this call: a stream has fewer bytes than a `u64` counts.
     let _most = most_bytes(h);
     let mut source = SliceSource::new(raw);
-    let mut sink = SliceSink::<K>::new(out);
+    let mut sink = SliceSink::new(out);
     zf_stream::compress(alloc, h, &mut source, &mut sink)?;
     Ok(sink.len)
 }
@@ -62,15 +45,8 @@ fn compress_begun<K: Begun>(
 pub fn restore_into(alloc: Global, stream: &[u8], out: &mut [u8]) -> Result<u64, StreamFault>
     ensures { Lent restore_answer restored_text Memory IsBeforeWriting result stream.now out.old out.new }
 {
-    restore_begun::<Brand>(alloc, stream, out)
-}
-
-fn restore_begun<K: Begun>(alloc: Global, stream: &[u8], out: &mut [u8]) -> Result<u64, StreamFault>
-    requires { K.bytes ≡ out.old }
-    ensures { Lent restore_answer restored_text Memory IsBeforeWriting result stream.now out.old out.new }
-{
     let mut source = SliceSource::new(stream);
-    let mut sink = SliceSink::<K>::new(out);
+    let mut sink = SliceSink::new(out);
     zf_stream::restore(alloc, &mut source, &mut sink)?;
     Ok(sink.len)
 }

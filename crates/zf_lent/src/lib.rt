@@ -1,7 +1,6 @@
 //! Raw values to their stream and back, in bytes that a caller lends: nothing is copied but what passes.
 #![tactic(auto)]
 
-mod begun;
 mod calls;
 mod narrow;
 mod slice_sink;

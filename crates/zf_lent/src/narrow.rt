@@ -10,11 +10,9 @@ ghost use Rattle.zf_parse.specs.declared.fault.StreamFault.TheVariants.{Memory};
 ghost use Rattle.zf_stream.specs.Outcomes as outcomes;
 ghost use Rattle.zf_lent.specs.Lent.{Lent};
 
-use crate::begun::Begun;
 use crate::slice_sink::SliceSink;
 use crate::slice_source::SliceSource;
 use std::alloc::Global;
-use std::marker::Brand;
 use zf_header::Header;
 use zf_narrow::{Narrow, NarrowFault};
 use zf_stream::{StreamFault, most_bytes};
@@ -32,26 +30,10 @@ pub fn compress_narrow_into(
     ensures { Lent (compress_narrow_answer n h.now) (narrow_text n h.now) Memory outcomes.IsBeforeWriting result
         raw.now out.old out.new }
 {
-    compress_begun::<Brand>(alloc, n, h, raw, out)
-}
-
-fn compress_begun<K: Begun>(
-    alloc: Global,
-    n: Narrow,
-    h: &Header,
-    raw: &[u8],
-    out: &mut [u8],
-) -> Result<u64, StreamFault>
-    requires start { K.bytes ≡ out.old }
-    requires mode { IsMode h.now.mode }
-    requires int32 { h.now.ty ≡ types.I32 }
-    ensures { Lent (compress_narrow_answer n h.now) (narrow_text n h.now) Memory outcomes.IsBeforeWriting result
-        raw.now out.old out.new }
-{
     // Known by this call: a stream has fewer bytes than a `u64` counts.
     let _most = most_bytes(h);
     let mut source = SliceSource::new(raw);
-    let mut sink = SliceSink::<K>::new(out);
+    let mut sink = SliceSink::new(out);
     zf_narrow::compress_narrow(alloc, n, h, &mut source, &mut sink)?;
     Ok(sink.len)
 }
@@ -67,21 +49,8 @@ pub fn restore_narrow_into(
     ensures { Lent restore_narrow_answer (narrow_restored n) (narrow_faults.Stream Memory) IsBeforeWriting
         result stream.now out.old out.new }
 {
-    restore_begun::<Brand>(alloc, n, stream, out)
-}
-
-fn restore_begun<K: Begun>(
-    alloc: Global,
-    n: Narrow,
-    stream: &[u8],
-    out: &mut [u8],
-) -> Result<u64, NarrowFault>
-    requires { K.bytes ≡ out.old }
-    ensures { Lent restore_narrow_answer (narrow_restored n) (narrow_faults.Stream Memory) IsBeforeWriting
-        result stream.now out.old out.new }
-{
     let mut source = SliceSource::new(stream);
-    let mut sink = SliceSink::<K>::new(out);
+    let mut sink = SliceSink::new(out);
     zf_narrow::restore_narrow(alloc, n, &mut source, &mut sink)?;
     Ok(sink.len)
 }

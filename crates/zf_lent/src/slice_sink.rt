@@ -4,49 +4,49 @@ ghost use Rattle.std.specs.Prelude.{◌≡◌, ℕ, ◌<◌, ◌≤◌, ◌-◌,
 ghost use Rattle.zf_dev.specs.Logs.{noted};
 ghost use Rattle.zf_lent.specs.Over.{over};
 
-use crate::begun::Begun;
-use std::marker::PhantomData;
 use zf_dev::{Failed, Log, Sink};
 
 /// Writes into bytes that are lent, from the first one on. It never fails: what there is no room for is
 /// counted, and lost.
 #[derive(Drop)]
-pub(crate) struct SliceSink<'a, K: Begun> {
+pub(crate) struct SliceSink<'a> {
     room: &'a mut [u8],
     /// How many bytes were written. It stands still at the last value of a `u64`.
     pub(crate) len: u64,
+    before: Log,
     written: Log,
-    begun: PhantomData<K>,
     ghost count: { len ≡ min (length (noted written)) (2 ^ 64 - 1) },
-    ghost lies: { room.now ≡ over (noted written) K.bytes },
+    ghost lies: { room.now ≡ over (noted written) (noted before) },
 }
 
-impl<'a, K: Begun> SliceSink<'a, K> {
-    /// Writes into these.
-    pub(crate) fn new(room: &'a mut [u8]) -> SliceSink<'a, K>
-        requires { K.bytes ≡ room.old }
+impl<'a> SliceSink<'a> {
+    /// Writes into these. That they are as they were is noted, for proofs alone.
+    pub(crate) fn new(room: &'a mut [u8]) -> SliceSink<'a>
+        ensures before { noted result.before ≡ room.old }
         ensures written { noted result.written ≡ [] }
         ensures same { result.room.ghost_name ≡ room.entry.ghost_name }
     {
+        let mut before = Log::new();
+        before.note(&[], room);
         SliceSink {
             room,
             len: 0,
+            before,
             written: Log::new(),
-            begun: PhantomData,
         }
     }
 }
 
-impl<'a, K: Begun> Sink for SliceSink<'a, K> {
+impl<'a> Sink for SliceSink<'a> {
     ghost use base.Fml.{GName};
 
-    ghost Kept = { GName };
+    ghost Kept = { GName × List ℕ };
 
     ghost contents = { λ s. Some (noted s.written) };
 
     ghost faults = { λ _. 0 };
 
-    ghost kept = { λ s. s.room.ghost_name };
+    ghost kept = { λ s. (s.room.ghost_name, noted s.before) };
 
     fn write(&mut self, bytes: &[u8]) -> Result<usize, Failed> {
         let at = self.len.min(self.room.len() as u64) as usize;
