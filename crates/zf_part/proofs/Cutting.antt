@@ -1,5 +1,5 @@
 -- One value more of a window.
-use Rattle.std.proofs.Common.{◌≡◌, ◌≢◌, ◌⊎◌, inl, inr, sym, ap, subst, ◌∙◌, ⊎_elim, ℕ, suc, ◌+◌, ◌-◌, ◌*◌, ◌^◌, ◌<◌, ◌≤◌, ℤ, pos, true, List, ◌++◌, Result, Ok, Option, Some, None, OnSome, map, length, take, drop, get_or, set, get_or-set_other, get_or-set_same, length-drop, take-take, suc-mul, arith}
+use Rattle.std.proofs.Common.{◌≡◌, ◌≢◌, ◌⊎◌, inl, inr, sym, ap, subst, ◌∙◌, ⊎_elim, ℕ, suc, ◌+◌, ◌-◌, ◌*◌, ◌^◌, ◌<◌, ◌≤◌, ℤ, pos, true, List, ◌++◌, Result, Ok, Option, Some, None, map, length, take, drop, get_or, set, get_or-set_other, get_or-set_same, length-drop, take-take, suc-mul, arith}
 use borrow.Rule.Slice.PartMut.{put_mid}
 use Rattle.std.{proofs.lemmas.Bool.{cases_lt, cases_eq}, proofs.lemmas.List.{length-set, get_or-take, get_or-drop, take-map, drop-map, length-map, map-set, length-take-le, drop_at, take_at, take-append-le, drop-append-le, drop-drop, drop-take}}
 use Rattle.std.{proofs.Math.Nat.{mul-le-mul_right}, proofs.Math.Seq.{drop-append-add}}
@@ -12,7 +12,7 @@ use Rattle.zf_header.specs.declared.header.Header.{Header}
 use Rattle.zf_parse.{specs.Parsing.{Said, parse}, specs.declared.fault.StreamFault.{StreamFault}}
 use Rattle.zf_part.specs.Blocks.{IsBlockOf}
 use Rattle.zf_part.specs.Windows.{AreThere, AreAllThere, AreHeld, IsWindowOf, line_of}
-use Rattle.zf_part.{specs.Readings.{AreRight}, specs.declared.places.Places.{Places}, proofs.Spans.{right_said}}
+use Rattle.zf_part.{specs.Readings.{Reading, IsFound}, proofs.Spans.{right_said}}
 
 same_said : (a b : Said) → ◌≡◌ {A = Result Said StreamFault} (Ok a) (Ok b) → a ≡ b
 same_said a b e = cc
@@ -166,9 +166,11 @@ pub value_line : {X : Type 0} (value : X → ℤ) (size k : ℕ) (lines : List X
 value_line value size k lines = sym (take-map value size (drop (k * size) lines)) ∙ ap (take size) (sym (drop-map value (k * size) lines))
 
 -- the window, where the places are right and the stream is good therefore
-pub window_is : (bytes : List ℕ) (h : Header) (w : Window) (p : Places) (found : List ℤ) (o : Option (Unit {0})) → length found ≡ product w.size → OnSome o (AreRight bytes h p → AreAllThere bytes h w found)
-    → OnSome o (AreRight bytes h p → IsWindowOf bytes h w found)
-window_is bytes h w p found None count there = tt
-window_is bytes h w p found (Some done) count there = λ right.
-    let is = right_said bytes h p right in
-    record { said = is.0; parsed = is.1; count = count; there = there right is.0 is.1 }
+pub window_is : (r : Reading) (w : Window) (found : List ℤ) (o : Option (Unit {0})) → length found ≡ product w.size → IsFound r o (AreAllThere r.bytes r.header w found) → IsFound r o (IsWindowOf r.bytes r.header w found)
+window_is r w found None count is = record { some = tt; none = is.none }
+window_is r w found (Some done) count is = record {
+  some = λ right.
+      let said = right_said r.bytes r.header r.places right in
+      record { said = said.0; parsed = said.1; count = count; there = is.some right said.0 said.1 };
+  none = tt;
+}

@@ -10,7 +10,7 @@ use Rattle.zf_parse.{specs.Parsing.{Said, parse, read_code, longest_code, values
 use Rattle.zf_parse.proofs.Excerpts.{cut_told}
 use Rattle.zf_index.{specs.Spans.{Index, place, len_at, codes_in}, proofs.Places.{place-le, ends_within}, proofs.Read.{read_parts}}
 use Rattle.zf_index.specs.Files.{IsIndexOf, found, block_read, len_read, blocks_found}
-use Rattle.zf_part.{specs.Blocks.{IsBlockOf, code_place}, specs.Readings.{place_in, AreRight}}
+use Rattle.zf_part.{specs.Blocks.{IsBlockOf, code_place}, specs.Readings.{place_in, AreRight, IsFound}}
 use Rattle.zf_part.{specs.declared.places.Places.{Places}, specs.declared.places.Places.TheVariants.{Own, Lent}}
 
 nothing : {A : Type 0} {a : A} → None ≡ Some a → ⊥
@@ -86,23 +86,21 @@ module _ (bytes : List ℕ) (h : Header) (b : ℕ) (below : b < blocks h.shape) 
   pub right_within : AreRight bytes h p → at ≤ length (to_bits bytes)
   right_within right = let it = here right in omega (arith, it.at_is, within bytes h it.index it.is b below)
 
-  module _ (r : Reader) (m : ℕ) (enough : longest_code h ≤ m) (left : rest r ≡ take m (drop at (to_bits bytes))) (w : Width) (same : w ≡ width_of h.ty) (o : Option (Unit {0})) where
+  module _ (r : Reader) (m : ℕ) (enough : longest_code h ≤ m) (left : rest r ≡ take m (drop at (to_bits bytes))) (w : Width) (same : w ≡ width_of h.ty) where
     left_there : (right : AreRight bytes h p) → rest r ≡ take m (drop (place (here right).index b) (to_bits bytes))
     left_there right = left ∙ ap (λ k. take m (drop k (to_bits bytes))) (here right).at_is
 
-    pub right_none : IfNone o (LacksCode w h.mode (length h.shape) r) → IfNone o (AreRight bytes h p → ⊥)
-    right_none lacks = by o lacks
-      where
-        by : (o : Option (Unit {0})) → IfNone o (LacksCode w h.mode (length h.shape) r) → IfNone o (AreRight bytes h p → ⊥)
-        by None lacks = λ right. not_none bytes h (here right).index (here right).is b below r m enough (left_there right) w same lacks
-        by (Some done) lacks = tt
-
-    pub right_block : (new : Reader) (block : List ℤ) → OnSome o (ReadsCode w h.mode (length h.shape) r new block) → OnSome o (AreRight bytes h p → IsBlockOf bytes h b block)
-    right_block new block reads = by o reads
-      where
-        by : (o : Option (Unit {0})) → OnSome o (ReadsCode w h.mode (length h.shape) r new block) → OnSome o (AreRight bytes h p → IsBlockOf bytes h b block)
-        by None reads = tt
-        by (Some done) reads = λ right. block_is bytes h (here right).index (here right).is b below r m enough (left_there right) w same new block reads
+    -- the block was read, or the places are not right
+    pub found_there : (o : Option (Unit {0})) (new : Reader) (block : List ℤ) → OnSome o (ReadsCode w h.mode (length h.shape) r new block) → IfNone o (LacksCode w h.mode (length h.shape) r)
+        → IsFound (record { header = h; bytes = bytes; places = p }) o (IsBlockOf bytes h b block)
+    found_there None new block reads lacks = record {
+      some = tt;
+      none = λ right. not_none bytes h (here right).index (here right).is b below r m enough (left_there right) w same lacks;
+    }
+    found_there (Some done) new block reads lacks = record {
+      some = λ right. block_is bytes h (here right).index (here right).is b below r m enough (left_there right) w same new block reads;
+      none = tt;
+    }
 
 -- ---- at a rate
 

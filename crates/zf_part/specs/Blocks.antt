@@ -1,6 +1,7 @@
 -- A block of a stream: what its values are, and what a write leaves.
 use Rattle.std.specs.Prelude.{ℕ, ◌≡◌, ◌≢◌, ◌<◌, ◌+◌, ◌*◌, ◌^◌, ℤ, pos, Bool, true, List, ◌++◌, length, take, drop}
 use Rattle.std.specs.Prelude.{slice_index_or, slice_set, Ok}
+use Rattle.std.specs.Int.{Width}
 use Rattle.zf_spec.specs.Grid.{raster, is_inside, extent_of}
 use Rattle.zf_spec.specs.Stream.{to_bits}
 use Rattle.zf_spec.specs.Codes.{existing_values, rate, round}
@@ -9,6 +10,12 @@ use Rattle.zf_base.specs.Places.{block_number, place_of}
 use Rattle.zf_header.specs.declared.header.Header.{Header}
 use Rattle.zf_header.specs.HeaderBits.{header_bits, block_bits}
 use Rattle.zf_parse.specs.Parsing.{Said, parse}
+use Rattle.zf_index.specs.Files.{HasHeader}
+
+-- bytes begin with this header, and their values have this width
+pub record Holds (w : Width) (bytes : List ℕ) (h : Header) : Type 0 where
+  pub header : HasHeader bytes h
+  pub same_type : w ≡ width_of h.ty
 
 -- these are positions of an array of this shape
 pub record IsPosition (ns ps : List ℕ) : Type 0 where

@@ -5,6 +5,7 @@ use Rattle.zf_cached.specs.Windows.{Window, mapped}
 use Rattle.zf_header.specs.declared.header.Header.{Header}
 use Rattle.zf_parse.specs.Parsing.{Said, parse}
 use Rattle.zf_part.specs.Blocks.{IsBlockOf, value_in}
+use Rattle.zf_part.specs.Readings.{Reading, IsRight, HasRoom}
 
 -- the first n values of a window, in raster order, are those that a stream says there
 abbrev pub AreThere : Header → Window → Said → List ℤ → ℕ → Type 0
@@ -30,3 +31,10 @@ line_of h l lines = take (4 ^ length h.shape) (drop (l * 4 ^ length h.shape) lin
 abbrev pub AreHeld : {X : Type 0} → (X → ℤ) → List ℕ → Header → List ℕ → List X → Type 0
 AreHeld value bytes h held lines = (l : ℕ) → l < length held → slice_index_or held l 0 < blocks h.shape
     → IsBlockOf bytes h (slice_index_or held l 0) (map value (line_of h l lines))
+
+-- a line at least, room in each for a block, words for the longest code, and what is held is the stream's
+pub record HasLines {X : Type 0} (value : X → ℤ) (r : Reading) (held : List ℕ) (lines : List X) (words : List ℕ) : Type 0 where
+  pub some : 0 < length held
+  pub values : length lines ≡ length held * 4 ^ length r.header.shape
+  pub room : HasRoom r.header words
+  pub known : IsRight r → AreHeld value r.bytes r.header held lines

@@ -1,28 +1,25 @@
 //! Blocks of a stream.
 
 ghost use Rattle.std.specs.Prelude.{◌≡◌, ◌+◌, ◌<◌, ◌≤◌, ◌*◌, ◌^◌, All, map, length, IfErr, OnOk};
-ghost use Rattle.std.specs.Prelude.{OnSome, IfNone};
 ghost use Rattle.zf_spec.specs.Grid.{blocks};
-ghost use Rattle.zf_base.specs.Widths.{width_of};
 ghost use Rattle.zf_header.specs.HeaderBits.{IsRate};
 ghost use Rattle.zf_parse.specs.Parsing.{parse, longest_code};
 ghost use Rattle.zf_parse.specs.ReadStreams.{IsFault};
-ghost use Rattle.zf_index.specs.Files.{HasHeader, IsIndexOf, stream_fault};
-ghost use Rattle.zf_part.specs.Blocks.{IsBlockOf, AreBlocksOf, IsWritten};
+ghost use Rattle.zf_index.specs.Files.{stream_fault};
+ghost use Rattle.zf_part.specs.Blocks.{Holds, IsBlockOf, AreBlocksOf, IsWritten};
 ghost use Rattle.zf_part.specs.Places.{ArePlacesOf, IsPlaceFault};
-ghost use Rattle.zf_part.specs.Readings.{IsReading, AreRight};
+ghost use Rattle.zf_part.specs.Readings.{IsRight, IsFound, HasRoom};
 
 use crate::places::PlaceFault;
 use crate::put::put_run;
-use crate::reading::{Reading, begin, begin_at, read};
-use crate::words::take_words;
+use crate::reading::Reading;
 use std::alloc::Global;
 use zf_base::{Lane, block_len};
-use zf_bits::{BitReader, BitWriter};
+use zf_bits::BitWriter;
 use zf_block::{Dims, Scratch};
 use zf_header::{Header, Mode};
 use zf_index::{IndexFault, Verbatim};
-use zf_parse::{longest_code, read_code};
+use zf_parse::longest_code;
 
 /// Reads block `b` of a stream that begins with the header `h`. `block` gets `4^d` values, x fastest; those
 /// that do not exist mean nothing.
@@ -35,46 +32,34 @@ pub fn read_block<T: Lane>(
     b: u64,
     block: &mut [T],
 ) -> Result<(), IndexFault>
-    requires header { HasHeader stream.now h.now }
-    requires same_type { T.width ≡ width_of h.now.ty }
+    requires stream { Holds T.width stream.now h.now }
     requires in_array { b < blocks h.now.shape }
     requires whole { length block.old ≡ 4 ^ length h.now.shape }
     ensures block { OnOk result (IsBlockOf stream.now h.now b (map T.value block.new)) }
     ensures fault { IfErr result (λ e. IsFault (parse stream.now) (stream_fault e)) }
 {
-    let index = Verbatim::build(alloc, h, stream)?;
+    let reading = Reading::begin(alloc, h, stream)?;
     // Words for a code of up to 1,024 bits, or for any, behind any place: none are allocated.
     if longest_code::<T>(h) <= 1024 {
-        read_by::<T, 18>(h, stream, &index, b, block);
+        read_by::<T, 18>(&reading, b, block);
     } else {
-        read_by::<T, 514>(h, stream, &index, b, block);
+        read_by::<T, 514>(&reading, b, block);
     }
     Ok(())
 }
 
 // The same by way of so many words. They stand here, so that no call clears more of them than it needs.
 #[inline(never)]
-fn read_by<T: Lane, const N: usize>(
-    h: &Header,
-    stream: &[u8],
-    index: &Verbatim,
-    b: u64,
-    block: &mut [T],
-)
-    requires index { IsIndexOf stream.now h.now index.now }
-    requires same_type { T.width ≡ width_of h.now.ty }
-    requires in_array { b < blocks h.now.shape }
-    requires whole { length block.old ≡ 4 ^ length h.now.shape }
-    requires room { longest_code h.now + 128 ≤ 64 * N }
+fn read_by<T: Lane, const N: usize>(reading: &Reading<'_, T>, b: u64, block: &mut [T])
+    requires right { IsRight reading.now }
+    requires in_array { b < blocks reading.now.header.shape }
+    requires whole { length block.old ≡ 4 ^ length reading.now.header.shape }
+    requires room { longest_code reading.now.header + 128 ≤ 64 * N }
     requires few { N ≤ 1024 }
-    ensures { IsBlockOf stream.now h.now b (map T.value block.new) }
+    ensures { IsBlockOf reading.now.bytes reading.now.header b (map T.value block.new) }
 {
     let mut words = [0; N];
-    let at = index.span(b).at;
-    let bits = take_words(stream, at, &mut words);
-    let mut reader = BitReader::new(&words, bits);
-    reader.seek(at % 64);
-    let Some(()) = read_code(h, &mut reader, block) else {
+    let Some(()) = reading.read(b, &mut words, block) else {
         unreachable!()
     };
 }
@@ -88,15 +73,15 @@ pub fn read_blocks<T: Lane>(
     list: &[u64],
     values: &mut [T],
 ) -> Result<(), IndexFault>
-    requires header { HasHeader stream.now h.now }
-    requires same_type { T.width ≡ width_of h.now.ty }
+    requires stream { Holds T.width stream.now h.now }
     requires in_array { All (λ b. b < blocks h.now.shape) list.now }
     requires whole { length values.old ≡ length list.now * 4 ^ length h.now.shape }
     ensures blocks { OnOk result (AreBlocksOf stream.now h.now list.now (map T.value values.new)) }
     ensures fault { IfErr result (λ e. IsFault (parse stream.now) (stream_fault e)) }
 {
-    let mut reading = begin::<T>(alloc, h, stream)?;
-    let Some(()) = read_all(&mut reading, h, stream, list, values) else {
+    let reading = Reading::begin(alloc, h, stream)?;
+    let mut words = reading.words(alloc)?;
+    let Some(()) = read_all(&reading, list, &mut words, values) else {
         unreachable!()
     };
     Ok(())
@@ -112,16 +97,16 @@ pub fn read_blocks_at<T: Lane>(
     list: &[u64],
     values: &mut [T],
 ) -> Result<(), PlaceFault>
-    requires header { HasHeader stream.now h.now }
-    requires same_type { T.width ≡ width_of h.now.ty }
+    requires stream { Holds T.width stream.now h.now }
     requires in_array { All (λ b. b < blocks h.now.shape) list.now }
     requires whole { length values.old ≡ length list.now * 4 ^ length h.now.shape }
     ensures blocks { OnOk result (ArePlacesOf stream.now h.now places.now
         → AreBlocksOf stream.now h.now list.now (map T.value values.new)) }
     ensures fault { IfErr result (IsPlaceFault stream.now h.now places.now) }
 {
-    let mut reading = begin_at::<T>(alloc, h, places)?;
-    let Some(()) = read_all(&mut reading, h, stream, list, values) else {
+    let reading = Reading::begin_at(h, stream, places)?;
+    let mut words = reading.words(alloc)?;
+    let Some(()) = read_all(&reading, list, &mut words, values) else {
         return Err(PlaceFault::Foreign);
     };
     Ok(())
@@ -129,24 +114,21 @@ pub fn read_blocks_at<T: Lane>(
 
 // The blocks of a list, or `None` where a code is not at its place.
 fn read_all<T: Lane>(
-    reading: &mut Reading<'_>,
-    h: &Header,
-    stream: &[u8],
+    reading: &Reading<'_, T>,
     list: &[u64],
+    words: &mut [u64],
     values: &mut [T],
 ) -> Option<()>
-    requires reading { IsReading h.now reading.old }
-    requires same_type { T.width ≡ width_of h.now.ty }
-    requires in_array { All (λ b. b < blocks h.now.shape) list.now }
-    requires whole { length values.old ≡ length list.now * 4 ^ length h.now.shape }
-    ensures blocks { OnSome result (AreRight stream.now h.now reading.old.places
-        → AreBlocksOf stream.now h.now list.now (map T.value values.new)) }
-    ensures none { IfNone result (AreRight stream.now h.now reading.old.places → ⊥) }
+    requires in_array { All (λ b. b < blocks reading.now.header.shape) list.now }
+    requires room { HasRoom reading.now.header words.old }
+    requires whole { length values.old ≡ length list.now * 4 ^ length reading.now.header.shape }
+    ensures { IsFound reading.now result
+        (AreBlocksOf reading.now.bytes reading.now.header list.now (map T.value values.new)) }
 {
-    let size = block_len(h.shape.dims());
+    let size = block_len(reading.header().shape.dims());
     for k in 0..list.len() {
         let at = k * size;
-        read(reading, h, stream, list[k], &mut values[at..at + size])?;
+        reading.read(list[k], words, &mut values[at..at + size])?;
     }
     Some(())
 }
@@ -160,9 +142,8 @@ pub fn write_block<T: Lane>(
     b: u64,
     block: &[T],
 ) -> Result<(), IndexFault>
-    requires header { HasHeader stream.old h.now }
+    requires stream { Holds T.width stream.old h.now }
     requires rate { IsRate h.now.mode }
-    requires same_type { T.width ≡ width_of h.now.ty }
     requires in_array { b < blocks h.now.shape }
     requires whole { length block.now ≡ 4 ^ length h.now.shape }
     ensures block { OnOk result (IsWritten stream.old stream.new h.now b (map T.value block.now)) }

@@ -7,7 +7,6 @@ mod places;
 mod put;
 mod reading;
 mod window;
-mod words;
 
 pub use block::{read_block, read_blocks, read_blocks_at, write_block};
 pub use places::{PlaceFault, write_places};

@@ -45,8 +45,8 @@ returns-clause-block g c =
     let at : es ≡ extent_of c.args.h.now.shape c.args.b = ap (λ d. used_axes d c.extent-e.result.size) (c.new-d.ensures ∙ c.dims.ensures.value) ∙ c.extent-e.ensures.used_size in
     let is = code_is _ _ _ c.encode_rate.ensures.code.bits (writer_bits _ c.new-code.result c.in_ok-reserve.ensures.bits c.new-code.ensures) in
     let values = map g.T.Lane.value c.args.block.now in
-    let meant = is ∙ code_means c.args.h.now c.args.b values c.in-Rate.bits c.in-Rate.is g.T.Lane.width es c.requires.same_type at in
+    let meant = is ∙ code_means c.args.h.now c.args.b values c.in-Rate.bits c.in-Rate.is g.T.Lane.width es c.requires.stream.same_type at in
     let long : length c.encode_rate.new.out.bits ≡ c.in-Rate.bits = ap length is ∙ length-rate _ c.in-Rate.bits _ _ in
     let put = put_there _ _ _ _ _ _ _ _ c.put_run.ensures.bits (ap (λ (x : Span). x.at) c.span.ensures) c.from-2.ensures c.words.ensures.bits long in
-    says c.args.stream.now c.put_run.new.bytes c.args.h.now c.in_ok-index.index c.in_ok-index.ensures.ok c.requires.header c.in-Rate.bits c.in-Rate.is c.args.b c.requires.in_array
+    says c.args.stream.now c.put_run.new.bytes c.args.h.now c.in_ok-index.index c.in_ok-index.ensures.ok c.requires.stream.header c.in-Rate.bits c.in-Rate.is c.args.b c.requires.in_array
     c.encode_rate.new.out.bits long put values meant c.put_run.ensures.count

@@ -3,7 +3,7 @@ use Rattle.std.proofs.lemmas.List.{length-map}
 use Rattle.zf_part.proofs.Cutting.{window_is}
 use Rattle.zf_part.proofs.window.look.Goals as goal
 
-pub returns-clause-window : goal.returns-clause-window
-returns-clause-window g c =
-    window_is c.args.stream.now c.args.h.now c.args.w.now c.args.reading.now.places (map g.T.Lane.value c.cut.new.out) c.cut.result
+pub returns : goal.returns
+returns g c =
+    window_is c.args.reading.now c.args.w.now (map g.T.Lane.value c.cut.new.out) c.cut.result
     (length-map c.cut.new.out g.T.Lane.value ∙ c.cut.ensures.count ∙ c.requires.size) c.cut.ensures.window

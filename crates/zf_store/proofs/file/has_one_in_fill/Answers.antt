@@ -7,6 +7,10 @@ use Rattle.zf_store.proofs.file.has_one_in_fill.Goals as goal
 pub overflow_mul-fill : goal.overflow_mul-fill
 overflow_mul-fill c = omega (arith, rate_bytes_most c.args.file.now c.args.h.now c.requires.header, c.rate_bytes-whole.ensures)
 
+pub overflow_sub-whole : goal.overflow_sub-whole
+overflow_sub-whole c =
+    omega (arith, header_least c.args.file.now c.args.h.now c.requires.header, c.rate_bytes-whole.ensures)
+
 pub word_of_bytes_at-requires : goal.word_of_bytes_at-requires
 word_of_bytes_at-requires c =
     omega (arith, header_least c.args.file.now c.args.h.now c.requires.header, c.rate_bytes-whole.ensures, c.requires.enough)
