@@ -39,8 +39,8 @@ impl<'a> BitReader<'a> {
         BitReader { words, bits, at: 0 }
     }
 
-    /// A reader of the bits of a file from bit `at` on, as many as there is room for in the words that they are
-    /// put into.
+    /// A reader of the bits of a file from bit `at` on, as many as there is room for in these words, which
+    /// they are put into.
     pub fn of_file(file: &[u8], at: u64, words: &'a mut [u64]) -> BitReader<'a>
         requires within { at ≤ 8 * length file.now }
         requires some { 1 ≤ length words.old }

@@ -33,7 +33,8 @@ AreHeld value bytes h held lines = (l : ℕ) → l < length held → slice_index
     → IsBlockOf bytes h (slice_index_or held l 0) (map value (line_of h l lines))
 
 -- a line at least, room in each for a block, words for the longest code, and what is held is the stream's
-pub record HasLines {X : Type 0} (value : X → ℤ) (r : Reading) (held : List ℕ) (lines : List X) (words : List ℕ) : Type 0 where
+pub record HasLines {X : Type 0} (value : X → ℤ) (r : Reading) (held : List ℕ) (lines : List X)
+    (words : List ℕ) : Type 0 where
   pub some : 0 < length held
   pub values : length lines ≡ length held * 4 ^ length r.header.shape
   pub room : HasRoom r.header words

@@ -57,7 +57,7 @@ impl<'a, T: Lane> Reading<'a, T> {
         })
     }
 
-    /// Makes ready to read blocks over these places, right or not. `Foreign`: there is not one for each block.
+    /// Makes ready to read blocks over these places, right or not. `Foreign`: not each block has one.
     pub(crate) fn begin_at(
         h: &'a Header,
         stream: &'a [u8],
@@ -92,12 +92,13 @@ impl<'a, T: Lane> Reading<'a, T> {
         vec![in alloc; 0; longest_code::<T>(self.h).div_ceil(64) as usize + 2]
     }
 
-    /// Reads block `b` by way of words, or answers `None` where its code is not at its place, as there is none.
+    /// Reads block `b` by way of words, or answers `None` where its code is not at its place.
     pub(crate) fn read(&self, b: u64, words: &mut [u64], block: &mut [T]) -> Option<()>
         requires in_array { b < blocks self.now.header.shape }
         requires room { HasRoom self.now.header words.old }
         requires whole { length block.old ≡ 4 ^ length self.now.header.shape }
-        ensures found { IsFound self.now result (IsBlockOf self.now.bytes self.now.header b (map T.value block.new)) }
+        ensures found { IsFound self.now result
+            (IsBlockOf self.now.bytes self.now.header b (map T.value block.new)) }
         ensures whole { length block.new ≡ length block.old }
     {
         let at = self.places.at(b);

@@ -131,7 +131,8 @@ fn load<T: Lane>(
     requires lines { HasLines T.value reading.now held.old lines.old words.old }
     ensures lines { OnSome result (HasLines T.value reading.now held.new lines.new words.new) }
     ensures within { IfSome result (λ at. at + 4 ^ length reading.now.header.shape ≤ length lines.new) }
-    ensures block { IfSome result (λ at. IsRight reading.now → IsBlockOf reading.now.bytes reading.now.header b
+    ensures block { IfSome result (λ at. IsRight reading.now
+        → IsBlockOf reading.now.bytes reading.now.header b
         (map T.value (take (4 ^ length reading.now.header.shape) (drop at lines.new)))) }
     ensures none { IfNone result (IsRight reading.now → ⊥) }
 {
