@@ -1,6 +1,6 @@
 //! From raw values to a stream.
 
-ghost use Rattle.std.specs.Prelude.{◌≡◌, true, ◌<◌, ◌*◌, ◌+◌, ◌^◌, length, IfErr, OnOk, OnErr, Err};
+ghost use Rattle.std.specs.Prelude.{◌≡◌, true, ◌<◌, ◌≤◌, ◌*◌, ◌+◌, ◌^◌, length, IfErr, OnOk, OnErr, Err};
 ghost use Rattle.std.specs.Int.{byte_len};
 ghost use Rattle.zf_spec.specs.Grid.{product};
 ghost use Rattle.zf_pad.specs.Rasters.{IsRaster};
@@ -22,8 +22,9 @@ use crate::room::{Room, room_for};
 use crate::slabs::{rows_of, with_rows};
 use crate::writing::write_whole_words;
 use std::alloc::Global;
+use std::marker::{Brand, PhantomData};
 use zf_base::{Lane, Ty};
-use zf_dev::{Sink, Source};
+use zf_dev::{Begun, Sink, Source, UntilEnd};
 use zf_header::Header;
 use zf_pad::{Layout, value_len};
 
@@ -49,22 +50,25 @@ pub fn compress<S: Source, O: Sink>(
     ensures given { CompressedGiven (compress_answer h.now) (stream_text h.now) result
         (Gives (S.gave src.old) (S.gave src.new)) (O.contents out.old) (O.contents out.new) }
     ensures ended { OnOk result (S.ended src.new ≡ true) }
+    // It reads no more once it saw the end.
+    ensures seen { S.ends_seen src.new ≤ S.ends_seen src.old + 1 }
     ensures source { Reads S.Source (result ≡ Err Read) src.old src.new }
     ensures sink { Writes O.Sink (result ≡ Err Write) out.old out.new }
 {
     match h.ty {
-        Ty::I32 => compress_as::<i32, S, O>(alloc, h, src, out),
-        Ty::I64 => compress_as::<i64, S, O>(alloc, h, src, out),
+        Ty::I32 => compress_as::<i32, S, O, Brand>(alloc, h, src, out),
+        Ty::I64 => compress_as::<i64, S, O, Brand>(alloc, h, src, out),
     }
 }
 
-/// Reads and writes values of this type.
-fn compress_as<T: Lane, S: Source, O: Sink>(
+/// Reads and writes values of this type. The call began with this source, which is not read behind its end.
+fn compress_as<T: Lane, S: Source, O: Sink, K: Begun>(
     alloc: Global,
     h: &Header,
     src: &mut S,
     out: &mut O,
 ) -> Result<(), StreamFault>
+    requires begun { K.ends_seen ≡ S.ends_seen src.old }
     requires mode { IsMode h.now.mode }
     requires same_type { T.width ≡ width_of h.now.ty }
     ensures outcome { Compressed (compress_answer h.now) (stream_text h.now) (raw_len h.now) result
@@ -72,12 +76,18 @@ fn compress_as<T: Lane, S: Source, O: Sink>(
     ensures given { CompressedGiven (compress_answer h.now) (stream_text h.now) result
         (Gives (S.gave src.old) (S.gave src.new)) (O.contents out.old) (O.contents out.new) }
     ensures ended { OnOk result (S.ended src.new ≡ true) }
+    ensures seen { S.ends_seen src.new ≤ S.ends_seen src.old + 1 }
     ensures source { Reads S.Source (result ≡ Err Read) src.old src.new }
     ensures sink { Writes O.Sink (result ≡ Err Write) out.old out.new }
 {
     src.read_ahead();
     let (mut values, mut room) = room_for::<T>(alloc, h)?;
-    write_stream(h, &mut values, &mut room, src, out)
+    let mut source = UntilEnd::<S, K> {
+        src,
+        ended: false,
+        begun: PhantomData,
+    };
+    write_stream(h, &mut values, &mut room, &mut source, out)
 }
 
 /// Writes the stream, whose header is at hand, in room that is there already.

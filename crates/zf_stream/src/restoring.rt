@@ -1,10 +1,10 @@
 //! From a stream to raw values.
 
-ghost use Rattle.std.specs.Prelude.{◌≡◌, true, false, IfOk, IfErr, OnOk, OnErr, Err};
+ghost use Rattle.std.specs.Prelude.{◌≡◌, ◌≤◌, ◌<◌, ◌+◌, length, true, false, IfOk, IfErr, OnOk, OnErr, Err};
 ghost use Rattle.zf_pad.specs.Slabs.{rows_of};
 ghost use Rattle.zf_base.specs.Widths.{width_of};
 ghost use Rattle.zf_dev.specs.Devices.{Reads, Writes};
-ghost use Rattle.zf_dev.specs.Source.{Gives};
+ghost use Rattle.zf_dev.specs.Source.{Gives, SeesEnd};
 ghost use Rattle.zf_stream.specs.Outcomes.{Restored, RestoredGiven};
 ghost use Rattle.zf_stream.specs.Typed.{RestoredWhere, RestoredWhereGiven};
 ghost use Rattle.zf_stream.specs.Rooms.{CanRestoreAll, Stays};
@@ -22,8 +22,9 @@ use crate::slabs::{rows_of, with_rows};
 use crate::window::PREFIX;
 use crate::writing::write_stored;
 use std::alloc::Global;
+use std::marker::{Brand, PhantomData};
 use zf_base::{Lane, Ty};
-use zf_dev::{Sink, Source};
+use zf_dev::{Begun, Sink, Source, UntilEnd};
 use zf_header::Header;
 use zf_parse::check_fill;
 
@@ -50,13 +51,15 @@ pub fn restore<S: Source, O: Sink>(
     ensures given { RestoredGiven result (Gives (S.gave src.old) (S.gave src.new))
         (O.contents out.old) (O.contents out.new) }
     ensures ended { OnOk result (S.ended src.new ≡ true) }
+    // It reads no more once it saw the end.
+    ensures seen { S.ends_seen src.new ≤ S.ends_seen src.old + 1 }
     ensures source { Reads S.Source (result ≡ Err Read) src.old src.new }
     ensures sink { Writes O.Sink (result ≡ Err Write) out.old out.new }
 {
     let mut prefix = [0; PREFIX];
     let count = read_into(src, &mut prefix)?;
     let (h, header_len) = header_at_prefix(&prefix[..count])?;
-    restore_behind(alloc, &h, header_len, &prefix[..count], src, out)
+    restore_behind::<S, O, Brand>(alloc, &h, header_len, &prefix[..count], src, out)
 }
 
 /// Restores a stream whose values are of this type, as [`restore`] does, and answers true. Of another type it
@@ -74,6 +77,7 @@ pub fn restore_where<S: Source, O: Sink>(
     ensures given { RestoredWhereGiven wanted result (Gives (S.gave src.old) (S.gave src.new))
         (O.contents out.old) (O.contents out.new) }
     ensures ended { IfOk result (λ is. is ≡ true → S.ended src.new ≡ true) }
+    ensures seen { S.ends_seen src.new ≤ S.ends_seen src.old + 1 }
     ensures still_exact { IfOk result (λ is. is ≡ false → S.is_exact src.old → S.is_exact src.new) }
     ensures source { Reads S.Source (result ≡ Err Read) src.old src.new }
     ensures sink { Writes O.Sink (result ≡ Err Write) out.old out.new }
@@ -84,12 +88,13 @@ pub fn restore_where<S: Source, O: Sink>(
     if header.ty != wanted {
         return Ok(false);
     }
-    restore_behind(alloc, &header, len, &prefix[..read], src, out)?;
+    restore_behind::<S, O, Brand>(alloc, &header, len, &prefix[..read], src, out)?;
     Ok(true)
 }
 
-/// Restores what stands behind a header, where these bytes were read, with the header.
-fn restore_behind<S: Source, O: Sink>(
+/// Restores what stands behind a header, where these bytes were read, with the header. Where they are fewer than
+/// were asked for, the end was seen with them; the source is not read behind its end.
+fn restore_behind<S: Source, O: Sink, K: Begun>(
     alloc: Global,
     h: &Header,
     header_len: u32,
@@ -97,18 +102,25 @@ fn restore_behind<S: Source, O: Sink>(
     src: &mut S,
     out: &mut O,
 ) -> Result<(), StreamFault>
-    requires { IsBegun prefix.now h.now header_len S.Source src.old }
+    requires begun { IsBegun prefix.now h.now header_len S.Source src.old }
+    requires seen { SeesEnd (length prefix.now < 24) K.ends_seen (S.ends_seen src.old) }
     ensures outcome { RestoredBehind prefix.now result
         (S.contents src.old) (S.contents src.new) (O.contents out.old) (O.contents out.new) }
     ensures given { RestoredGiven result (given_behind prefix.now (Gives (S.gave src.old) (S.gave src.new)))
         (O.contents out.old) (O.contents out.new) }
     ensures ended { OnOk result (S.ended src.new ≡ true) }
+    ensures seen { S.ends_seen src.new ≤ K.ends_seen + 1 }
     ensures source { Reads S.Source (result ≡ Err Read) src.old src.new }
     ensures sink { Writes O.Sink (result ≡ Err Write) out.old out.new }
 {
+    let mut source = UntilEnd::<S, K> {
+        src,
+        ended: prefix.len() < PREFIX,
+        begun: PhantomData,
+    };
     match h.ty {
-        Ty::I32 => restore_as::<i32, S, O>(alloc, h, header_len, prefix, src, out),
-        Ty::I64 => restore_as::<i64, S, O>(alloc, h, header_len, prefix, src, out),
+        Ty::I32 => restore_as::<i32, _, O>(alloc, h, header_len, prefix, &mut source, out),
+        Ty::I64 => restore_as::<i64, _, O>(alloc, h, header_len, prefix, &mut source, out),
     }
 }
 

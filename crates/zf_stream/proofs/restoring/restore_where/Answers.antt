@@ -44,8 +44,8 @@ returns-clause-given g c =
     let same : c.in_ok-header.header.ty ≡ c.args.wanted = search rules in
     where_given_done c.args.wanted _ c.in_ok-read.ensures.gave c.in_ok-header.header c.in_ok-header.len c.in_ok-header.ensures.ok same c.in_ok-restore_behind.ensures.given
 
-pub restore_behind-requires : goal.restore_behind-requires
-restore_behind-requires g c = record { begun = c.in_ok-header.ensures.ok; few = c.in_ok-read.ensures.first.within; ended = λ few. let less : c.in_ok-read.read < 24 = (omega (arith, few, length-take-le c.in_ok-read.read c.read_into.new.buf (omega (arith, c.in_ok-read.ensures.bound, c.read_into.auto.buf)))) in record { at_end = c.in_ok-read.ensures.end less; told = c.in_ok-read.ensures.ended less } }
+pub restore_behind-requires-clause-begun : goal.restore_behind-requires-clause-begun
+restore_behind-requires-clause-begun g c = record { begun = c.in_ok-header.ensures.ok; few = c.in_ok-read.ensures.first.within; ended = λ few. let less : c.in_ok-read.read < 24 = (omega (arith, few, length-take-le c.in_ok-read.read c.read_into.new.buf (omega (arith, c.in_ok-read.ensures.bound, c.read_into.auto.buf)))) in record { at_end = c.in_ok-read.ensures.end less; told = c.in_ok-read.ensures.ended less } }
 
 pub returns-in_err-restore_behind-clause-outcome : goal.returns-in_err-restore_behind-clause-outcome
 returns-in_err-restore_behind-clause-outcome g c =
