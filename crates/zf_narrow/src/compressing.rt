@@ -1,6 +1,6 @@
 //! From raw narrow values to a stream.
 
-ghost use Rattle.std.specs.Prelude.{◌≡◌, true, [], Err, OnOk};
+ghost use Rattle.std.specs.Prelude.{◌≡◌, ◌≤◌, ◌+◌, true, [], Err, OnOk};
 ghost use Rattle.zf_base.specs.declared.lane.Ty.TheVariants as types;
 ghost use Rattle.zf_header.specs.HeaderBits.{IsMode};
 ghost use Rattle.zf_dev.specs.Devices.{Reads, Writes};
@@ -17,7 +17,7 @@ use crate::promotion::Promotion;
 use crate::raw::size;
 use std::alloc::Global;
 use std::marker::{Brand, PhantomData};
-use zf_dev::{Sink, Source};
+use zf_dev::{Sink, Source, UntilEnd};
 use zf_header::Header;
 use zf_stream::StreamFault;
 
@@ -46,14 +46,16 @@ pub fn compress_narrow<S: Source, O: Sink>(
     ensures given { CompressedGiven (compress_narrow_answer n h.now) (narrow_text n h.now) result
         (Gives (S.gave src.old) (S.gave src.new)) (O.contents out.old) (O.contents out.new) }
     ensures ended { OnOk result (S.ended src.new ≡ true) }
+    // It reads no more once it saw the end.
+    ensures seen { S.ends_seen src.new ≤ S.ends_seen src.old + 1 }
     ensures source { Reads S.Source (result ≡ Err Read) src.old src.new }
     ensures sink { Writes O.Sink (result ≡ Err Write) out.old out.new }
 {
-    compress_begun::<S, O, Brand>(alloc, n, h, src, out)
+    compress_begun::<S, O, Brand, Brand>(alloc, n, h, src, out)
 }
 
 // Compresses what a source gives that the call began with.
-fn compress_begun<S: Source, O: Sink, K: Begun>(
+fn compress_begun<S: Source, O: Sink, K: Begun, E: zf_dev::Begun>(
     alloc: Global,
     n: Narrow,
     h: &Header,
@@ -64,6 +66,7 @@ fn compress_begun<S: Source, O: Sink, K: Begun>(
     requires start { K.start ≡ S.contents src.old }
     requires gave { Gives K.gave (S.gave src.old) [] }
     requires from { Gives (S.gave src.old) K.gave [] }
+    requires ends { E.ends_seen ≡ S.ends_seen src.old }
     requires mode { IsMode h.now.mode }
     requires int32 { h.now.ty ≡ types.I32 }
     ensures outcome { Compressed (compress_narrow_answer n h.now) (narrow_text n h.now)
@@ -73,11 +76,16 @@ fn compress_begun<S: Source, O: Sink, K: Begun>(
     ensures given { CompressedGiven (compress_narrow_answer n h.now) (narrow_text n h.now) result
         (Gives (S.gave src.old) (S.gave src.new)) (O.contents out.old) (O.contents out.new) }
     ensures ended { OnOk result (S.ended src.new ≡ true) }
+    ensures seen { S.ends_seen src.new ≤ S.ends_seen src.old + 1 }
     ensures source { Reads S.Source (result ≡ Err Read) src.old src.new }
     ensures sink { Writes O.Sink (result ≡ Err Write) out.old out.new }
 {
-    let mut source = Promoted::<S, K> {
-        src,
+    let mut source = Promoted::<S, K, E> {
+        src: UntilEnd {
+            src,
+            ended: false,
+            begun: PhantomData,
+        },
         promotion: Promotion::new(n),
         begun: PhantomData,
     };

@@ -1,6 +1,6 @@
 //! From a stream to raw narrow values.
 
-ghost use Rattle.std.specs.Prelude.{◌≡◌, true, Err, OnOk};
+ghost use Rattle.std.specs.Prelude.{◌≡◌, ◌≤◌, ◌+◌, true, Err, OnOk};
 ghost use Rattle.zf_dev.specs.Devices.{Reads, Writes};
 ghost use Rattle.zf_dev.specs.Source.{Gives};
 ghost use Rattle.zf_parse.specs.declared.fault.StreamFault.TheVariants.{Read, Write};
@@ -37,6 +37,8 @@ pub fn restore_narrow<S: Source, O: Sink>(
     ensures given { RestoredNarrowGiven n result (Gives (S.gave src.old) (S.gave src.new))
         (O.contents out.old) (O.contents out.new) }
     ensures ended { OnOk result (S.ended src.new ≡ true) }
+    // It reads no more once it saw the end.
+    ensures seen { S.ends_seen src.new ≤ S.ends_seen src.old + 1 }
     ensures still_exact { result ≡ Err NotNarrow → S.is_exact src.old → S.is_exact src.new }
     ensures source { Reads S.Source (result ≡ Err (Stream Read)) src.old src.new }
     ensures sink { Writes O.Sink (result ≡ Err (Stream Write)) out.old out.new }
@@ -58,6 +60,7 @@ fn restore_begun<S: Source, O: Sink, K: Begun>(
     ensures given { RestoredNarrowGiven n result (Gives (S.gave src.old) (S.gave src.new))
         (O.contents out.old) (O.contents out.new) }
     ensures ended { OnOk result (S.ended src.new ≡ true) }
+    ensures seen { S.ends_seen src.new ≤ S.ends_seen src.old + 1 }
     ensures still_exact { result ≡ Err NotNarrow → S.is_exact src.old → S.is_exact src.new }
     ensures source { Reads S.Source (result ≡ Err (Stream Read)) src.old src.new }
     ensures sink { Writes O.Sink (result ≡ Err (Stream Write)) out.old out.new }

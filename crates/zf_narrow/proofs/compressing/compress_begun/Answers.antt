@@ -9,7 +9,7 @@ pub returns-in-Ok-clause-outcome : goal.returns-in-Ok-clause-outcome
 returns-in-Ok-clause-outcome g c =
     let source = c.compress-answer.new.src in
     let four : length c.new.result.value ≡ 4 = search rules in
-    let runs : Runs c.args.n (g.S.Source.contents c.args.src.now) (g.S.Source.contents source.src.now) c.new.result source.promotion = search rules in
+    let runs : Runs c.args.n (g.S.Source.contents c.args.src.now) (g.S.Source.contents source.src.src.now) c.new.result source.promotion = search rules in
     let src_is = c.src-1.given.1 (sym (ap (λ (q : _). q.0) c.compress-answer.ensures.source.same)) in
     rw src_is (run_good c.args.n c.new.result source.promotion runs c.args.h.now _ _ c.requires.int32 c.in-Ok.ensures.outcome
     (compressed_by (only_given c.args.n c.new.result source.promotion runs c.requires.from c.requires.gave) (Ok tt) c.in-Ok.ensures.given))
@@ -18,7 +18,7 @@ pub returns-in-Err-clause-outcome : goal.returns-in-Err-clause-outcome
 returns-in-Err-clause-outcome g c =
     let source = c.compress-answer.new.src in
     let four : length c.new.result.value ≡ 4 = search rules in
-    let runs : Runs c.args.n (g.S.Source.contents c.args.src.now) (g.S.Source.contents source.src.now) c.new.result source.promotion = search rules in
+    let runs : Runs c.args.n (g.S.Source.contents c.args.src.now) (g.S.Source.contents source.src.src.now) c.new.result source.promotion = search rules in
     let src_is = c.src-1.given.1 (sym (ap (λ (q : _). q.0) c.compress-answer.ensures.source.same)) in
     rw (src_is, c.in_narrow_bytes.ensures)
     (run_fault c.args.n c.new.result source.promotion runs c.args.h.now c.in-Err.fault _ _ c.requires.int32 c.in-Err.ensures.outcome
@@ -28,7 +28,7 @@ pub returns-in-Ok-clause-given : goal.returns-in-Ok-clause-given
 returns-in-Ok-clause-given g c =
     let source = c.compress-answer.new.src in
     let four : length c.new.result.value ≡ 4 = search rules in
-    let runs : Runs c.args.n (g.S.Source.contents c.args.src.now) (g.S.Source.contents source.src.now) c.new.result source.promotion = search rules in
+    let runs : Runs c.args.n (g.S.Source.contents c.args.src.now) (g.S.Source.contents source.src.src.now) c.new.result source.promotion = search rules in
     let src_is = c.src-1.given.1 (sym (ap (λ (q : _). q.0) c.compress-answer.ensures.source.same)) in
     rw src_is
     (record {
@@ -45,6 +45,6 @@ pub returns-in-Err-clause-given : goal.returns-in-Err-clause-given
 returns-in-Err-clause-given g c =
     let source = c.compress-answer.new.src in
     let four : length c.new.result.value ≡ 4 = search rules in
-    let runs : Runs c.args.n (g.S.Source.contents c.args.src.now) (g.S.Source.contents source.src.now) c.new.result source.promotion = search rules in
+    let runs : Runs c.args.n (g.S.Source.contents c.args.src.now) (g.S.Source.contents source.src.src.now) c.new.result source.promotion = search rules in
     let src_is = c.src-1.given.1 (sym (ap (λ (q : _). q.0) c.compress-answer.ensures.source.same)) in
     rw src_is (record { ok = tt; err = prefix_given c.args.n c.new.result source.promotion runs c.requires.from c.requires.gave c.args.h.now c.in-Err.ensures.given.err })
