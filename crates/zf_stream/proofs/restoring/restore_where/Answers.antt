@@ -4,6 +4,9 @@ use Rattle.zf_stream.proofs.TypedAnswers.{where_unread, where_header, where_othe
 use Rattle.zf_stream.proofs.TypedAnswers.{where_refused, where_no_header, where_given_other, where_given_failed, where_given_done}
 use Rattle.zf_stream.proofs.restoring.restore_where.Goals as goal
 
+pub returns-clause-seen : goal.returns-clause-seen
+returns-clause-seen g c = search rules
+
 pub returns-in_err-read-clause-outcome : goal.returns-in_err-read-clause-outcome
 returns-in_err-read-clause-outcome g c = search (rules, err_from_is_err_and, where_unread)
 
