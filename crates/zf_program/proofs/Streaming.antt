@@ -77,12 +77,12 @@ IsStreaming-restore = search (rules, TakesStream-fault)
 pub IsStreaming-restore_narrow : (n : Narrow) → IsStreaming (RestoreNarrow n)
 IsStreaming-restore_narrow n = search (rules, TakesStream-fault)
 
--- what a command did by calls over its source, which may have been put aside for them: it is not read behind its end
-pub Streams-begun : {A B : Type 0} (S : Source A) (O : Sink B) (c : Command) (status : Status) {begun : ℕ} {src s src_now : A} {out out_now : B} {Read Write : Type 0} → (meaning c).reads status ≡ true → (meaning c).sees_end status ≡ true → (meaning c).writes ≡ true
-    → s ≡ src_now → begun ≡ S.ends_seen src → S.ends_seen src_now ≤ begun + 1 → HasCause Read (S.faults src) (S.faults src_now) → HasCause Write (O.faults out) (O.faults out_now) → (S.never_fails src → (Read → ⊥) × S.never_fails src_now)
+-- what a command did by one call over its source
+pub Streams-by : {A B : Type 0} (S : Source A) (O : Sink B) (c : Command) (status : Status) {src src_now : A} {out out_now : B} {Read Write : Type 0} → (meaning c).reads status ≡ true → (meaning c).sees_end status ≡ true → (meaning c).writes ≡ true
+    → S.ends_seen src_now ≤ S.ends_seen src + 1 → HasCause Read (S.faults src) (S.faults src_now) → HasCause Write (O.faults out) (O.faults out_now) → (S.never_fails src → (Read → ⊥) × S.never_fails src_now)
     → StaysExact (reads_on (meaning c) status) (S.is_exact src) (S.is_exact src_now) → (status ≡ statuses.ReadFault → Read) → (status ≡ statuses.WriteFault → Write) → (is_work_done status ≡ true → Told c (Ok []) (Gave S c src src_now) (O.contents out) (O.contents out_now) status None) → ((files : Option Files) → Behaves c status (seen (S.contents src) (O.contents out) files) (seen (S.contents src_now) (O.contents out_now) files))
-    → Streams S O c status src s out out_now
-Streams-begun S O c status {begun} {src} {s} {src_now} {out} {out_now} reads saw writes moved began once reading writing sure exact read write told behaves = subst (λ s. Streams S O c status src s out out_now) (sym moved) (search rules)
+    → Streams S O c status src src_now out out_now
+Streams-by S O c status {src} {src_now} {out} {out_now} reads saw writes once reading writing sure exact read write told behaves = search rules
 
 -- of a fault of a stream nothing is told
 pub untold_fault : (e : StreamFault) {P : Type 0} → is_work_done (fault_status e) ≡ true → P

@@ -2,8 +2,8 @@ use Rattle.std.proofs.Common.{[], Err, ap, sym, refl}
 use Rattle.zf_narrow.specs.Texts.{compress_narrow_answer, narrow_text}
 use Rattle.zf_words.specs.declared.command.Command.TheVariants.{CompressNarrow}
 use Rattle.zf_program.{specs.declared.status.Status.TheVariants.{Done}, specs.Faults.{status_of, fault_status}}
-use Rattle.zf_program.proofs.Streaming.{IsStreaming-compress_narrow, Streams-begun, Told-done, Behaves-done, Behaves-fault, compress_prefix, untold_fault, read_named, write_named}
-use Rattle.zf_program.proofs.commands.compress_narrow.compress_narrow_begun.Goals as goal
+use Rattle.zf_program.proofs.Streaming.{IsStreaming-compress_narrow, Streams-by, Told-done, Behaves-done, Behaves-fault, compress_prefix, untold_fault, read_named, write_named}
+use Rattle.zf_program.proofs.commands.compress_narrow.compress_narrow.Goals as goal
 use Rattle.zf_program.{specs.Steps.{Gave}, proofs.Stepping.{Gave-whole}}
 
 pub returns-in-Ok : goal.returns-in-Ok
@@ -12,8 +12,7 @@ returns-in-Ok g c =
     let is = IsStreaming-compress_narrow c.args.narrow c.args.h in
     let call = c.in-Ok.ensures in
     let done = call.outcome.ok in
-    let moved = c.src-1.given.1 (sym (ap (λ (q : _). q.0) c.compress_narrow.ensures.source.same)) in
-    Streams-begun g.S.Source g.O.Sink command Done refl refl refl moved c.requires.begun c.compress_narrow.new.src.once call.source.cause call.sink.cause call.source.sure (λ told. absurd (cc)) (λ fault. absurd (cc)) (λ fault. absurd (cc))
+    Streams-by g.S.Source g.O.Sink command Done refl refl refl call.seen call.source.cause call.sink.cause call.source.sure (λ told. absurd (cc)) (λ fault. absurd (cc)) (λ fault. absurd (cc))
     (λ work. Told-done command (Gave g.S.Source command _ _) _ _ call.given.ok.bytes is refl (Gave-whole g.S.Source command _ _ _ refl call.given.ok.given call.ended) (ap status_of (sym call.given.ok.good)) call.given.ok.written)
     (λ files. Behaves-done command done.bytes _ _ _ _ files is (ap status_of (sym done.good)) done.taken done.ended done.written)
 
@@ -24,7 +23,6 @@ returns-in-Err g c =
     let e = c.in-Err.fault in
     let call = c.in-Err.ensures in
     let done = call.outcome in
-    let moved = c.src-1.given.1 (sym (ap (λ (q : _). q.0) c.compress_narrow.ensures.source.same)) in
-    rw c.from.ensures (Streams-begun g.S.Source g.O.Sink command (fault_status e) refl refl refl moved c.requires.begun c.compress_narrow.new.src.once call.source.cause call.sink.cause call.source.sure (λ told. absurd (cc)) (λ fault. ap Err (read_named e fault)) (λ fault. ap Err (write_named e fault))
+    rw c.from.ensures (Streams-by g.S.Source g.O.Sink command (fault_status e) refl refl refl call.seen call.source.cause call.sink.cause call.source.sure (λ told. absurd (cc)) (λ fault. ap Err (read_named e fault)) (λ fault. ap Err (write_named e fault))
     (untold_fault e) (λ files. Behaves-fault command (compress_narrow_answer c.args.narrow c.args.h) e [] done.err.bytes _ _ _ _ files is (λ w. refl) done.answer done.possible tt (λ input exposed memory. tt) done.err.taken
     (λ w. compress_prefix e (narrow_text c.args.narrow c.args.h done.err.bytes) _ _ done.err.written (λ starved. done.unwritten (ap Err starved)))))
