@@ -1,6 +1,6 @@
 -- An array that is restored slab by slab: how far its codes were read, and its values written. The codes are
 -- those of the bits that were left in a window, and of the bytes that were taken of the source behind them.
-use Rattle.std.specs.Prelude.{ℕ, zero, suc, ◌≡◌, ◌+◌, ◌-◌, ◌*◌, ◌/◌, ◌<◌, ◌≤◌, ◌⊎◌, ℤ, Bool, List, [], ◌++◌, map, length}
+use Rattle.std.specs.Prelude.{ℕ, zero, suc, ◌≡◌, ◌+◌, ◌-◌, ◌*◌, ◌/◌, ◌<◌, ◌≤◌, ◌⊎◌, ℤ, Bool, true, List, [], ◌++◌, map, length}
 use Rattle.std.specs.Prelude.{drop, Option, Some, None, Result, Ok, Err, IfErr, OnOk, OnErr}
 use Rattle.std.specs.Result.{result_map_both}
 use Rattle.zf_spec.specs.Grid.{blocks, upto, extent_of, block_of, blocks_of}
@@ -12,6 +12,8 @@ use Rattle.zf_bits.specs.Reader.{Reader, rest}
 use Rattle.zf_base.specs.Widths.{width_of}
 use Rattle.zf_header.specs.declared.header.Header.{Header}
 use Rattle.zf_dev.specs.declared.source.Source.{Ghosts as Source}
+use Rattle.zf_dev.specs.declared.sink.Sink.{Ghosts as Sink}
+use Rattle.zf_dev.specs.Devices.{Reads, Writes}
 use Rattle.zf_dev.specs.Source.{Takes, Gives}
 use Rattle.zf_dev.specs.Sink.{Appends, AppendsPrefix}
 use Rattle.zf_parse.specs.declared.fault.StreamFault.{StreamFault}
@@ -19,7 +21,8 @@ use Rattle.zf_parse.specs.declared.fault.StreamFault.TheVariants as faults
 use Rattle.zf_parse.specs.Raw.{raw_bytes}
 use Rattle.zf_parse.specs.Parsing.{read_code, read_codes, said_behind, text_behind, restore_answer}
 use Rattle.zf_parse.specs.Parsing.{restored_text}
-use Rattle.zf_stream.specs.Outcomes.{Answers, Finishes, LeavesPrefix, IsFromOutside, IsBeforeWriting}
+use Rattle.zf_stream.specs.Outcomes.{Answers, Finishes, LeavesPrefix, RestoredGiven, IsFromOutside}
+use Rattle.zf_stream.specs.Outcomes.{IsBeforeWriting}
 use Rattle.zf_parse.specs.ReadStreams.{BeginsWithHeader}
 use Rattle.zf_stream.specs.Headed.{prefix_room}
 use Rattle.zf_stream.specs.Drawing.{Draws, DrawsSome, IsSpent}
@@ -53,6 +56,18 @@ pub record RestoredBehind (prefix : List ℕ) (result : Result (Unit {0}) Stream
   pub ok : OnOk result (FinishesBehind prefix src_before src_now out_before out_now)
   pub err : OnErr result (LeavesPrefix restored_text (behind prefix src_before) src_now out_before out_now)
   pub unwritten : IfErr result (λ e. IsBeforeWriting e → out_now ≡ out_before)
+
+-- how the rest of such a stream is restored from a source to a sink, of what the source says that it gave, too,
+-- and what is left of both
+pub record RestoringBehind {A B : Type 0} (S : Source A) (O : Sink B) (prefix : List ℕ)
+    (result : Result (Unit {0}) StreamFault) (src src_now : A) (out out_now : B) : Type 0 where
+  pub outcome : RestoredBehind prefix result
+      (S.contents src) (S.contents src_now) (O.contents out) (O.contents out_now)
+  pub given : RestoredGiven result (given_behind prefix (Gives (S.gave src) (S.gave src_now)))
+      (O.contents out) (O.contents out_now)
+  pub ended : OnOk result (S.ended src_now ≡ true)
+  pub source : Reads S (result ≡ Err faults.Read) src src_now
+  pub sink : Writes O (result ≡ Err faults.Write) out out_now
 
 -- the first bytes of a stream were read, all of it where they are fewer than three words, and a header of so
 -- many bits begins them

@@ -1,6 +1,6 @@
 -- An array that is compressed row by row: how far its raw values were read, and its codes written.
-use Rattle.std.specs.Prelude.{ℕ, ◌≡◌, ◌+◌, ◌*◌, ◌/◌, ◌%◌, ◌≤◌, ◌⊎◌, Bool, List, ◌++◌, map, length, Option}
-use Rattle.std.specs.Prelude.{Result}
+use Rattle.std.specs.Prelude.{ℕ, ◌≡◌, ◌+◌, ◌*◌, ◌/◌, ◌%◌, ◌≤◌, ◌⊎◌, Bool, true, List, ◌++◌, map, length, Option}
+use Rattle.std.specs.Prelude.{Result, Err, OnOk}
 use Rattle.std.specs.List.{flat_map}
 use Rattle.std.specs.Int.{byte_len}
 use Rattle.zf_spec.specs.Grid.{product, upto, extent_of, block_of}
@@ -9,9 +9,12 @@ use Rattle.zf_base.specs.Widths.{width_of}
 use Rattle.zf_pad.specs.Slabs.{rows_of, row_len, IsSlab, first_block}
 use Rattle.zf_header.specs.declared.header.Header.{Header}
 use Rattle.zf_header.specs.HeaderBits.{coding}
-use Rattle.zf_dev.specs.Source.{Takes}
+use Rattle.zf_dev.specs.declared.source.Source.{Ghosts as Source}
+use Rattle.zf_dev.specs.declared.sink.Sink.{Ghosts as Sink}
+use Rattle.zf_dev.specs.Devices.{Reads, Writes}
+use Rattle.zf_dev.specs.Source.{Takes, Gives}
 use Rattle.zf_parse.specs.declared.fault.StreamFault.{StreamFault}
-use Rattle.zf_parse.specs.declared.fault.StreamFault.TheVariants.{Write}
+use Rattle.zf_parse.specs.declared.fault.StreamFault.TheVariants.{Read, Write}
 use Rattle.zf_parse.specs.Raw.{raw_len, compress_answer, stream_text}
 use Rattle.zf_stream.specs.Outcomes.{Compressed, CompressedGiven}
 use Rattle.zf_stream.specs.ReadRaw.{LacksRaw}
@@ -71,6 +74,15 @@ pub record Ends (h : Header) (result : Result (Unit {0}) StreamFault) (src_befor
   pub outcome : Compressed (compress_answer h) (stream_text h)
       (raw_len h) result src_before src_now out_before out_now
   pub given : CompressedGiven (compress_answer h) (stream_text h) result gives out_before out_now
+
+-- the same of a source and a sink, with what is left of both
+pub record Compressing {A B : Type 0} (S : Source A) (O : Sink B) (h : Header)
+    (result : Result (Unit {0}) StreamFault) (src src_now : A) (out out_now : B) : Type 0 where
+  pub ends : Ends h result (S.contents src) (S.contents src_now) (Gives (S.gave src) (S.gave src_now))
+      (O.contents out) (O.contents out_now)
+  pub ended : OnOk result (S.ended src_now ≡ true)
+  pub source : Reads S (result ≡ Err Read) src src_now
+  pub sink : Writes O (result ≡ Err Write) out out_now
 
 -- ---- a slab, which is an array of its own
 

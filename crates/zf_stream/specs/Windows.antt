@@ -1,9 +1,11 @@
 -- A window of a stream: the bits of it that are held, of which some were read.
-use Rattle.std.specs.Prelude.{ℕ, ◌≡◌, ◌+◌, ◌*◌, ◌%◌, ◌^◌, ◌<◌, ◌≤◌, Bool, true, false, List, ◌++◌, length}
+use Rattle.std.specs.Prelude.{ℕ, ◌≡◌, ◌+◌, ◌*◌, ◌%◌, ◌^◌, ◌<◌, ◌≤◌, Bool, true, false, List, ◌++◌, length, Result, OnOk, OnErr}
 use Rattle.zf_spec.specs.Stream.{to_bits}
 use Rattle.zf_bits.specs.Reader.{Reader, rest}
 use Rattle.zf_dev.specs.declared.source.Source.{Ghosts as Source}
-use Rattle.zf_stream.specs.Drawing.{Draws, IsSpent}
+use Rattle.zf_parse.specs.declared.fault.StreamFault.{StreamFault}
+use Rattle.zf_stream.specs.Outcomes.{ReadsOnly}
+use Rattle.zf_stream.specs.Drawing.{Draws, DrawsSome, IsSpent}
 
 -- the bits held and the place among them, the room in words, and whether the source is known to be at its end
 pub record Window : Type 0 where
@@ -41,3 +43,12 @@ pub record Refills {A : Type 0} (S : Source A) (src_before src_now : A) (old new
   pub goes : Goes S src_before src_now old new bytes
   pub bits : left_of new ≡ left_of old ++ to_bits bytes
   pub room : new.room ≡ old.room
+
+-- the window is refilled as far as is wanted, or the source failed, and alone the source: then some bytes were
+-- drawn
+pub record Reaches {A : Type 0} (S : Source A) (result : Result (Unit {0}) StreamFault) (src_before src_now : A)
+    (old new : Window) : Type 0 where
+  pub ok : OnOk result (Refills S src_before src_now old new)
+  pub ended : OnOk result (KnowsEnd S new src_now)
+  pub drawn : OnErr result (DrawsSome S src_before src_now)
+  pub source : ReadsOnly S result src_before src_now

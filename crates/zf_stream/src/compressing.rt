@@ -12,7 +12,7 @@ ghost use Rattle.zf_dev.specs.Devices.{Reads, Writes};
 ghost use Rattle.zf_dev.specs.Source.{Gives, GivesSome};
 ghost use Rattle.zf_stream.specs.Outcomes.{Compressed, CompressedGiven, RefusesRaw};
 ghost use Rattle.zf_stream.specs.Rooms.{IsRoomFor, IsRoomOf, Keeps};
-ghost use Rattle.zf_stream.specs.Rows.{Compresses, Stops, Ends, WritesSlab, BreaksSlab};
+ghost use Rattle.zf_stream.specs.Rows.{Compresses, Compressing, Stops, Ends, WritesSlab, BreaksSlab};
 ghost use Rattle.zf_parse.specs.declared.fault.StreamFault.TheVariants.{Read, Write};
 
 use crate::StreamFault;
@@ -71,14 +71,8 @@ fn compress_as<T: Lane, S: Source, O: Sink, K: Begun>(
     requires begun { K.ends_seen ≡ S.ends_seen src.old }
     requires mode { IsMode h.now.mode }
     requires same_type { T.width ≡ width_of h.now.ty }
-    ensures outcome { Compressed (compress_answer h.now) (stream_text h.now) (raw_len h.now) result
-        (S.contents src.old) (S.contents src.new) (O.contents out.old) (O.contents out.new) }
-    ensures given { CompressedGiven (compress_answer h.now) (stream_text h.now) result
-        (Gives (S.gave src.old) (S.gave src.new)) (O.contents out.old) (O.contents out.new) }
-    ensures ended { OnOk result (S.ended src.new ≡ true) }
+    ensures ends { Compressing S.Source O.Sink h.now result src.old src.new out.old out.new }
     ensures seen { S.ends_seen src.new ≤ S.ends_seen src.old + 1 }
-    ensures source { Reads S.Source (result ≡ Err Read) src.old src.new }
-    ensures sink { Writes O.Sink (result ≡ Err Write) out.old out.new }
 {
     src.read_ahead();
     let (mut values, mut room) = room_for::<T>(alloc, h)?;

@@ -9,8 +9,8 @@ ghost use Rattle.zf_stream.specs.Outcomes.{Restored, RestoredGiven};
 ghost use Rattle.zf_stream.specs.Typed.{RestoredWhere, RestoredWhereGiven};
 ghost use Rattle.zf_stream.specs.Rooms.{CanRestoreAll, Stays};
 ghost use Rattle.zf_stream.specs.Windows.{KnowsEnd};
-ghost use Rattle.zf_stream.specs.Restoring.{RestoredBehind, IsBegun, Restores, LeavesRows, Refuses};
-ghost use Rattle.zf_stream.specs.Restoring.{RestoresAll, given_behind};
+ghost use Rattle.zf_stream.specs.Restoring.{RestoringBehind, IsBegun, Restores, LeavesRows, Refuses};
+ghost use Rattle.zf_stream.specs.Restoring.{RestoresAll};
 ghost use Rattle.zf_parse.specs.declared.fault.StreamFault.TheVariants.{Read, Write};
 
 use crate::StreamFault;
@@ -104,14 +104,8 @@ fn restore_behind<S: Source, O: Sink, K: Begun>(
 ) -> Result<(), StreamFault>
     requires begun { IsBegun prefix.now h.now header_len S.Source src.old }
     requires seen { SeesEnd (length prefix.now < 24) K.ends_seen (S.ends_seen src.old) }
-    ensures outcome { RestoredBehind prefix.now result
-        (S.contents src.old) (S.contents src.new) (O.contents out.old) (O.contents out.new) }
-    ensures given { RestoredGiven result (given_behind prefix.now (Gives (S.gave src.old) (S.gave src.new)))
-        (O.contents out.old) (O.contents out.new) }
-    ensures ended { OnOk result (S.ended src.new ≡ true) }
+    ensures ends { RestoringBehind S.Source O.Sink prefix.now result src.old src.new out.old out.new }
     ensures seen { S.ends_seen src.new ≤ K.ends_seen + 1 }
-    ensures source { Reads S.Source (result ≡ Err Read) src.old src.new }
-    ensures sink { Writes O.Sink (result ≡ Err Write) out.old out.new }
 {
     let mut source = UntilEnd::<S, K> {
         src,
@@ -135,13 +129,7 @@ fn restore_as<T: Lane, S: Source, O: Sink>(
 ) -> Result<(), StreamFault>
     requires begun { IsBegun prefix.now h.now header_len S.Source src.old }
     requires same_type { T.width ≡ width_of h.now.ty }
-    ensures outcome { RestoredBehind prefix.now result
-        (S.contents src.old) (S.contents src.new) (O.contents out.old) (O.contents out.new) }
-    ensures given { RestoredGiven result (given_behind prefix.now (Gives (S.gave src.old) (S.gave src.new)))
-        (O.contents out.old) (O.contents out.new) }
-    ensures ended { OnOk result (S.ended src.new ≡ true) }
-    ensures source { Reads S.Source (result ≡ Err Read) src.old src.new }
-    ensures sink { Writes O.Sink (result ≡ Err Write) out.old out.new }
+    ensures { RestoringBehind S.Source O.Sink prefix.now result src.old src.new out.old out.new }
 {
     src.read_ahead();
     let mut room = restore_room::<T>(alloc, h, header_len, prefix)?;

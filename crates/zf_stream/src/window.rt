@@ -4,9 +4,7 @@ ghost use Rattle.std.specs.Prelude.{◌≡◌, ◌≢◌, ◌≤◌, ◌<◌, �
 ghost use Rattle.std.specs.Prelude.{Err, IfOk, IfErr, OnOk, OnErr};
 ghost use Rattle.std.specs.Int.{div_ceil};
 ghost use Rattle.zf_spec.specs.Stream.{to_bits};
-ghost use Rattle.zf_stream.specs.Outcomes.{ReadsOnly};
-ghost use Rattle.zf_stream.specs.Drawing.{DrawsSome};
-ghost use Rattle.zf_stream.specs.Windows.{left_of, KnowsEnd, Refills};
+ghost use Rattle.zf_stream.specs.Windows.{left_of, KnowsEnd, Reaches};
 ghost use Rattle.zf_parse.specs.declared.fault.StreamFault.TheVariants.{Read};
 
 use crate::StreamFault;
@@ -111,11 +109,8 @@ impl Window {
         requires room { need + 64 ≤ 64 * self.old.room }
         requires piece { 8 ≤ length piece.old }
         requires ended { KnowsEnd S.Source self.old src.old }
-        ensures ok { OnOk result (Refills S.Source src.old src.new self.old self.new) }
-        ensures ended { OnOk result (KnowsEnd S.Source self.new src.new) }
+        ensures reaches { Reaches S.Source result src.old src.new self.old self.new }
         ensures enough { OnOk result (self.new.ended ≡ false → need ≤ length (left_of self.new)) }
-        ensures drawn { OnErr result (DrawsSome S.Source src.old src.new) }
-        ensures source { ReadsOnly S.Source result src.old src.new }
     {
         if self.left() < need && !self.ended {
             self.refill(need, piece, src)?;
@@ -137,11 +132,8 @@ impl Window {
         requires room { need + 64 ≤ 64 * self.old.room }
         requires piece { 8 ≤ length piece.old }
         requires ended { KnowsEnd S.Source self.old src.old }
-        ensures ok { OnOk result (Refills S.Source src.old src.new self.old self.new) }
-        ensures ended { OnOk result (KnowsEnd S.Source self.new src.new) }
+        ensures reaches { Reaches S.Source result src.old src.new self.old self.new }
         ensures enough { OnOk result (self.new.ended ≡ false → need ≤ length (left_of self.new)) }
-        ensures drawn { OnErr result (DrawsSome S.Source src.old src.new) }
-        ensures source { ReadsOnly S.Source result src.old src.new }
     {
         self.move_down();
         while self.left() < need && !self.ended {
@@ -178,13 +170,10 @@ impl Window {
         requires going { self.old.ended ≡ false }
         requires room { length self.old.reader.all < 64 * self.old.room }
         requires piece { 8 ≤ length piece.old }
-        ensures ok { OnOk result (Refills S.Source src.old src.new self.old self.new) }
+        ensures reaches { Reaches S.Source result src.old src.new self.old self.new }
         ensures place { OnOk result (self.new.reader.at ≡ self.old.reader.at) }
-        ensures ended { OnOk result (KnowsEnd S.Source self.new src.new) }
         ensures more { OnOk result (self.new.ended ≡ false → length (left_of self.old) < length
             (left_of self.new)) }
-        ensures drawn { OnErr result (DrawsSome S.Source src.old src.new) }
-        ensures source { ReadsOnly S.Source result src.old src.new }
     {
         let held = (self.bits / 64) as usize;
         let most = 8 * (self.words.len() - held).min(piece.len() / 8);

@@ -33,8 +33,8 @@ loop-b-init g c = record {
 pub returns-in_err-reach-clause-err : goal.returns-in_err-reach-clause-err
 returns-in_err-reach-clause-err g c =
     let p = err_from_is_err_and c.from_residual.result c.from_residual.ensures.1 in
-    rw (p.1, p.2, c.in_err-reach.ensures.source.fault)
-    (DrawsSome-append _ c.loop-b.invariant.goes.drawn c.in_err-reach.ensures.drawn)
+    rw (p.1, p.2, c.in_err-reach.ensures.reaches.source.fault)
+    (DrawsSome-append _ c.loop-b.invariant.goes.drawn c.in_err-reach.ensures.reaches.drawn)
 
 -- a source that is not at its end would have given enough
 at_end : (ended : Bool) (Enough End : Type 0) → (ended ≡ false → Enough) → ¬ Enough → (ended ≡ true → End) → End
@@ -54,7 +54,7 @@ returns-in_default-clause-err g c =
     let b = c.loop-b.b in
     let es = extent_of h.shape b in
     let window = c.read_zeros-zeros.new.window in
-    let refill = c.in_ok-reach.ensures.ok in
+    let refill = c.in_ok-reach.ensures.reaches.ok in
     let so_far = c.loop-b.invariant in
     let bytes = so_far.bytes ++ refill.bytes in
     let read =
@@ -79,7 +79,7 @@ read_block-read-requires-clause-values g c =
     let b = c.loop-b.b in
     let so_far = c.loop-b.invariant in
     let read =
-    run_none h b _ _ _ _ _ _ c.if-zeros-gt0.false c.read_zeros-zeros.ensures.read (read_refilled h b c.args.room.now.window so_far.bytes _ so_far.read c.in_ok-reach.ensures.ok) in
+    run_none h b _ _ _ _ _ _ c.if-zeros-gt0.false c.read_zeros-zeros.ensures.read (read_refilled h b c.args.room.now.window so_far.bytes _ so_far.read c.in_ok-reach.ensures.reaches.ok) in
     room_for_one h b (length c.read_zeros-zeros.new.stored.items) _ _ _ _ read (omega (arith, c.loop-b-test.true, c.blocks-blocks.ensures.value))
     (omega (arith, length-map c.read_zeros-zeros.new.stored.items g.T.Lane.value)) (omega (arith, so_far.stays.values, c.read_zeros-zeros.ensures.values, c.requires.room.values))
 
@@ -87,7 +87,7 @@ pub loop-b-preserved-then-zeros-gt0 : goal.loop-b-preserved-then-zeros-gt0
 loop-b-preserved-then-zeros-gt0 g c =
     let h = c.args.part.now in
     let b = c.loop-b.b in
-    let refill = c.in_ok-reach.ensures.ok in
+    let refill = c.in_ok-reach.ensures.reaches.ok in
     let so_far = c.loop-b.invariant in
     let zeros = c.read_zeros-zeros.ensures in
     record {
@@ -97,15 +97,15 @@ loop-b-preserved-then-zeros-gt0 g c =
       goes = Goes-read (Goes-next so_far.goes refill.goes) zeros.place;
       read = run_more h b _ _ _ _ _ _ zeros.read (read_refilled h b c.args.room.now.window so_far.bytes _ so_far.read refill);
       stays = Stays-next so_far.stays (record { rows = refl; longest = refl; held = zeros.room ∙ refill.room; values = zeros.values });
-      ended = λ is. c.in_ok-reach.ensures.ended (sym zeros.ended ∙ is);
-      source = Reads-more so_far.source c.reach.ensures.source.device;
+      ended = λ is. c.in_ok-reach.ensures.reaches.ended (sym zeros.ended ∙ is);
+      source = Reads-more so_far.source c.reach.ensures.reaches.source.device;
     }
 
 pub loop-b-preserved : goal.loop-b-preserved
 loop-b-preserved g c =
     let h = c.args.part.now in
     let b = c.loop-b.b in
-    let refill = c.in_ok-reach.ensures.ok in
+    let refill = c.in_ok-reach.ensures.reaches.ok in
     let so_far = c.loop-b.invariant in
     let zeros = c.read_zeros-zeros.ensures in
     let block = c.read_block-read.ensures in
@@ -117,8 +117,8 @@ loop-b-preserved g c =
       goes = Goes-read {w = c.read_block-read.new.window} (Goes-read {w = c.read_zeros-zeros.new.window} (Goes-next so_far.goes refill.goes) zeros.place) c.in-Some.ensures.place;
       read = read_more h b _ _ _ _ _ c.in-Some.ensures.some read;
       stays = Stays-next so_far.stays (record { rows = refl; longest = refl; held = block.room ∙ zeros.room ∙ refill.room; values = omega (arith, zeros.values, block.values) });
-      ended = λ is. c.in_ok-reach.ensures.ended (sym (block.ended ∙ zeros.ended) ∙ is);
-      source = Reads-more so_far.source c.reach.ensures.source.device;
+      ended = λ is. c.in_ok-reach.ensures.reaches.ended (sym (block.ended ∙ zeros.ended) ∙ is);
+      source = Reads-more so_far.source c.reach.ensures.reaches.source.device;
     }
 
 pub returns-clause-ok : goal.returns-clause-ok

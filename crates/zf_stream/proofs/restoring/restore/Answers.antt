@@ -24,7 +24,7 @@ returns-in_err-h-clause-given g c =
     rw (p.1, p.2) (refused_header _ c.in_ok-count.ensures.gave _ _ c.in_ok-count.ensures.first.within c.in_err-h.ensures.err)
 
 pub returns-clause-given : goal.returns-clause-given
-returns-clause-given g c = restored_by (behind_more _ c.in_ok-count.ensures.gave) _ c.restore_behind.ensures.given
+returns-clause-given g c = restored_by (behind_more _ c.in_ok-count.ensures.gave) _ c.restore_behind.ensures.ends.given
 
 pub restore_behind-requires-clause-begun : goal.restore_behind-requires-clause-begun
 restore_behind-requires-clause-begun g c = record { begun = c.in_ok-h.ensures.ok; few = c.in_ok-count.ensures.first.within; ended = λ few. let less : c.in_ok-count.count < 24 = (omega (arith, few, length-take-le c.in_ok-count.count c.read_into.new.buf (omega (arith, c.in_ok-count.ensures.bound, c.read_into.auto.buf)))) in record { at_end = c.in_ok-count.ensures.end less; told = c.in_ok-count.ensures.ended less } }

@@ -40,12 +40,12 @@ pub returns-in_err-restore_behind-clause-given : goal.returns-in_err-restore_beh
 returns-in_err-restore_behind-clause-given g c =
     let same : c.in_ok-header.header.ty ≡ c.args.wanted = search rules in
     let p = err_from_is_err_and c.from_residual-in_err-restore_behind.result c.from_residual-in_err-restore_behind.ensures.1 in
-    rw (p.1, p.2) (where_given_failed c.args.wanted _ c.in_ok-read.ensures.gave c.in_ok-header.header c.in_ok-header.len c.in_ok-header.ensures.ok same _ c.in_err-restore_behind.ensures.given)
+    rw (p.1, p.2) (where_given_failed c.args.wanted _ c.in_ok-read.ensures.gave c.in_ok-header.header c.in_ok-header.len c.in_ok-header.ensures.ok same _ c.in_err-restore_behind.ensures.ends.given)
 
 pub returns-clause-given : goal.returns-clause-given
 returns-clause-given g c =
     let same : c.in_ok-header.header.ty ≡ c.args.wanted = search rules in
-    where_given_done c.args.wanted _ c.in_ok-read.ensures.gave c.in_ok-header.header c.in_ok-header.len c.in_ok-header.ensures.ok same c.in_ok-restore_behind.ensures.given
+    where_given_done c.args.wanted _ c.in_ok-read.ensures.gave c.in_ok-header.header c.in_ok-header.len c.in_ok-header.ensures.ok same c.in_ok-restore_behind.ensures.ends.given
 
 pub restore_behind-requires-clause-begun : goal.restore_behind-requires-clause-begun
 restore_behind-requires-clause-begun g c = record { begun = c.in_ok-header.ensures.ok; few = c.in_ok-read.ensures.first.within; ended = λ few. let less : c.in_ok-read.read < 24 = (omega (arith, few, length-take-le c.in_ok-read.read c.read_into.new.buf (omega (arith, c.in_ok-read.ensures.bound, c.read_into.auto.buf)))) in record { at_end = c.in_ok-read.ensures.end less; told = c.in_ok-read.ensures.ended less } }
@@ -54,9 +54,9 @@ pub returns-in_err-restore_behind-clause-outcome : goal.returns-in_err-restore_b
 returns-in_err-restore_behind-clause-outcome g c =
     let same : c.in_ok-header.header.ty ≡ c.args.wanted = search rules in
     let p = err_from_is_err_and c.from_residual-in_err-restore_behind.result c.from_residual-in_err-restore_behind.ensures.1 in
-    rw (p.1, p.2) (where_failed c.args.wanted _ c.in_ok-header.header c.in_ok-header.len _ _ c.in_ok-read.ensures.first c.in_ok-header.ensures.ok same _ c.in_err-restore_behind.ensures.outcome)
+    rw (p.1, p.2) (where_failed c.args.wanted _ c.in_ok-header.header c.in_ok-header.len _ _ c.in_ok-read.ensures.first c.in_ok-header.ensures.ok same _ c.in_err-restore_behind.ensures.ends.outcome)
 
 pub returns-clause-outcome : goal.returns-clause-outcome
 returns-clause-outcome g c =
     let same : c.in_ok-header.header.ty ≡ c.args.wanted = search rules in
-    where_done c.args.wanted _ c.in_ok-header.header c.in_ok-header.len _ _ c.in_ok-read.ensures.first c.in_ok-header.ensures.ok same c.in_ok-restore_behind.ensures.outcome
+    where_done c.args.wanted _ c.in_ok-header.header c.in_ok-header.len _ _ c.in_ok-read.ensures.first c.in_ok-header.ensures.ok same c.in_ok-restore_behind.ensures.ends.outcome

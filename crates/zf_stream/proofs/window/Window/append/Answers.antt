@@ -6,8 +6,8 @@ use Rattle.zf_bits.proofs.Reading.{length-reader_of}
 use Rattle.zf_stream.{specs.Drawing.{Draws}, specs.Windows.{left_of}, proofs.Windows.{Refills-put}}
 use Rattle.zf_stream.proofs.window.Window.append.Goals as goal
 
-pub returns-clause-ok : goal.returns-clause-ok
-returns-clause-ok g c =
+pub returns-clause-reaches : goal.returns-clause-reaches
+returns-clause-reaches g c =
     let w = c.self.inside in
     let words = w.words.items in
     let new = c.put_words_at.new.words in
@@ -24,16 +24,17 @@ returns-clause-ok g c =
     let all : take (w.bits + 8 * count) (word_bits (with_items w.words new).items) ≡ c.args.self.now.reader.all ++ to_bits bytes = search rules in
     let drawn : Draws g.S.Source c.args.src.now c.read_into.new.src bytes =
     rw (take-append-le count buf rest within) (record { taken = c.in_ok-count.ensures.first.taken; given = c.in_ok-count.ensures.gave }) in
-    Refills-put c.args.src.now c.read_into.new.src c.args.self.now _ bytes drawn all
+    let put = Refills-put c.args.src.now c.read_into.new.src c.args.self.now _ bytes drawn all
     (ap (λ v. v.reader.at) c.self.view_is)
     (omega (arith, c.self.invariant.at_within, ap (λ v. v.reader.at) c.self.view_is, ap (λ v. length v.reader.all) c.self.view_is, length-reader_of words w.bits w.at c.self.invariant.within))
-    (ap length room ∙ c.put_words_at.ensures.len ∙ ap length c.deref_mut.ensures.value ∙ ap (λ v. v.room) c.self.view_is)
+    (ap length room ∙ c.put_words_at.ensures.len ∙ ap length c.deref_mut.ensures.value ∙ ap (λ v. v.room) c.self.view_is) in
+    record { ok = put; ended = search rules; drawn = tt; source = search rules }
 
 longer : (s : List Bool) (bytes : List ℕ) → 0 < length bytes → length s < length (s ++ to_bits bytes)
 longer s bytes some = omega (arith, length-append s (to_bits bytes), length-to_bits bytes)
 
 pub returns-clause-more : goal.returns-clause-more
-unfolding returns-clause-ok Refills-put
+unfolding returns-clause-reaches Refills-put
 returns-clause-more g c = λ going.
     let w = c.self.inside in
     let old = c.args.self.now in
@@ -47,7 +48,7 @@ returns-clause-more g c = λ going.
     let place : length old.reader.all ≡ w.bits = ap (λ v. length v.reader.all) (sym c.self.view_is) ∙ length-reader_of w.words.items w.bits w.at c.self.invariant.within in
     let room : length w.words.items ≡ old.room = ap (λ v. v.room) c.self.view_is in
     let some : 0 < length bytes = omega (arith, full, long, c.min-most.ensures, c.requires.room, c.requires.piece, c.len.ensures, room, place) in
-    rw (returns-clause-ok g c).bits (longer (left_of old) bytes some)
+    rw (returns-clause-reaches g c).ok.bits (longer (left_of old) bytes some)
 
 pub invariant_of-self : goal.invariant_of-self
 invariant_of-self g c = grind (arith, common_steps)

@@ -15,21 +15,22 @@ loop-self-init g c = record {
 
 pub loop-self-preserved : goal.loop-self-preserved
 loop-self-preserved g c = record {
-  refills = Refills-next c.loop-self.invariant.refills c.in_ok-append.ensures.ok;
+  refills = Refills-next c.loop-self.invariant.refills c.in_ok-append.ensures.reaches.ok;
   place = omega (arith, c.in_ok-append.ensures.place, c.loop-self.invariant.place);
-  ended = c.in_ok-append.ensures.ended;
-  source = Reads-more c.loop-self.invariant.source c.append.ensures.source.device;
+  ended = c.in_ok-append.ensures.reaches.ended;
+  source = Reads-more c.loop-self.invariant.source c.append.ensures.reaches.source.device;
 }
 
-pub returns-in_err-append-clause-drawn : goal.returns-in_err-append-clause-drawn
-returns-in_err-append-clause-drawn g c =
-    on_err c.from_residual.result _ (DrawsSome-append _ c.loop-self.invariant.refills.goes.drawn c.in_err-append.ensures.drawn)
+pub returns-in_err-append-clause-reaches : goal.returns-in_err-append-clause-reaches
+returns-in_err-append-clause-reaches g c = record {
+  ok = search (rules, err_from_is_err_and);
+  ended = search (rules, err_from_is_err_and);
+  drawn = on_err c.from_residual.result _ (DrawsSome-append _ c.loop-self.invariant.refills.goes.drawn c.in_err-append.ensures.reaches.drawn);
+  source = search (rules, err_from_is_err_and);
+}
 
-pub returns-in_err-append-clause-source : goal.returns-in_err-append-clause-source
-returns-in_err-append-clause-source g c = search (rules, err_from_is_err_and)
+pub returns-else-not-self-clause-reaches : goal.returns-else-not-self-clause-reaches
+returns-else-not-self-clause-reaches g c = record { ok = c.loop-self.invariant.refills; ended = c.loop-self.invariant.ended; drawn = tt; source = ReadsOnly-ok tt c.loop-self.invariant.source }
 
-pub returns-else-not-self-clause-source : goal.returns-else-not-self-clause-source
-returns-else-not-self-clause-source g c = ReadsOnly-ok tt c.loop-self.invariant.source
-
-pub returns-after-loop-self-clause-source : goal.returns-after-loop-self-clause-source
-returns-after-loop-self-clause-source g c = ReadsOnly-ok tt c.loop-self.invariant.source
+pub returns-after-loop-self-clause-reaches : goal.returns-after-loop-self-clause-reaches
+returns-after-loop-self-clause-reaches g c = record { ok = c.loop-self.invariant.refills; ended = c.loop-self.invariant.ended; drawn = tt; source = ReadsOnly-ok tt c.loop-self.invariant.source }
