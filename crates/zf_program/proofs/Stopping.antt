@@ -1,5 +1,5 @@
 -- How often a command sees the end of its source.
-use Rattle.std.proofs.Common.{◌≡◌, ℕ, ◌+◌, ◌≤◌, ◌&&◌, Bool, true, false, sym, ap, ◌∙◌, arith}
+use Rattle.std.proofs.Common.{◌≡◌, ℕ, ◌+◌, ◌≤◌, ◌&&◌, Bool, true, sym, ap, ◌∙◌, arith}
 use Rattle.std.proofs.lemmas.Bool.{true≢false}
 use Rattle.zf_program.{specs.Headline.{StopsAtEnd, StaysExact}, proofs.Causes.{IsIdle-same, IsIdle-used}}
 
