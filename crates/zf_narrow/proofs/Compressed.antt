@@ -5,6 +5,7 @@ use Rattle.std.proofs.lemmas.List.{drop_all, length-drop, length-replicate}
 use Rattle.zf_spec.specs.Grid.{product}
 use Rattle.zf_base.specs.declared.lane.Ty.TheVariants.{I32}
 use Rattle.zf_header.specs.declared.header.Header.{Header}
+use Rattle.zf_dev.specs.Logs.{noted}
 use Rattle.zf_dev.{specs.Source.{Takes, Gives, IsAtEnd}}
 use Rattle.zf_parse.specs.declared.fault.StreamFault.{StreamFault}
 use Rattle.zf_parse.specs.Raw.{raw_len, length_answer, compress_answer, stream_text}
@@ -170,7 +171,7 @@ pub record Runs (n : Narrow) (known now : Option (List ℕ)) (old new : Promotio
   pub unspent_old : IsTrue old.spent → ⊥
   pub same : new.narrow ≡ n
   pub four : length new.value ≡ 4
-  pub taken_old : old.taken.bytes ≡ []
+  pub taken_old : noted old.taken ≡ []
   pub spent_end : IsTrue new.spent → IsAtEnd now
   pub read : Takes known now (read_so_far new)
 
@@ -181,7 +182,7 @@ module _ (n : Narrow) {known now : Option (List ℕ)} (old new : Promotion) (r :
   exposed_new : exposed new now ≡ exposed_by n new.spent (drop new.at new.value) (listed new.half) now
   exposed_new = ap (λ m. exposed_by m new.spent (drop new.at new.value) (listed new.half) now) r.same
 
-  pub promotes : Promotes n known now new.spent (drop new.at new.value) (listed new.half) new.taken.bytes
+  pub promotes : Promotes n known now new.spent (drop new.at new.value) (listed new.half) (noted new.taken)
   promotes = search (rules, length-drop, drop_all)
 
   -- nothing was given before
@@ -189,20 +190,20 @@ module _ (n : Narrow) {known now : Option (List ℕ)} (old new : Promotion) (r :
   none_given = search (rules, drop_all, append-nil)
 
   -- what was given since then
-  pub given_by : (h : Header) (raw : List ℕ) → Gives (HasGiven old) (HasGiven new) raw → IsGiven n h (drop new.at new.value) new.taken.bytes (zeros_given new.spent (listed new.half)) raw
+  pub given_by : (h : Header) (raw : List ℕ) → Gives (HasGiven old) (HasGiven new) raw → IsGiven n h (drop new.at new.value) (noted new.taken) (zeros_given new.spent (listed new.half)) raw
   given_by h raw gives = rw (← r.same) (gives.goes_on [] none_given)
 
   run_compresses : (h : Header) (out0 out1 : Option (List ℕ)) → h.ty ≡ I32 → Finishes (compress_answer h) (stream_text h) (exposed old known) (exposed new now) out0 out1
       → WritesText (compress_answer h) (stream_text h) (Gives (HasGiven old) (HasGiven new)) out0 out1 → Finishes (compress_narrow_answer n h) (narrow_text n h) known now out0 out1
   run_compresses h out0 out1 int32 fin writes =
-      compresses n h int32 new.spent (drop new.at new.value) (listed new.half) new.taken.bytes known now out0 out1 promotes (rw (exposed_old, exposed_new) at fin) (search (rules, given_by))
+      compresses n h int32 new.spent (drop new.at new.value) (listed new.half) (noted new.taken) known now out0 out1 promotes (rw (exposed_old, exposed_new) at fin) (search (rules, given_by))
 
   run_shows : (h : Header) (e : StreamFault) → h.ty ≡ I32 → ShowsLength (raw_len h) (exposed old known) (exposed new now) e → ShowsLength (narrow_len n h) known now (narrow_fault n e)
-  run_shows h e int32 shown = shows n h int32 new.spent (drop new.at new.value) (listed new.half) new.taken.bytes known now e promotes (rw (exposed_old, exposed_new) at shown)
+  run_shows h e int32 shown = shows n h int32 new.spent (drop new.at new.value) (listed new.half) (noted new.taken) known now e promotes (rw (exposed_old, exposed_new) at shown)
 
   run_leaves : (h : Header) (out0 out1 : Option (List ℕ)) → h.ty ≡ I32 → WritesPrefix (stream_text h) (Gives (HasGiven old) (HasGiven new)) out0 out1 → LeavesPrefix (narrow_text n h) known now out0 out1
   run_leaves h out0 out1 int32 writes =
-      leaves n h int32 new.spent (drop new.at new.value) (listed new.half) new.taken.bytes known now out0 out1 promotes
+      leaves n h int32 new.spent (drop new.at new.value) (listed new.half) (noted new.taken) known now out0 out1 promotes
       (record { bytes = writes.bytes; lost = writes.lost; given = given_by h (writes.bytes ++ writes.lost) writes.given; written = writes.written })
 
   run_answers : (h : Header) (r : Result (Unit {0}) StreamFault) → h.ty ≡ I32 → Answers r (exposed old known) (compress_answer h) → Answers (narrow_result n r) known (compress_narrow_answer n h)

@@ -1,6 +1,7 @@
 -- One read of a promotion, as the log of what was given sees it.
 use Rattle.std.proofs.Common.{rules, ◌≡◌, refl, ap, ◌∙◌, ℕ, ◌<◌, Bool, true, false, IsTrue, List, ◌++◌, length, drop, replicate, Option, append_assoc, append-nil, arith}
 use Rattle.std.{specs.Prelude.{◌↔◌}, proofs.lemmas.List.{drop_all, nil_from_length}, proofs.lemmas.Bool.{false_from_ne_true}}
+use Rattle.zf_dev.specs.Logs.{noted}
 use Rattle.zf_dev.specs.Source.{Gives, IsAtEnd}
 use Rattle.zf_narrow.{specs.declared.promotion.Promotion.{Promotion}, specs.RawNarrow.{promoted_bytes}}
 use Rattle.zf_narrow.{specs.Promoting.{listed}, proofs.Whole.{promoted_bytes-append}}
@@ -9,9 +10,9 @@ use Rattle.zf_narrow.proofs.Reading.{all_gone, half_gone}
 
 -- all int32 bytes of a promotion that was read further, before any of the new ones were given
 all_bytes : Promotion → List ℕ
-all_bytes p = promoted_bytes p.narrow p.taken.bytes ++ replicate (zeros_given p.spent (listed p.half)) 0
+all_bytes p = promoted_bytes p.narrow (noted p.taken) ++ replicate (zeros_given p.spent (listed p.half)) 0
 
-no_zeros : (p : Promotion) → (IsTrue p.spent → ⊥) → all_bytes p ≡ promoted_bytes p.narrow p.taken.bytes
+no_zeros : (p : Promotion) → (IsTrue p.spent → ⊥) → all_bytes p ≡ promoted_bytes p.narrow (noted p.taken)
 unfolding all_bytes
 no_zeros p unspent = search (rules, false_from_ne_true, append-nil)
 
@@ -34,7 +35,7 @@ module _ (old mid : Promotion) (before now : Option (List ℕ)) (told : List ℕ
 
   -- the first of them were given
   pub gives_first : (first value : List ℕ) (at : ℕ) → raw ≡ first ++ drop at value
-      → Gives (HasGiven old) (λ s. s ++ drop at value ≡ promoted_bytes mid.narrow mid.taken.bytes ++ replicate (zeros_given mid.spent (listed mid.half)) 0) first
+      → Gives (HasGiven old) (λ s. s ++ drop at value ≡ promoted_bytes mid.narrow (noted mid.taken) ++ replicate (zeros_given mid.spent (listed mid.half)) 0) first
   unfolding all_bytes
   gives_first first value at is = search (rules, append_assoc, whole_given)
 
@@ -43,8 +44,8 @@ module _ (old mid : Promotion) (before now : Option (List ℕ)) (told : List ℕ
   unfolding all_bytes
   gives_half new bytes count none end gives =
       let zeros : bytes ≡ replicate (zeros_given new.spent (listed new.half)) 0 = cc (gives.given_are, by new.spent gives.spent, gives.half) in
-      let p = promoted_bytes mid.narrow mid.taken.bytes in
-      let all : p ≡ promoted_bytes new.narrow new.taken.bytes = cc (gives.same_type, gives.taken) in
+      let p = promoted_bytes mid.narrow (noted mid.taken) in
+      let all : p ≡ promoted_bytes new.narrow (noted new.taken) = cc (gives.same_type, gives.taken) in
       let gone = half_gone old mid new before now told raw bytes count idle four takes none end gives in
       search (rules, append-nil, nil_from_length, whole_given, no_zeros, none_pending)
     where

@@ -3,6 +3,7 @@ use Rattle.std.proofs.Common.{◌≡◌, refl, sym, ap, ◌∙◌, ℕ, ◌%◌,
 use Rattle.std.{specs.Prelude.{◌||◌, is_none}, proofs.lemmas.Bool.{false≢true, and_parts}}
 use Rattle.zf_base.specs.declared.lane.Ty.TheVariants.{I32}
 use Rattle.zf_header.specs.declared.header.Header.{Header}
+use Rattle.zf_dev.specs.Logs.{noted}
 use Rattle.zf_dev.{specs.Source.{Gives}, proofs.Giving.{Gives-none, Gives-append, Gives-still, Gives-from}}
 use Rattle.zf_parse.{specs.Raw.{raw_len, compress_answer, stream_text}}
 use Rattle.zf_stream.{specs.Outcomes.{WritesText, WritesPrefix}, proofs.RawRows.{good_answer}}
@@ -74,7 +75,7 @@ module _ (n : Narrow) {known now : Option (List ℕ)} (old new : Promotion) (r :
       → WritesText (compress_narrow_answer n h) (narrow_text n h) (Gives a b) out0 out
   text_given h ended {out0} {out} int32 over writes =
       let pending = drop new.at new.value in
-      let taken = new.taken.bytes in
+      let taken = noted new.taken in
       let half = listed new.half in
       let p = promotes n old new r in
       let raw = writes.bytes in
@@ -94,7 +95,7 @@ module _ (n : Narrow) {known now : Option (List ℕ)} (old new : Promotion) (r :
       → WritesPrefix (narrow_text n h) (Gives a b) out0 out
   prefix_given h {out0} {out} writes =
       let pending = drop new.at new.value in
-      let taken = new.taken.bytes in
+      let taken = noted new.taken in
       let half = listed new.half in
       let zeros = zeros_given new.spent half in
       let first = promoted_bytes n taken in

@@ -5,6 +5,7 @@ use Rattle.std.{specs.Int.{byte_len}, proofs.lemmas.Option.{same_Some}}
 use Rattle.zf_base.{specs.Widths.{width_of}, specs.declared.lane.Ty.{Ty}}
 use Rattle.zf_base.specs.declared.lane.Ty.TheVariants.{I32, I64}
 use Rattle.zf_header.{specs.declared.header.HeaderFault.{HeaderFault}, specs.HeaderFaults.{header_fault}}
+use Rattle.zf_dev.specs.Logs.{noted}
 use Rattle.zf_dev.specs.Sink.{Appends, AppendsPrefix}
 use Rattle.zf_dev.proofs.Appending.{AppendsPrefix-all, AppendsPrefix-more}
 use Rattle.zf_parse.{specs.declared.fault.StreamFault.{StreamFault}, proofs.Steps.{header_or, blocks_text}}
@@ -82,8 +83,8 @@ pub record Demotes (n : Narrow) (start now : Option (List ℕ)) (given owed take
   pub made : given ++ owed ≡ demoted_bytes n taken
   pub written : Appends start now given
 
-pub demotes : (n m : Narrow) (first start now : Option (List ℕ)) (d : Demotion) → d.narrow ≡ m → m ≡ n → first ≡ start → Appends first now d.given.bytes
-    → Demotes n start now d.given.bytes (listed d.owed) d.taken.bytes (take d.held d.value)
+pub demotes : (n m : Narrow) (first start now : Option (List ℕ)) (d : Demotion) → d.narrow ≡ m → m ≡ n → first ≡ start → Appends first now (noted d.given)
+    → Demotes n start now (noted d.given) (listed d.owed) (noted d.taken) (take d.held d.value)
 demotes n m first start now d same narrow begins written = search (rules, length-take)
 
 -- a good stream of int32 is a good one

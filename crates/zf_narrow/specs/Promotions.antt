@@ -1,5 +1,6 @@
 -- How far values were promoted, before and after.
 use Rattle.std.specs.Prelude.{ℕ, ◌≡◌, ◌<◌, ◌↔◌, ◌&&◌, ◌||◌, is_none, Bool, true, false, IsTrue, List, ◌++◌, length, drop, replicate, Option}
+use Rattle.zf_dev.specs.Logs.{noted}
 use Rattle.zf_dev.specs.Source.{Takes, Gives}
 use Rattle.zf_narrow.specs.declared.promotion.Promotion.{Promotion}
 use Rattle.zf_narrow.specs.Promoting.{listed, exposed_by, TakesValues}
@@ -11,7 +12,7 @@ exposed p left = exposed_by p.narrow p.spent (drop p.at p.value) (listed p.half)
 
 -- all narrow bytes that were read
 abbrev pub read_so_far : Promotion → List ℕ
-read_so_far p = p.taken.bytes ++ listed p.half
+read_so_far p = noted p.taken ++ listed p.half
 
 -- how many zero bytes were given for half a value
 abbrev pub zeros_given : Bool → List ℕ → ℕ
@@ -21,7 +22,7 @@ zeros_given true half = length half
 -- these are all int32 bytes that were given: those of the values that were read, but for the bytes that are
 -- pending, and the zero byte
 abbrev pub HasGiven : Promotion → List ℕ → Type 0
-HasGiven p given = given ++ drop p.at p.value ≡ promoted_bytes p.narrow p.taken.bytes ++ replicate
+HasGiven p given = given ++ drop p.at p.value ≡ promoted_bytes p.narrow (noted p.taken) ++ replicate
     (zeros_given p.spent (listed p.half)) 0
 
 -- so are these, and the source says, from what it had given at the start, that it gave all that were read
@@ -51,7 +52,7 @@ pub record TakesRaw (old new : Promotion) (before now : Option (List ℕ)) (give
     (raw : List ℕ) : Type 0 where
   pub values : List ℕ
   pub taken : TakesValues old.narrow before now gives (listed old.half) (listed new.half) values
-  pub logged : new.taken.bytes ≡ old.taken.bytes ++ values
+  pub logged : noted new.taken ≡ noted old.taken ++ values
   pub raw_is : raw ≡ promoted_bytes old.narrow values
   pub same_type : new.narrow ≡ old.narrow
   pub kept : new.value ≡ old.value
@@ -71,4 +72,4 @@ pub record GivesHalf (old new : Promotion) (count : ℕ) (given : List ℕ) : Ty
   pub kept : new.value ≡ old.value
   pub all_given : new.at ≡ 4
   pub half : new.half ≡ old.half
-  pub taken : new.taken.bytes ≡ old.taken.bytes
+  pub taken : noted new.taken ≡ noted old.taken

@@ -3,6 +3,7 @@
 ghost use Rattle.std.specs.Prelude.{◌≡◌, [], Some, None, IsErr, OnOk};
 ghost use Rattle.zf_dev.specs.Faults.{HasCause};
 ghost use Rattle.zf_dev.specs.Sink.{Appends};
+ghost use Rattle.zf_dev.specs.Logs.{noted};
 ghost use Rattle.zf_narrow.specs.Demotions.{taken_so_far};
 ghost use Rattle.zf_narrow.specs.Facts.{Appends-prop};
 
@@ -19,7 +20,7 @@ pub(crate) struct Demoted<'a, O: Sink, K: Begun> {
     pub(crate) demotion: Demotion,
     pub(crate) begun: PhantomData<K>,
     ghost same_type: { demotion.narrow ≡ K.narrow },
-    ghost written: { Appends K.start (O.contents out.now) demotion.given.bytes } by { Appends-prop K.start (O.contents out.now) demotion.given.bytes },
+    ghost written: { Appends K.start (O.contents out.now) (noted demotion.given) } by { Appends-prop K.start (O.contents out.now) (noted demotion.given) },
 }
 
 impl<'a, O: Sink, K: Begun> Demoted<'a, O, K> {

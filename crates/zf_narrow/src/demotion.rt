@@ -3,13 +3,14 @@
 ghost use Rattle.std.specs.Prelude.{◌≡◌, ◌%◌, ◌*◌, ◌<◌, ◌≤◌, ◌++◌, [], None, length, take, IsErr, IfOk, OnOk};
 ghost use Rattle.std.specs.Prelude.{OnErr};
 ghost use Rattle.zf_dev.specs.Devices.{AsksSink};
+ghost use Rattle.zf_dev.specs.Logs.{noted};
 ghost use Rattle.zf_narrow.specs.RawNarrow.{demoted_bytes};
 ghost use Rattle.zf_narrow.specs.Promoting.{listed};
 
 use crate::Narrow;
-use crate::log::Log;
+use crate::log::note;
 use crate::raw::{put_demoted, size};
-use zf_dev::{Failed, Sink};
+use zf_dev::{Failed, Log, Sink};
 
 // The most narrow bytes that are written at a time.
 const PIECE: usize = 4096;
@@ -28,8 +29,8 @@ pub(crate) struct Demotion {
     taken: Log,
     given: Log,
     ghost within: { held ≤ 3 },
-    ghost whole: { length taken.bytes % 4 ≡ 0 },
-    ghost written: { given.bytes ++ listed owed ≡ demoted_bytes narrow taken.bytes },
+    ghost whole: { length (noted taken) % 4 ≡ 0 },
+    ghost written: { noted given ++ listed owed ≡ demoted_bytes narrow (noted taken) },
 }
 
 impl Demotion {
@@ -39,7 +40,7 @@ impl Demotion {
     pub(crate) fn new(narrow: Narrow) -> Demotion
         ensures narrow { result.narrow ≡ narrow }
         ensures taken { taken_so_far result ≡ [] }
-        ensures given { result.given.bytes ≡ [] }
+        ensures given { noted result.given ≡ [] }
         ensures owed { result.owed ≡ None }
     {
         Demotion {
@@ -73,7 +74,7 @@ impl Demotion {
     pub(crate) fn settle<O: Sink>(&mut self, out: &mut O) -> Result<(), Failed>
         ensures held { self.new.held ≡ self.old.held }
         ensures value { self.new.value ≡ self.old.value }
-        ensures taken { self.new.taken.bytes ≡ self.old.taken.bytes }
+        ensures taken { noted self.new.taken ≡ noted self.old.taken }
         ensures settled { OnOk result (self.new.owed ≡ None) }
         ensures given { Gives self.old self.new (O.contents out.old) (O.contents out.new) }
         ensures sink { AsksSink O.Sink result out.old out.new }
@@ -81,7 +82,7 @@ impl Demotion {
         if let Some(byte) = self.owed {
             let bytes = [byte];
             out.write(&bytes)?;
-            self.given.push(&bytes);
+            note(&mut self.given, &bytes);
             self.owed = None;
         }
         Ok(())
@@ -120,8 +121,8 @@ impl Demotion {
         ensures value { self.new.value ≡ self.old.value }
         ensures some { IfOk result (λ k. 4 ≤ k) }
         ensures bound { IfOk result (λ k. k ≤ length raw.now) }
-        ensures taken { IfOk result (λ k. self.new.taken.bytes ≡ self.old.taken.bytes ++ take k raw.now) }
-        ensures untaken { OnErr result (self.new.taken.bytes ≡ self.old.taken.bytes) }
+        ensures taken { IfOk result (λ k. noted self.new.taken ≡ noted self.old.taken ++ take k raw.now) }
+        ensures untaken { OnErr result (noted self.new.taken ≡ noted self.old.taken) }
         ensures given { Gives self.old self.new (O.contents out.old) (O.contents out.new) }
         ensures sink { AsksSink O.Sink result out.old out.new }
     {
@@ -136,13 +137,13 @@ impl Demotion {
         );
         let written = out.write(&piece[..count * len])?;
         let values = written.div_ceil(len);
-        self.given.push(&piece[..written]);
+        note(&mut self.given, &piece[..written]);
         self.owed = if written < values * len {
             Some(piece[written])
         } else {
             None
         };
-        self.taken.push(&raw[..values * 4]);
+        note(&mut self.taken, &raw[..values * 4]);
         Ok(values * 4)
     }
 }

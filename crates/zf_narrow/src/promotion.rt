@@ -4,14 +4,15 @@ ghost use Rattle.std.specs.Prelude.{◌≡◌, true, ◌+◌, ◌-◌, ◌%◌, 
 ghost use Rattle.std.specs.Prelude.{replicate, IsTrue, IsOk, IsErr, IfOk, OnOk, OnErr};
 ghost use Rattle.zf_dev.specs.Devices.{AsksSource};
 ghost use Rattle.zf_dev.specs.Source.{Takes, Gives, IsAtEnd};
+ghost use Rattle.zf_dev.specs.Logs.{noted};
 ghost use Rattle.zf_narrow.specs.Values.{size_of};
 ghost use Rattle.zf_narrow.specs.Promoting.{listed};
 
 use crate::Narrow;
-use crate::log::Log;
+use crate::log::note;
 use crate::raw::{put_promoted, size};
 use crate::taking::take_values;
-use zf_dev::{Failed, Source};
+use zf_dev::{Failed, Log, Source};
 
 // The most narrow bytes that are read at a time.
 const PIECE: usize = 4096;
@@ -34,7 +35,7 @@ pub(crate) struct Promotion {
     ghost within: { at ≤ 4 },
     ghost all_given: { IsTrue spent → at ≡ 4 },
     ghost few: { length (listed half) < size_of narrow },
-    ghost whole: { length taken.bytes % size_of narrow ≡ 0 },
+    ghost whole: { length (noted taken) % size_of narrow ≡ 0 },
 }
 
 impl Promotion {
@@ -46,7 +47,7 @@ impl Promotion {
         ensures at { result.at ≡ 4 }
         ensures half { listed result.half ≡ [] }
         ensures spent { ¬ IsTrue result.spent }
-        ensures taken { result.taken.bytes ≡ [] }
+        ensures taken { noted result.taken ≡ [] }
     {
         Promotion {
             narrow,
@@ -156,7 +157,7 @@ impl Promotion {
         }
         let values = count / len;
         put_promoted(self.narrow, values, &piece[..count], &mut buf[..values * 4]);
-        self.taken.push(&piece[..count]);
+        note(&mut self.taken, &piece[..count]);
         Ok(values * 4)
     }
 
