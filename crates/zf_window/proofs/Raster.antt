@@ -3,12 +3,11 @@ use Rattle.std.proofs.Common.{◌≡◌, ℕ, suc, ◌+◌, ◌-◌, ◌*◌, �
 use Rattle.std.proofs.lemmas.Bool.{and_parts, leb-true}
 use Rattle.std.proofs.Math.Nat.{mul-le-mul_left, mul-le-mul_right, le-mul_of_pos_right}
 use Rattle.zf_spec.{specs.Grid.{product, coordinates, is_inside}, proofs.Raster.{length-coordinates}}
-use Rattle.zf_base.{specs.declared.position.Pos.{Pos}, proofs.Extents.{IsPosition-with_unused}}
+use Rattle.zf_base.{specs.declared.position.Pos.{Pos}}
 use Rattle.zf_base.specs.Positions.{axes, used_axes, with_unused, IsPosition}
 use Rattle.zf_base.proofs.Boxes.{is_inside-coordinates, product-append_ones, coordinates-append_ones}
-use Rattle.zf_cached.specs.Windows.{Window, LiesIn, mapped, stepped, none_zero}
-use Rattle.zf_cached.proofs.Windows.{mapped_inside, length-mapped}
-use Rattle.zf_window.{specs.Positions.{raster_at}, proofs.Axes.{sizes_four, IsPosition-inside}}
+use Rattle.zf_cached.specs.Windows.{Window, LiesIn, stepped, none_zero}
+use Rattle.zf_window.{proofs.Axes.{sizes_four, IsPosition-inside}}
 
 take_prefix : (xs ys : List ℕ) (n : ℕ) → length xs ≡ n → take n (xs ++ ys) ≡ xs
 take_prefix (x ∷ xs) ys (suc n) long = ap (λ rest. x ∷ rest) (take_prefix xs ys n (omega arith))
@@ -29,13 +28,6 @@ module _ (d : ℕ) (size p : Pos) (k : ℕ) (dims : d ≤ 4) (sizes : size ≡ w
   used_is long =
       ap (take d) (is ∙ ap (λ ns. coordinates ns k) (sizes_four d size size dims sizes) ∙ coordinates-append_ones (used_axes d size) (4 - d) k)
       ∙ take_prefix (coordinates (used_axes d size) k) (replicate (4 - d) 0) d (length-coordinates (used_axes d size) k ∙ long)
-
--- each position of a window is one of the array's
-pub raster_at-inside : (ns : List ℕ) (w : Window) (k : ℕ) → LiesIn ns w → length w.size ≤ 4 → k < product w.size → IsPosition ns (raster_at w k)
-raster_at-inside ns w k lies four below =
-    let cs = coordinates w.size k in
-    let long : length cs ≡ length w.size = length-coordinates w.size k in
-    IsPosition-with_unused ns (mapped w cs) (omega (arith, four, lies.sizes)) (length-mapped ns w cs lies long) (mapped_inside ns w lies cs (is_inside-coordinates w.size k below) long)
 
 -- ---- a window has no more positions than its array
 

@@ -1,7 +1,8 @@
 //! The positions of a window, one after the other.
 
-ghost use Rattle.std.specs.Prelude.{◌≡◌, ◌+◌, ◌<◌, ◌^◌};
+ghost use Rattle.std.specs.Prelude.{◌≡◌, ℕ, ◌+◌, ◌<◌, ◌^◌, List};
 ghost use Rattle.zf_spec.specs.Grid.{product};
+ghost use Rattle.zf_base.specs.Positions.{IsPosition};
 ghost use Rattle.zf_cached.specs.Windows.{LiesIn};
 ghost use Rattle.zf_window.specs.Positions.{raster_at};
 ghost use Rattle.zf_window.specs.Places.{IsRun};
@@ -67,6 +68,7 @@ impl Walk {
         requires inside { self.old.next < product self.old.window.size }
         requires few { product self.old.window.size < 2 ^ 64 }
         ensures position { result ≡ raster_at self.old.window self.old.next }
+        ensures inside { (ns : List ℕ) → LiesIn ns self.old.window → IsPosition ns result }
         ensures next { self.new ≡ record self.old { next = self.old.next + 1 } }
     {
         let position = self.window.map(self.here);

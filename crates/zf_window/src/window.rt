@@ -1,13 +1,13 @@
 //! A window, and why numbers are none.
 
-ghost use Rattle.std.specs.Prelude.{◌≡◌, ◌↔◌, ℕ, ◌+◌, ◌-◌, ◌*◌, ◌<◌, ◌≤◌, ◌^◌, true, nat_lt, map, length, slice_index_or, slice_set, IsTrue, IsSome, IfSome, IfOk};
+ghost use Rattle.std.specs.Prelude.{◌≡◌, ◌↔◌, ℕ, ◌+◌, ◌-◌, ◌*◌, ◌<◌, ◌≤◌, ◌^◌, true, nat_lt, List, map, length, slice_index_or, slice_set, IsTrue, IsSome, IfSome, IfOk};
 ghost use Rattle.std.specs.Result.{result_err};
 ghost use Rattle.std.specs.List.{AllByRecursion};
 ghost use Rattle.zf_spec.specs.Grid.{is_inside, product, coordinates};
 ghost use Rattle.zf_base.specs.Positions.{axes, used_axes, with_unused, IsPosition};
-ghost use Rattle.zf_cached.specs.Windows.{LiesIn, stepped, mapped, whole, sliced, has_place, none_zero};
+ghost use Rattle.zf_cached.specs.Windows.{LiesIn, stepped, whole, sliced, has_place, none_zero};
 ghost use Rattle.zf_window.specs.WindowFields.{window_of, AreUnused, view_fault};
-ghost use Rattle.zf_window.specs.Positions.{numbered, raster_at, following};
+ghost use Rattle.zf_window.specs.Positions.{position_at, numbered, raster_at, following};
 
 use std::marker::Model;
 use thiserror::Error;
@@ -147,7 +147,8 @@ impl Window {
     #[inline]
     pub fn map(&self, p: Pos) -> Pos
         requires { IsPosition self.now.size p }
-        ensures { result ≡ with_unused 0 (mapped self.now (used_axes (length self.now.size) p)) }
+        ensures value { result ≡ position_at self.now p }
+        ensures inside { (ns : List ℕ) → LiesIn ns self.now → IsPosition ns result }
     {
         stepped(&self.origin, &self.step, p)
     }

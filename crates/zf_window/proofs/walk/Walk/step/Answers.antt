@@ -14,4 +14,4 @@ after-self-inside-requires c =
 pub returns-clause-position : goal.returns-clause-position
 returns-clause-position c =
     let below = subst (λ (x : Walking). x.next < product x.window.size) (sym c.self.view_is) c.requires.inside in
-    c.map-position.ensures ∙ walk_position _ _ _ c.self.invariant below ∙ ap (λ (x : Walking). raster_at x.window x.next) c.self.view_is
+    c.map-position.ensures.value ∙ walk_position _ _ _ c.self.invariant below ∙ ap (λ (x : Walking). raster_at x.window x.next) c.self.view_is
