@@ -1,8 +1,8 @@
 use Rattle.std.proofs.Common.{rules, ◌∙◌, sym, ap, subst, ◌^◌, arith}
 use Rattle.zf_spec.specs.Grid.{IsShape}
 use Rattle.zf_base.specs.Positions.{IsPosition}
-use Rattle.zf_cached.{specs.Windows.{Window as Part}}
-use Rattle.zf_window.{specs.Positions.{position_at}, proofs.Positions.{position_at-inside}}
+use Rattle.zf_cached.specs.Windows.{Window as Part, LiesIn}
+use Rattle.zf_window.specs.Positions.{position_at}
 use Rattle.zf_commands.{proofs.Passing.{up_to_less, small_is}}
 use Rattle.zf_commands.proofs.Commanding.{outside_window, no_range, got_there}
 use Rattle.zf_commands.proofs.values.vget.Goals as goal
@@ -12,10 +12,9 @@ returns-then-not-contains g c = search (rules, no_range, outside_window)
 
 pub number-requires : goal.number-requires
 number-requires g c =
-    let s = g.A.Subject.session c.args.a.now in
-    let at = subst (λ (u : Part). IsPosition u.size c.args.p) c.window-window.ensures (c.contains.ensures.0 c.if-not-contains.false) in record {
+    let s = g.A.Subject.session c.args.a.now in record {
       sound = c.requires.ready.sound;
-      position = subst (IsPosition s.shape) (sym (c.map.ensures ∙ ap (λ (u : Part). position_at u c.args.p) c.window-window.ensures)) (position_at-inside s.shape s.window c.args.p c.requires.ready.window at);
+      position = c.map.ensures.inside s.shape (subst (LiesIn s.shape) (sym c.window-window.ensures) c.requires.ready.window);
     }
 
 pub returns : goal.returns
@@ -24,4 +23,4 @@ returns g c =
     (small_is c.number.result (up_to_less (2 ^ 63) (2 ^ 100) c.number.result (omega arith) c.number.ensures.bound) ∙ c.number.ensures.value)
     (subst IsShape c.sizes.ensures c.dims-dims.ensures.shape) c.args.p
     (subst (λ (u : Part). IsPosition u.size c.args.p) c.window-window.ensures (c.contains.ensures.0 c.if-not-contains.false))
-    (c.map.ensures ∙ ap (λ (u : Part). position_at u c.args.p) c.window-window.ensures)
+    (c.map.ensures.value ∙ ap (λ (u : Part). position_at u c.args.p) c.window-window.ensures)
