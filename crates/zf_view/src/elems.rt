@@ -1,6 +1,6 @@
 //! The values of a window in raster order.
 
-ghost use Rattle.std.specs.Prelude.{◌≡◌, ◌-◌, Some, IfSome};
+ghost use Rattle.std.specs.Prelude.{◌≡◌, Some, IfSome};
 ghost use Rattle.std.specs.Iterator.{UpTo};
 ghost use Rattle.std.specs.Iterator.SizeHint.{IsWithinCount};
 ghost use Rattle.zf_cached.specs.Windows.{LiesIn};
@@ -9,19 +9,17 @@ ghost use Rattle.zf_view.specs.Keeps.{SameArray};
 
 use std::iter::FusedIterator;
 use zf_array::Array;
-use zf_base::{Lane, Pos};
-use zf_window::Window;
+use zf_base::Lane;
+use zf_window::{Walk, Window};
 
 /// The values of a view in raster order, x fastest: each position of the window once, by one touch an item.
 /// Each value is the one that its own touch finds.
 #[derive(Drop)]
 pub struct ElemIter<'a, T: Lane, const D: usize> {
     pub(crate) array: &'a mut Array<T, D>,
-    pub(crate) window: Window,
-    // the next position of the window, its number, and how many there are
-    pub(crate) here: Pos,
-    pub(crate) next: u64,
-    pub(crate) end: u64,
+    pub(crate) walk: Walk,
+    // how many positions are left
+    pub(crate) left: u64,
 }
 
 impl<'a, T: Lane, const D: usize> ElemIter<'a, T, D> {
@@ -37,19 +35,15 @@ impl<'a, T: Lane, const D: usize> ElemIter<'a, T, D> {
     pub fn bind(array: &'a mut Array<T, D>, window: Window) -> ElemIter<'a, T, D>
         requires { LiesIn (shape array.old) window }
         ensures array { SameArray array.entry result.array }
-        ensures window { result.window ≡ window }
-        ensures first { result.next ≡ 0 }
+        ensures walk { result.walk ≡ record { window = window; next = 0 } }
         ensures can_next { IsAtElem result }
     {
         // a window has no more positions than its array has values, so that they can be counted
         let _values = array.shape().values();
-        let end = window.count();
         ElemIter {
             array,
-            window,
-            here: window.first(),
-            next: 0,
-            end,
+            walk: Walk::new(&window),
+            left: window.count(),
         }
     }
 }
@@ -67,12 +61,11 @@ impl<'a, T: Lane, const D: usize> Iterator for ElemIter<'a, T, D> {
 
     #[inline]
     fn next(&mut self) -> Option<T> {
-        if self.next == self.end {
+        if self.left == 0 {
             return None;
         }
-        let position = self.window.map(self.here);
-        self.here = self.window.after(self.here);
-        self.next += 1;
+        self.left -= 1;
+        let position = self.walk.step();
         let array = &mut *self.array;
         Some(array.get(position))
     }
@@ -80,7 +73,7 @@ impl<'a, T: Lane, const D: usize> Iterator for ElemIter<'a, T, D> {
     fn size_hint(&self) -> (usize, Option<usize>)
         ensures lower { IsWithinCount result.0 (elems_left self.now) }
         ensures upper { IfSome result.1 (UpTo (elems_left self.now)) }
-        ensures exact { (result.0 ≡ self.now.end - self.now.next) × (result.1 ≡ Some result.0) }
+        ensures exact { (result.0 ≡ self.now.left) × (result.1 ≡ Some result.0) }
     {
         let left = self.len();
         (left, Some(left))
@@ -89,7 +82,7 @@ impl<'a, T: Lane, const D: usize> Iterator for ElemIter<'a, T, D> {
 
 impl<'a, T: Lane, const D: usize> ExactSizeIterator for ElemIter<'a, T, D> {
     fn len(&self) -> usize {
-        self.end.saturating_sub(self.next) as usize
+        self.left as usize
     }
 }
 

@@ -14,7 +14,7 @@ ghost use Rattle.zf_view.specs.Runs.{ShowsRun, run_changed, with_run};
 use crate::elems::ElemIter;
 use zf_array::Array;
 use zf_base::{Lane, Pos};
-use zf_window::Window;
+use zf_window::{Walk, Window};
 
 /// An array of `D` dimensions seen through a window. It borrows the array, and each of its calls is the
 /// array's call at the position that the window maps to; so windows that overlap, and calls on the array
@@ -106,20 +106,16 @@ impl<'a, T: Lane, const D: usize> View<'a, T, D> {
             (record { width = T.width; WIDTH = T.WIDTH; TY = T.TY; value = T.value; in_range = T.in_range })
             (record { eq = T.eq }) self.entry result.array) }
         ensures array { result.array.now ≡ self.old.array.now }
-        ensures window { result.window ≡ self.old.window }
-        ensures first { result.next ≡ 0 }
+        ensures walk { result.walk ≡ record { window = self.old.window; next = 0 } }
         ensures can_next { IsAtElem result }
     {
         // a window has no more positions than its array has values, so that they can be counted
         let _values = self.array.shape().values();
-        let window = self.window;
-        let end = window.count();
+        let (walk, left) = (Walk::new(&self.window), self.window.count());
         ElemIter {
             array: &mut *self.array,
-            window,
-            here: window.first(),
-            next: 0,
-            end,
+            walk,
+            left,
         }
     }
 

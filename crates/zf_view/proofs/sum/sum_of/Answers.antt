@@ -1,7 +1,6 @@
 use Rattle.std.{proofs.Common.{rules, ◌<◌, ◌^◌, refl, sym, ap, subst, ◌∙◌, arith}, proofs.lemmas.Int.{ints}}
 use Rattle.zf_spec.specs.Grid.{product}
-use Rattle.zf_base.specs.Positions.{IsPosition}
-use Rattle.zf_window.{specs.Positions.{Walking, raster_at}, proofs.Raster.{product_window, raster_at-inside}}
+use Rattle.zf_window.{specs.Positions.{Walking, raster_at}, proofs.Raster.{product_window}}
 use Rattle.zf_window.{specs.Bounds.{IsUpTo}, proofs.Bounds.{value_up_to}}
 use Rattle.zf_view.specs.Sums.{touched_to, sum_found}
 use Rattle.zf_view.proofs.Sums.{more, more_fits, more_is, touched_more, found_more}
@@ -14,15 +13,6 @@ count-number-end-requires g c =
 pub loop-number-init : goal.loop-number-init
 unfolding touched_to sum_found
 loop-number-init g c = record { kept = refl; touched = refl; found = refl; small = (omega (arith, ints), omega (arith, ints)); walk = c.new-walk.ensures }
-
-pub value-found-requires : goal.value-found-requires
-value-found-requires g c =
-    let k = g.A.Reads.kept c.args.array.now in
-    let w = c.args.window in
-    let n = c.loop-number.number in
-    let below : n < product w.size = omega (arith, c.count-number-end.ensures.value, c.loop-number-test.true) in
-    let inside = raster_at-inside (g.A.Reads.shape k) w n c.requires c.count-number-end.ensures.axes below in
-    subst (λ j. IsPosition (g.A.Reads.shape j) c.step.result) (sym c.loop-number.invariant.kept) (subst (IsPosition (g.A.Reads.shape k)) (sym (c.step.ensures.position ∙ ap (λ (x : Walking). raster_at x.window x.next) c.loop-number.invariant.walk)) inside)
 
 pub overflow_add-sum : goal.overflow_add-sum
 overflow_add-sum g c = search (rules, more_fits)

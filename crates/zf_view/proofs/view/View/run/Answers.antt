@@ -1,17 +1,11 @@
-use Rattle.std.proofs.Common.{refl, ap, sym, subst, ◌∙◌, ◌^◌, ℕ, length, rules}
-use Rattle.zf_base.{specs.Positions.{used_axes, IsPosition}, specs.Places.{block_number, place_of}}
+use Rattle.std.proofs.Common.{refl, ap, sym, ◌∙◌, ◌^◌, ℕ, length, rules}
+use Rattle.zf_base.{specs.Positions.{used_axes}, specs.Places.{block_number, place_of}}
 use Rattle.zf_cached.specs.Touch.{touch}
 use Rattle.zf_array.specs.Standing.{Held, state, format, shape, array_of}
-use Rattle.zf_window.{specs.Positions.{position_at}, proofs.Positions.{position_at-inside}}
+use Rattle.zf_window.{specs.Positions.{position_at}}
 use Rattle.zf_view.{specs.ViewLoans.{view_of}, specs.Runs.{block_found}}
 use Rattle.zf_view.proofs.Runs.{run_within, run_shown, len_of, exists_of, found_is}
 use Rattle.zf_view.proofs.view.View.run.Goals as goal
-
-pub place-b-requires : goal.place-b-requires
-place-b-requires g c =
-    let now = c.args.self.now in
-    subst (λ ns. IsPosition ns c.map-first.result) (sym c.shape.ensures.value)
-    (subst (IsPosition (shape now.array.now)) (sym c.map-first.ensures) (position_at-inside (shape now.array.now) now.window c.args.p c.requires.at.lies c.requires.at.position))
 
 pub part-requires : goal.part-requires
 part-requires g c = search (rules, run_within)
@@ -21,8 +15,8 @@ returns g c =
     let now = c.args.self.now in
     let a = now.array.now in
     let shape_is = c.shape.ensures.value in
-    let eb = c.place-b.ensures.block ∙ (λ i. block_number (shape_is i) (used_axes (length (shape_is i)) (c.map-first.ensures i))) in
-    let ek = c.place-b.ensures.place ∙ (λ i. place_of (used_axes (length (shape_is i)) (c.map-first.ensures i))) in
+    let eb = c.place-b.ensures.block ∙ (λ i. block_number (shape_is i) (used_axes (length (shape_is i)) (c.map-first.ensures.value i))) in
+    let ek = c.place-b.ensures.place ∙ (λ i. place_of (used_axes (length (shape_is i)) (c.map-first.ensures.value i))) in
     let whole = c.block.ensures.size ∙ ap (λ d. 4 ^ d) (sym (ap length (sym shape_is) ∙ c.shape.ensures.dims)) in
     let Touched : ℕ → Held = λ b. array_of a.header (touch (format a) (state a) b) in (
       (refl, (λ v. tt), ap (view_of now) (c.block.follows.holds-at-none ∙ ap Touched eb)),

@@ -1,18 +1,11 @@
-use Rattle.std.proofs.Common.{refl, ap, sym, subst, ◌∙◌, map, length, rules}
+use Rattle.std.proofs.Common.{refl, ap, sym, ◌∙◌, map, length, rules}
 use Rattle.std.proofs.lemmas.List.{length-map}
-use Rattle.zf_base.{specs.Positions.{used_axes, IsPosition}, specs.Places.{block_number, place_of}}
+use Rattle.zf_base.{specs.Positions.{used_axes}, specs.Places.{block_number, place_of}}
 use Rattle.zf_lines.{specs.Rows.{over}, proofs.Sizes.{length-over}}
-use Rattle.zf_array.specs.Standing.{shape}
-use Rattle.zf_window.{specs.Positions.{position_at}, proofs.Positions.{position_at-inside}}
+use Rattle.zf_window.{specs.Positions.{position_at}}
 use Rattle.zf_view.specs.ViewLoans.{view_of}
 use Rattle.zf_view.proofs.Runs.{beside, run_within, run_is, run_ends, run_state, header_run}
 use Rattle.zf_view.proofs.view.View.run_mut.Goals as goal
-
-pub place_in-b-requires-clause-position : goal.place_in-b-requires-clause-position
-place_in-b-requires-clause-position g c =
-    let now = c.args.self.now in
-    subst (λ ns. IsPosition ns c.map-first.result) (sym c.shape.ensures.value)
-    (subst (IsPosition (shape now.array.now)) (sym c.map-first.ensures) (position_at-inside (shape now.array.now) now.window c.args.p c.requires.at.lies c.requires.at.position))
 
 pub part_mut-requires : goal.part_mut-requires
 part_mut-requires g c = search (rules, run_within)
@@ -26,7 +19,7 @@ returns g c =
     let lies = c.requires.at.lies in
     let at = c.requires.at.position in
     let shape_is = c.shape.ensures.value in
-    let first = c.map-first.ensures in
+    let first = c.map-first.ensures.value in
     let eb = c.place_in-b.ensures.block ∙ (λ i. block_number (shape_is i) (used_axes (length (shape_is i)) (first i))) in
     let ek = c.place_in-b.ensures.place ∙ (λ i. place_of (used_axes (length (shape_is i)) (first i))) in
     let en = c.run_length-len.ensures in
