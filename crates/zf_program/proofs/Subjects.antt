@@ -60,13 +60,13 @@ Ran-array setting w bits ns ns_now s s_now script starved old new Write is = rec
 pub Ran-direct : (w : Width) (a b : arrays.Held) (script : List ℕ) (old new : Option (List ℕ)) (end : RunEnd) → Runs w a b script old new end
     → Ran (array_subject (setting_of w a) w (block_bits a.header.mode) (arrays.shape a) (arrays.state a)) script old new (Some (saved_file w (block_bits b.header.mode) (arrays.shape b) (arrays.state b))) end
 Ran-direct w a b script old new end ran =
-    subst (λ m. Ran (array_subject (setting_of w a) w (block_bits a.header.mode) (arrays.shape a) (arrays.state a)) script old new (Some (saved_file w (block_bits m) (arrays.shape b) (arrays.state b))) end) (sym ran.same_mode)
+    subst (λ m. Ran (array_subject (setting_of w a) w (block_bits a.header.mode) (arrays.shape a) (arrays.state a)) script old new (Some (saved_file w (block_bits m) (arrays.shape b) (arrays.state b))) end) (sym (ap (λ (q : _). q.1) ran.stays))
     (Ran-array (setting_of w a) w (block_bits a.header.mode) (arrays.shape a) (arrays.shape b) (arrays.state a) (arrays.state b) script ran.starved old new end ran.ended)
 
 pub Ran-two : {X : Type 0} (value : X → ℤ) (w : Width) (s t : Stored) (c d : Kept X) (script : List ℕ) (old new : Option (List ℕ)) (end : RunEnd) → RunsTwo value w s t c d script old new end
     → Ran (array_subject (two_setting_of w s.header) w (block_bits s.header.mode) s.header.shape (pair_state value s c)) script old new (Some (saved_file w (block_bits t.header.mode) t.header.shape (pair_state value t d))) end
 Ran-two value w s t c d script old new end ran =
-    subst (λ (h : Header). Ran (array_subject (two_setting_of w s.header) w (block_bits s.header.mode) s.header.shape (pair_state value s c)) script old new (Some (saved_file w (block_bits h.mode) t.header.shape (pair_state value t d))) end) (sym ran.same_header)
+    subst (λ (h : Header). Ran (array_subject (two_setting_of w s.header) w (block_bits s.header.mode) s.header.shape (pair_state value s c)) script old new (Some (saved_file w (block_bits h.mode) t.header.shape (pair_state value t d))) end) (sym ran.stays.0)
     (Ran-array (two_setting_of w s.header) w (block_bits s.header.mode) s.header.shape t.header.shape (pair_state value s c) (pair_state value t d) script ran.starved old new end ran.ended)
 
 -- a look

@@ -13,10 +13,10 @@ use Rattle.zf_run.specs.declared.end.RunEnd.TheVariants.{Done, Lines, Write}
 use Rattle.zf_const.specs.Standing as read
 use Rattle.zf_commands.specs.Sittings.{session}
 use Rattle.zf_commands.specs.Runs.{AreStarved, StopsAt}
-use Rattle.zf_run.specs.Sessions.{setting_of, start_of, run_of, look_setting_of, look_start_of, look_of}
+use Rattle.zf_run.specs.Sessions.{setting_of, start_of, run_of, kind, look_setting_of, look_start_of, look_of, stream_of}
 use Rattle.zf_cache.specs.Kept.{Kept}
 use Rattle.zf_store.specs.Stored.{Stored}
-use Rattle.zf_run.specs.Pairs.{pair_state, PairFits, two_setting_of}
+use Rattle.zf_run.specs.Pairs.{pair_state, pair_session, PairFits, two_setting_of}
 use Rattle.zf_commands.specs.Steps.{is_refusal}
 
 -- ---- what is left: an array of these sizes, in this state
@@ -51,72 +51,38 @@ abbrev pub end_of : ℕ → RunEnd
 end_of zero = Done
 end_of (suc n) = Lines (suc n)
 
--- ---- a run over an array that is read and written
-
-module _ (w : Width) (before now : Held) (script starved : List ℕ) (old new : Option (List ℕ)) where
-  -- all lines were run, each reply was written, and then the array was flushed
-  abbrev pub Finishes : ℕ → Type 0
-  Finishes refused = Completes (shape now) (state now) starved old new (setting_of w before) (start_of before)
-      script (run_of w before starved script) refused
-
-  -- a line's reply was not written whole, and the array was not flushed
-  abbrev pub Stops : Type 0
-  Stops = Halts (shape now) (state now) starved old new (setting_of w before) (start_of before) script
-
--- a script was run over an array; the lines with these numbers were out of memory
-pub record Runs (w : Width) (before now : Held) (script : List ℕ) (old new : Option (List ℕ)) (end : RunEnd)
-    : Type 0 where
-  pub starved : List ℕ
-  pub ended : IsEnd (Finishes w before now script starved old new) (Stops w before now script starved old new)
-      end
-  pub same_type : now.header.ty ≡ before.header.ty
-  pub same_mode : now.header.mode ≡ before.header.mode
-
--- ---- a look at an array that is only read
-
-module _ (w : Width) (before now : read.Held) (script starved : List ℕ) (old new : Option (List ℕ)) where
-  abbrev pub FinishesLook : ℕ → Type 0
-  FinishesLook refused = Completes (read.shape now) (read.state now) starved old new
-      (look_setting_of w before.header) (look_start_of before) script (look_of w before starved script)
-      refused
-
-  abbrev pub StopsLook : Type 0
-  StopsLook = Halts (read.shape now) (read.state now) starved old new (look_setting_of w before.header)
-      (look_start_of before) script
-
--- a script was run over an array that is only read; the lines with these numbers were out of memory
-pub record Looks (w : Width) (before now : read.Held) (script : List ℕ) (old new : Option (List ℕ))
-    (end : RunEnd) : Type 0 where
-  pub starved : List ℕ
-  pub ended : IsEnd (FinishesLook w before now script starved old new)
-      (StopsLook w before now script starved old new) end
-  pub same_header : now.header ≡ before.header
-  pub same_codes : now.codes ≡ before.codes
-
--- ---- a run over a store and a two-way cache
-
-module _ {X : Type 0} (value : X → ℤ) (w : Width) (s t : Stored) (c d : Kept X) (script starved : List ℕ)
-    (old new : Option (List ℕ)) where
-  -- what it begins with
-  abbrev pub two_start_of : Session (List Bool)
-  two_start_of = session s.header.shape (pair_state value s c) (whole s.header.shape)
-
-  -- all lines were run, each reply was written, and then the cache was flushed
-  abbrev pub FinishesTwo : ℕ → Type 0
-  FinishesTwo refused = Completes t.header.shape (pair_state value t d) starved old new
-      (two_setting_of w s.header) two_start_of script
-      (run (two_setting_of w s.header) starved s.header.shape (pair_state value s c) script) refused
-
-  -- a line's reply was not written whole, and the cache was not flushed
-  abbrev pub StopsTwo : Type 0
-  StopsTwo = Halts t.header.shape (pair_state value t d) starved old new (two_setting_of w s.header)
-      two_start_of script
-
--- a script was run over a store and a two-way cache; the lines with these numbers were out of memory
-pub record RunsTwo {X : Type 0} (value : X → ℤ) (w : Width) (s t : Stored) (c d : Kept X) (script : List ℕ)
+-- a script was run from a start, where its lines lead to `ran`, if those with these numbers are out of memory;
+-- what is left is an array of these sizes in this state, and `Stays` holds
+pub record Ends {Code : Type 0} (setting : Setting Code) (start : Session Code) (script : List ℕ)
+    (ran : List ℕ → Session Code × List Reply) (ns : List ℕ) (s : State Code) (Stays : Type 0)
     (old new : Option (List ℕ)) (end : RunEnd) : Type 0 where
   pub starved : List ℕ
-  pub ended : IsEnd (FinishesTwo value w s t c d script starved old new)
-      (StopsTwo value w s t c d script starved old new) end
-  pub same_header : t.header ≡ s.header
-  pub fits : PairFits value t d
+  pub ended : IsEnd (Completes ns s starved old new setting start script (ran starved))
+      (Halts ns s starved old new setting start script) end
+  pub stays : Stays
+
+-- a script was run over an array that is read and written. Where all lines were, it was flushed then
+abbrev pub Runs : Width → Held → Held → List ℕ → Option (List ℕ) → Option (List ℕ) → RunEnd → Type 0
+Runs w before now script old new end =
+    Ends (setting_of w before) (start_of before) script (λ starved. run_of w before starved script)
+    (shape now) (state now) (kind now ≡ kind before) old new end
+
+-- a script was run over an array that is only read
+abbrev pub Looks : Width → read.Held → read.Held → List ℕ → Option (List ℕ) → Option (List ℕ) → RunEnd
+    → Type 0
+Looks w before now script old new end =
+    Ends (look_setting_of w before.header) (look_start_of before) script
+    (λ starved. look_of w before starved script) (read.shape now) (read.state now)
+    (stream_of now ≡ stream_of before) old new end
+
+module _ {X : Type 0} (value : X → ℤ) (w : Width) (s t : Stored) (c d : Kept X) where
+  -- what a run over a store and a two-way cache begins with
+  abbrev pub two_start_of : Session (List Bool)
+  two_start_of = pair_session value s c (whole s.header.shape)
+
+  -- a script was run over the two. Where all lines were, the cache was flushed then
+  abbrev pub RunsTwo : List ℕ → Option (List ℕ) → Option (List ℕ) → RunEnd → Type 0
+  RunsTwo script old new end =
+      Ends (two_setting_of w s.header) two_start_of script
+      (λ starved. run (two_setting_of w s.header) starved s.header.shape (pair_state value s c) script)
+      t.header.shape (pair_state value t d) ((t.header ≡ s.header) × PairFits value t d) old new end

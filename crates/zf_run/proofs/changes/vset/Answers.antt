@@ -16,10 +16,5 @@ pub returns-in_default-clause-does : goal.returns-in_default-clause-does
 unfolding array_setting
 returns-in_default-clause-does g c = search (rules, refused_value, within, to_z-of_z)
 
-pub set-requires : goal.set-requires
-set-requires g c =
-    let now = c.args.a.now in
-    (lit< tt, subst (IsPosition (shape now)) (sym c.map.ensures) (position_at-inside (shape now) c.args.window.now c.args.p c.requires.inside (c.contains.ensures.0 c.if-not-contains.false)))
-
 pub returns-clause-does : goal.returns-clause-does
 returns-clause-does g c = search (rules, put_there, to_z-of_z)
