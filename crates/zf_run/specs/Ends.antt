@@ -11,7 +11,6 @@ use Rattle.zf_array.specs.Standing.{Held, shape, state}
 use Rattle.zf_run.specs.declared.end.RunEnd.{RunEnd}
 use Rattle.zf_run.specs.declared.end.RunEnd.TheVariants.{Done, Lines, Write}
 use Rattle.zf_const.specs.Standing as read
-use Rattle.zf_commands.specs.Sittings.{session}
 use Rattle.zf_commands.specs.Runs.{AreStarved, StopsAt}
 use Rattle.zf_run.specs.Sessions.{setting_of, start_of, run_of, kind, look_setting_of, look_start_of, look_of, stream_of}
 use Rattle.zf_cache.specs.Kept.{Kept}

@@ -19,6 +19,7 @@ use Rattle.zf_array.specs.Coded.{IsCoded}
 use Rattle.zf_commands.specs.Sittings.{sitting}
 use Rattle.zf_commands.specs.Steps.{HasWindow, Does}
 use Rattle.zf_run.specs.Sessions.{setting_of, kind}
+use Rattle.zf_run.specs.declared.splits.Parted.{Parted}
 
 -- the lists that vectors are seen as
 abbrev pub lists : {X Z : Type 0} → Option (Vec X Z) → Option (List X)
@@ -98,6 +99,22 @@ module _ {X : Type 0} (value : X → ℤ) where
     pub does : DoesAlone (setting_of w a) c (split_session a views) (split_session b now) reply
     pub parts : AreParts d b now
     pub kept : kind b ≡ kind a
+
+module _ {X : Type 0} {n : ℕ} where
+  -- an array that may be split, as what a script works on
+  abbrev pub session_in : (X → ℤ) → Parted X n → Session (List Bool)
+  session_in value p = parted_session value p.array.now p.views.now p.window
+
+  -- the same array, of the same kind
+  abbrev pub StaysParted : Parted X n → Parted X n → Type 0
+  StaysParted p q = (kind q.array.now ≡ kind p.array.now) × (q.array.ghost_name ≡ p.array.ghost_name)
+
+  -- a command was done on an array that may be split: on what it was, and what it is then
+  pub record ObeysParted (value : X → ℤ) (w : Width) (p q : Parted X n) (c : Command) (reply : Option Reply)
+      : Type 0 where
+    pub does : Does (setting_of w p.array.now) c (session_in value p) (session_in value q) reply
+    pub sound : FitTogether value n q.array.now q.views.now
+    pub kept : StaysParted p q
 
 -- a view as it is made: nothing is in its lines, and nothing is counted
 pub record IsNewPart {X : Type 0} (d : ℕ) (ns : List ℕ) (n lines i : ℕ) (v : private.Held X) : Type 0 where

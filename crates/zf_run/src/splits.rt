@@ -13,8 +13,8 @@ ghost use Rattle.zf_cache.specs.Kept.{IsLineCount};
 ghost use Rattle.zf_array.specs.Coded.{HasEmptyLines, IsCoded};
 ghost use Rattle.zf_commands.specs.Kinds.{cmd_of_kind, view_cmd, asked, IsPlain};
 ghost use Rattle.zf_run.specs.Sessions.{session_of, setting_of, kind};
-ghost use Rattle.zf_commands.specs.Steps.{Does, HasWindow, said};
-ghost use Rattle.zf_run.specs.Splits.{lists, parted_session, FitTogether, AreNewParts};
+ghost use Rattle.zf_commands.specs.Steps.{HasWindow, said};
+ghost use Rattle.zf_run.specs.Splits.{lists, session_in, FitTogether, StaysParted, ObeysParted, AreNewParts};
 
 use crate::arrays::Whole;
 use crate::changes::change_array;
@@ -46,11 +46,9 @@ impl<'a, T: Lane, const D: usize> Parted<'a, T, D> {
     /// The end of a run: a split ends, and then the array is flushed.
     pub(crate) fn finish(&mut self)
         requires { FitTogether T.value D self.old.array.now self.old.views.now }
-        ensures ended { ended (setting_of T.width self.old.array.now)
-            (parted_session T.value self.old.array.now self.old.views.now self.old.window)
+        ensures ended { ended (setting_of T.width self.old.array.now) (session_in T.value self.old)
             ≡ session_of self.new.array.now self.new.window }
-        ensures kept { (kind self.new.array.now ≡ kind self.old.array.now)
-            × (self.new.array.ghost_name ≡ self.old.array.ghost_name) }
+        ensures kept { StaysParted self.old self.new }
     {
         self.join();
         let array = &mut *self.array;
@@ -62,12 +60,10 @@ impl<'a, T: Lane, const D: usize> Parted<'a, T, D> {
     // Flushes the views in order, and ends the split, if there is one.
     fn join(&mut self)
         requires { FitTogether T.value D self.old.array.now self.old.views.now }
-        ensures joined { joined (setting_of T.width self.old.array.now)
-            (parted_session T.value self.old.array.now self.old.views.now self.old.window)
+        ensures joined { joined (setting_of T.width self.old.array.now) (session_in T.value self.old)
             ≡ session_of self.new.array.now self.new.window }
         ensures whole { self.new.views.now ≡ None }
-        ensures kept { (kind self.new.array.now ≡ kind self.old.array.now)
-            × (self.new.array.ghost_name ≡ self.old.array.ghost_name) }
+        ensures kept { StaysParted self.old self.new }
     {
         let array = &mut *self.array;
         let parts = &mut *self.views;
@@ -81,13 +77,8 @@ impl<'a, T: Lane, const D: usize> Parted<'a, T, D> {
     // flushed.
     fn split(&mut self, count: u64, lines: u64) -> Option<Reply>
         requires whole { self.old.views.now ≡ None }
-        requires window { HasWindow (session_of self.old.array.now self.old.window) }
-        ensures does { Does (setting_of T.width self.old.array.now) (Command.split count lines)
-            (session_of self.old.array.now self.old.window)
-            (parted_session T.value self.new.array.now self.new.views.now self.new.window) (said result) }
-        ensures sound { FitTogether T.value D self.new.array.now self.new.views.now }
-        ensures kept { (kind self.new.array.now ≡ kind self.old.array.now)
-            × (self.new.array.ghost_name ≡ self.old.array.ghost_name) }
+        requires window { HasWindow (session_in T.value self.old) }
+        ensures { ObeysParted T.value T.width self.old self.new (Command.split count lines) (said result) }
     {
         let array = &mut *self.array;
         let shape = array.shape();
@@ -107,15 +98,10 @@ impl<'a, T: Lane, const D: usize> Parted<'a, T, D> {
     // What a command does while the array is whole.
     fn obey_whole(&mut self, cmd: Kind) -> Option<Reply>
         requires whole { self.old.views.now ≡ None }
-        requires window { HasWindow (session_of self.old.array.now self.old.window) }
-        requires plain { IsPlain (session_of self.old.array.now self.old.window) (cmd_of_kind cmd) }
-        ensures does { Does (setting_of T.width self.old.array.now)
-            (asked (session_of self.old.array.now self.old.window) (cmd_of_kind cmd))
-            (session_of self.old.array.now self.old.window)
-            (parted_session T.value self.new.array.now self.new.views.now self.new.window) (said result) }
-        ensures sound { FitTogether T.value D self.new.array.now self.new.views.now }
-        ensures kept { (kind self.new.array.now ≡ kind self.old.array.now)
-            × (self.new.array.ghost_name ≡ self.old.array.ghost_name) }
+        requires window { HasWindow (session_in T.value self.old) }
+        requires plain { IsPlain (session_in T.value self.old) (cmd_of_kind cmd) }
+        ensures { ObeysParted T.value T.width self.old self.new
+            (asked (session_in T.value self.old) (cmd_of_kind cmd)) (said result) }
     {
         match cmd {
             Kind::Read(asked) => {
@@ -144,18 +130,10 @@ impl<'a, T: Lane, const D: usize> Parted<'a, T, D> {
     fn obey_parted(&mut self, cmd: Kind) -> Option<Reply>
         requires sound { FitTogether T.value D self.old.array.now self.old.views.now }
         requires parted { IsSome self.old.views.now }
-        requires window { HasWindow (parted_session T.value self.old.array.now self.old.views.now
-            self.old.window) }
-        requires plain { IsPlain (parted_session T.value self.old.array.now self.old.views.now
-            self.old.window) (cmd_of_kind cmd) }
-        ensures does { Does (setting_of T.width self.old.array.now)
-            (asked (parted_session T.value self.old.array.now self.old.views.now self.old.window)
-            (cmd_of_kind cmd))
-            (parted_session T.value self.old.array.now self.old.views.now self.old.window)
-            (parted_session T.value self.new.array.now self.new.views.now self.new.window) (said result) }
-        ensures sound { FitTogether T.value D self.new.array.now self.new.views.now }
-        ensures kept { (kind self.new.array.now ≡ kind self.old.array.now)
-            × (self.new.array.ghost_name ≡ self.old.array.ghost_name) }
+        requires window { HasWindow (session_in T.value self.old) }
+        requires plain { IsPlain (session_in T.value self.old) (cmd_of_kind cmd) }
+        ensures { ObeysParted T.value T.width self.old self.new
+            (asked (session_in T.value self.old) (cmd_of_kind cmd)) (said result) }
     {
         match cmd {
             Kind::Join => {
@@ -170,18 +148,10 @@ impl<'a, T: Lane, const D: usize> Parted<'a, T, D> {
     // What a command on a view does. Where there is none it is refused.
     fn obey_view(&mut self, i: u64, cmd: ViewCmd) -> Option<Reply>
         requires sound { FitTogether T.value D self.old.array.now self.old.views.now }
-        requires window { HasWindow (parted_session T.value self.old.array.now self.old.views.now
-            self.old.window) }
-        requires plain { IsPlain (parted_session T.value self.old.array.now self.old.views.now
-            self.old.window) (view_cmd i cmd) }
-        ensures does { Does (setting_of T.width self.old.array.now)
-            (asked (parted_session T.value self.old.array.now self.old.views.now self.old.window)
-            (view_cmd i cmd))
-            (parted_session T.value self.old.array.now self.old.views.now self.old.window)
-            (parted_session T.value self.new.array.now self.new.views.now self.new.window) (said result) }
-        ensures sound { FitTogether T.value D self.new.array.now self.new.views.now }
-        ensures kept { (kind self.new.array.now ≡ kind self.old.array.now)
-            × (self.new.array.ghost_name ≡ self.old.array.ghost_name) }
+        requires window { HasWindow (session_in T.value self.old) }
+        requires plain { IsPlain (session_in T.value self.old) (view_cmd i cmd) }
+        ensures { ObeysParted T.value T.width self.old self.new
+            (asked (session_in T.value self.old) (view_cmd i cmd)) (said result) }
     {
         let array = &mut *self.array;
         let Some(views) = &mut *self.views else {
@@ -204,7 +174,7 @@ impl<'a, T: Lane, const D: usize> Subject for Parted<'a, T, D> {
 
     ghost sound = { λ p. FitTogether T.value D p.array.now p.views.now };
 
-    ghost session = { λ p. parted_session T.value p.array.now p.views.now p.window };
+    ghost session = { session_in T.value };
 
     fn sizes(&self) -> Shape {
         self.array.shape()

@@ -1,8 +1,5 @@
-use Rattle.std.{proofs.Common.{rules, sym, subst, lit<}, proofs.lemmas.Bool.{false≢true}}
+use Rattle.std.{proofs.Common.{rules}, proofs.lemmas.Bool.{false≢true}}
 use Rattle.std.proofs.lemmas.Int.{to_z-of_z}
-use Rattle.zf_base.specs.Positions.{IsPosition}
-use Rattle.zf_array.specs.Standing.{shape}
-use Rattle.zf_window.proofs.Positions.{position_at-inside}
 use Rattle.zf_cached.specs.Runs.{array_setting}
 use Rattle.zf_commands.proofs.Stepping.{refused_range, refused_value}
 use Rattle.zf_commands.proofs.Commanding.{outside_window, within}
