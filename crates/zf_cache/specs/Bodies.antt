@@ -50,6 +50,11 @@ module _ {X : Type 0} where
       pub here : tag_at d.tags l / 2 ≡ b + 1
       pub others : OnlyLine c d l
 
+    -- so it does, and the row of that line was written
+    pub record IsTouchedAt (c d : Body X) (b l : ℕ) : Type 0 where
+      pub comes : ComesTo (kept_of c) (kept_of d) b l
+      pub written : l < d.lines.written
+
     module _ {Code : Type 0} (value : X → ℤ) where
       -- the state that the fields and the backing stand for
       abbrev pub state_in : Body X → Format Code → (ℕ → Code) → State Code

@@ -48,7 +48,7 @@ fn risen(count: u64) -> u64
 }
 
 impl<T: Lane> Body<T> {
-    ghost use Rattle.zf_cache.specs.Bodies.{AreLines, IsWhole, IsNewBody, IsSound, IsSoundAt, ComesTo};
+    ghost use Rattle.zf_cache.specs.Bodies.{AreLines, IsWhole, IsNewBody, IsSound, IsSoundAt, IsTouchedAt};
     ghost use Rattle.zf_cache.specs.Bodies.{kept_of, state_in};
     ghost use Rattle.zf_cache.specs.Steps.{taken_in, touch_in, with_value};
 
@@ -163,8 +163,7 @@ impl<T: Lane> Body<T> {
         requires ready { IsSoundAt R.place T.value self.old (B.format back.old) (B.codes back.old) b }
         ensures step { StepsTo B.Reading (state_in R.place T.value) (IsSound R.place T.value)
             (λ f s. touch_in f s result b) self.old back.old self.new back.new }
-        ensures line { ComesTo R.place (kept_of self.old) (kept_of self.new) b result }
-        ensures written { result < self.new.lines.written }
+        ensures line { IsTouchedAt R.place self.old self.new b result }
     {
         let l = self.line_of::<R>(b);
         if self.tags[l as usize] / 2 == b + 1 {
@@ -182,8 +181,7 @@ impl<T: Lane> Body<T> {
         requires ready { IsSoundAt R.place T.value self.old (B.format back.old) (B.codes back.old) b }
         ensures step { StepsTo B.Reading (state_in R.place T.value) (IsSound R.place T.value)
             (λ f s. soiled (touch_in f s result b) b) self.old back.old self.new back.new }
-        ensures line { ComesTo R.place (kept_of self.old) (kept_of self.new) b result }
-        ensures written { result < self.new.lines.written }
+        ensures line { IsTouchedAt R.place self.old self.new b result }
         ensures dirty { tag_at self.new.tags.items result ≡ dirty_tag b }
     {
         let l = self.touch::<R, B>(back, b);
@@ -199,8 +197,7 @@ impl<T: Lane> Body<T> {
         ensures step { StepsTo B.Reading (state_in R.place T.value) (IsSound R.place T.value)
             (λ f s. touch_in f s result b) self.old back.old self.new back.new }
         ensures clean { IsClean (kept_of self.new) }
-        ensures line { ComesTo R.place (kept_of self.old) (kept_of self.new) b result }
-        ensures written { result < self.new.lines.written }
+        ensures line { IsTouchedAt R.place self.old self.new b result }
     {
         let l = self.line_of::<R>(b);
         if self.tags[l as usize] / 2 == b + 1 {

@@ -11,7 +11,7 @@ pub invariant_of-self-lent : goal.invariant_of-self-lent
 invariant_of-self-lent g c =
     let t = c.touch_for_writing-l.new.self in let l = c.touch_for_writing-l.result in let e = c.touch_for_writing-l.ensures in
     let is : IsWhole t (4 ^ g.row.D) = subst (IsWhole t) (ap (λ q. q.block_len) e.step.format ∙ c.requires.backed.blocks.0) e.step.fits.whole in
-    let lt : l < length t.tags.items = omega (arith, e.line.row, is.size.0) in
+    let lt : l < length t.tags.items = omega (arith, e.line.comes.row, is.size.0) in
     λ w. (whole_over t (4 ^ g.row.D) l (over (line_at t.lines.blocks l) w) is lt (length-over (line_at t.lines.blocks l) w), c.self.invariant.1)
 
 pub returns : goal.returns
@@ -24,13 +24,13 @@ returns g c =
     let row = c.line_mut.result.now in let row_is = c.line_mut.ensures.value in (
       (
         refl,
-        λ w. lends g.R.Rule.place g.R.Placing.may_hold g.met.R.Rule.rule value f h j o t b l e.step.format e.step.fits e.line k e.dirty e.step.state row row_is w
-            ∙ lent_is g.R.Rule.place g.R.Placing.line g.met.R.Rule.told value g.R.Placing.may_hold g.met.R.Rule.rule f h j o t b l e.step.format e.step.fits e.line k fits e.dirty e.step.state row row_is w ∙ ap (λ (q : Kept g.row.T.Denot). lent_block_at g.R.Rule.place value g.R.Placing.line f k q b row w) is,
+        λ w. lends g.R.Rule.place g.R.Placing.may_hold g.met.R.Rule.rule value f h j o t b l e.step.format e.step.fits e.line.comes k e.dirty e.step.state row row_is w
+            ∙ lent_is g.R.Rule.place g.R.Placing.line g.met.R.Rule.told value g.R.Placing.may_hold g.met.R.Rule.rule f h j o t b l e.step.format e.step.fits e.line.comes k fits e.dirty e.step.state row row_is w ∙ ap (λ (q : Kept g.row.T.Denot). lent_block_at g.R.Rule.place value g.R.Placing.line f k q b row w) is,
       ),
       record {
         writes_back = tt;
-        loan = subst (λ (q : Kept g.row.T.Denot). LendsBlockAt g.R.Rule.place value g.R.Placing.line f k j q b row) is (loans g.R.Rule.place g.R.Placing.line g.met.R.Rule.told value g.R.Placing.may_hold g.met.R.Rule.rule f h j o t b l e.step.format e.step.fits e.line k fits e.dirty e.step.state row row_is);
-        size = ap length row_is ∙ whole g.R.Rule.place g.R.Placing.may_hold g.met.R.Rule.rule value f h j o t b l e.step.format e.step.fits e.line ∙ ap (λ q. q.block_len) e.step.format ∙ c.requires.backed.blocks.0;
+        loan = subst (λ (q : Kept g.row.T.Denot). LendsBlockAt g.R.Rule.place value g.R.Placing.line f k j q b row) is (loans g.R.Rule.place g.R.Placing.line g.met.R.Rule.told value g.R.Placing.may_hold g.met.R.Rule.rule f h j o t b l e.step.format e.step.fits e.line.comes k fits e.dirty e.step.state row row_is);
+        size = ap length row_is ∙ whole g.R.Rule.place g.R.Placing.may_hold g.met.R.Rule.rule value f h j o t b l e.step.format e.step.fits e.line.comes ∙ ap (λ q. q.block_len) e.step.format ∙ c.requires.backed.blocks.0;
         keeps = record { format = e.step.format; kept = e.step.kept };
       },
     )

@@ -3,7 +3,7 @@ use Rattle.zf_cache.{specs.Bodies.{kept_of}, proofs.Lent.{gets}, proofs.Placed.{
 use Rattle.zf_cache.proofs.cache.CacheBy.get.Goals as goal
 
 pub returns-clause-step : goal.returns-clause-step
-returns-clause-step g c = let e = c.touch-l.ensures in touches g.R.Rule.place g.R.Placing.line g.met.R.Rule.told g.T.Lane.value g.B.Reading c.self.inside.body c.args.self.now c.self.view_is c.args.back.now c.requires.backed.fits c.touch-l.new.self c.touch-l.new.back c.args.b c.touch-l.result e.line e.step
+returns-clause-step g c = let e = c.touch-l.ensures in touches g.R.Rule.place g.R.Placing.line g.met.R.Rule.told g.T.Lane.value g.B.Reading c.self.inside.body c.args.self.now c.self.view_is c.args.back.now c.requires.backed.fits c.touch-l.new.self c.touch-l.new.back c.args.b c.touch-l.result e.line.comes e.step
 
 pub returns-clause-value : goal.returns-clause-value
 returns-clause-value g c =
@@ -11,4 +11,4 @@ returns-clause-value g c =
     let t = c.touch-l.new.self in let e = c.touch-l.ensures in
     let h = g.B.Reading.format c.touch-l.new.back in let j = g.B.Reading.codes c.touch-l.new.back in
     let within = subst (λ n. c.args.p < n) (sym (ap (λ q. q.block_len) e.step.format ∙ c.requires.backed.blocks.0)) c.requires.place in
-    gets g.R.Rule.place g.R.Placing.may_hold g.met.R.Rule.rule g.T.Lane.value f h j (kept_of c.self.inside.body) t c.args.b c.touch-l.result e.step.format e.step.fits e.line c.args.p c.line.result.now c.index-line-p.result within c.line.ensures c.index-line-p.is
+    gets g.R.Rule.place g.R.Placing.may_hold g.met.R.Rule.rule g.T.Lane.value f h j (kept_of c.self.inside.body) t c.args.b c.touch-l.result e.step.format e.step.fits e.line.comes c.args.p c.line.result.now c.index-line-p.result within c.line.ensures c.index-line-p.is
