@@ -1,10 +1,10 @@
 -- An array after a call as a session.
-use Rattle.std.proofs.Common.{rules, ◌≡◌, sym, ap, ◌∙◌, ℕ, ◌^◌, ℤ, Bool, List, None, length, to_z, of_z}
+use Rattle.std.proofs.Common.{rules, ◌≡◌, sym, ap, subst, ◌∙◌, ℕ, ◌^◌, ℤ, Bool, List, None, length, to_z, of_z}
 use Rattle.std.{specs.Int.{Width, w128}, proofs.lemmas.Int.{to_z-of_z}}
 use Rattle.zf_spec.specs.Grid.{IsShape, extent_of}
 use Rattle.zf_base.{specs.declared.position.Extent.{Extent}, specs.Positions.{used_axes, IsExtent}}
 use Rattle.zf_base.{specs.Widths.{width_of}, specs.Formats.{Format, existing_of}}
-use Rattle.zf_header.specs.HeaderBits.{block_bits}
+use Rattle.zf_header.{specs.declared.header.Header.{Header}, specs.HeaderBits.{block_bits}}
 use Rattle.zf_cached.{specs.State.{State}, specs.Arrays.{Coding, rate_coding, array_format}}
 use Rattle.zf_cached.specs.Touch.{touch, touch_for_writing, with_values, touch_for_writing_at}
 use Rattle.zf_cached.{specs.Windows.{Window}, specs.Changes.{flush, discard, raised, relined}}
@@ -13,7 +13,7 @@ use Rattle.zf_cached.specs.Runs.{array_setting}
 use Rattle.zf_window.{specs.Bounds.{IsUpTo}, proofs.Bounds.{up_to_fits}}
 use Rattle.zf_commands.{specs.Sums.{within}, proofs.Passing.{within_is, up_to_less}}
 use Rattle.zf_array.specs.Standing.{Held, shape, state, format}
-use Rattle.zf_run.specs.Sessions.{setting_of, session_of, kind}
+use Rattle.zf_run.specs.Sessions.{setting_of, session_of, kind, IsArray}
 
 -- an array with the same header, and two references that are the same
 abbrev pub with_names : {K N : Type 0} → N → N → K → K × N × N
@@ -21,6 +21,10 @@ with_names m n k = (k, m, n)
 
 pub same_whole : {N : Type 0} (m n : N) (a b : Held) → b.header ≡ a.header → with_names m n (kind b) ≡ with_names m n (kind a)
 same_whole m n a b head = λ i. (((head i).ty, (head i).mode), m, n)
+
+-- and it is an array of the same type and dimensions
+pub still_array : (w : Width) (d : ℕ) (a b : Held) → b.header ≡ a.header → IsArray w d a → IsArray w d b
+still_array w d a b head is = subst (λ (h : Header). (w ≡ width_of h.ty) × IsShape h.shape × (length h.shape ≡ d) → IsArray w d b) head (λ p. record { same_type = p.0; sizes = p.1; dims = p.2 }) (is.same_type, is.sizes, is.dims)
 
 module _ (w : Width) (a : Held) (same : w ≡ width_of a.header.ty) (v : Window) where
   -- the codes of the session are those of the array

@@ -18,7 +18,7 @@ use Rattle.zf_cache.{specs.Kept.{Kept, IsEmpty}, specs.Standing.{state_of}, proo
 use Rattle.zf_cache.{proofs.Steps.{empty_fits}, proofs.Touches.{state_is, no_tag, all_meant}}
 use Rattle.zf_private.specs.Standing as private
 use Rattle.zf_array.{specs.Standing.{Held, shape, state, format}, specs.Coded.{IsCoded}}
-use Rattle.zf_run.{specs.Sessions.{setting_of, session_of, kind}, proofs.Sessions.{format_is}}
+use Rattle.zf_run.{specs.Sessions.{setting_of, session_of, kind, IsArray}, proofs.Sessions.{format_is, still_array}}
 use Rattle.zf_run.specs.Splits.{view_of, views_seen, split_session, IsPart, AreParts, IsNewPart, AreNewParts}
 use Rattle.zf_run.proofs.Viewing.{is_owner_is, seen_at}
 use Rattle.zf_commands.{specs.Steps.{Does, HasWindow}, proofs.Stepping.{accepted}}
@@ -66,11 +66,14 @@ module _ {X : Type 0} (value : X → ℤ) where
 
   -- ---- a split
 
-  module _ (w : Width) (d : ℕ) (a b : Held) (views : List (private.Held X)) (n l lines : ℕ) (same : w ≡ width_of a.header.ty) (some : 0 < n)
+  module _ (w : Width) (d : ℕ) (a b : Held) (views : List (private.Held X)) (n l lines : ℕ) (array : IsArray w d a) (some : 0 < n)
       (number : is_view_count (blocks (shape a)) n ≡ true) (counts : is_line_count l ≡ true) (raises : lines ≡ raised l)
       (new : AreNewParts d (shape a) n lines n views) (flushes : state b ≡ flush (format a) (state a)) (head : b.header ≡ a.header) (is_coded : IsCoded b) where
     abbrev S : Setting (List Bool)
     S = setting_of w a
+
+    same : w ≡ width_of a.header.ty
+    same = array.same_type
 
     same_shape : shape b ≡ shape a
     same_shape = ap (λ (h : Header). h.shape) head
@@ -93,9 +96,10 @@ module _ {X : Type 0} (value : X → ℤ) where
         accepted S (Command.split n l) (session_of a u) lies refl (ap not (and_from (is_view_count (blocks (shape a)) n) (is_line_count l) number counts)) refl refl (split_session value b views u) None refl
         (ap (λ (s : Session (List Bool)). (s, None)) (splits u)) (subst HasWindow (splits u) lies)
 
-    pub are_parts : AreParts value d b views
+    pub are_parts : AreParts value w d b views
     unfolding array_format
     are_parts = record {
+      array = still_array w d a b head array;
       is_coded = is_coded;
       number = subst (λ m. is_view_count (blocks (shape b)) m ≡ true) (sym new.many) (subst (λ ns. is_view_count (blocks ns) n ≡ true) (sym same_shape) number);
       each = λ i v lt at. subst (λ m. IsPart value d b m i v) (sym new.many) (part i v (new.each i v lt at));
@@ -131,10 +135,9 @@ whole_joins w a u = refl
 
 -- ---- the end of a run
 
-pub ends : (w : Width) (a mid b : Held) (s : Session (List Bool)) (u : Window) → w ≡ width_of a.header.ty → kind mid ≡ kind a → joined (setting_of w a) s ≡ session_of mid u
+pub ends : (w : Width) (a mid b : Held) (s : Session (List Bool)) (u : Window) → w ≡ width_of mid.header.ty → kind mid ≡ kind a → joined (setting_of w a) s ≡ session_of mid u
     → state b ≡ flush (format mid) (state mid) → b.header ≡ mid.header → ended (setting_of w a) s ≡ session_of b u
 unfolding ended
 ends w a mid b s u same kept joins flushes head =
-    let ty : mid.header.ty ≡ a.header.ty = ap (λ (k : Ty × Mode). k.0) kept in
     let coded : format_of (setting_of w a) (session_of mid u) ≡ format mid =
-    ap (λ (k : Ty × Mode). format_of (array_setting w (block_bits k.1)) (session_of mid u)) (sym kept) ∙ format_is w mid (same ∙ ap width_of (sym ty)) u in search rules
+    ap (λ (k : Ty × Mode). format_of (array_setting w (block_bits k.1)) (session_of mid u)) (sym kept) ∙ format_is w mid same u in search rules

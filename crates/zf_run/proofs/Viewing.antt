@@ -22,7 +22,7 @@ use Rattle.zf_private.{specs.Standing.{Own, IsSameView, IsWhole}, proofs.Calls.{
 use Rattle.zf_private.proofs.Alike.{stay-acted, quiet-acted, alike-acted, alike-answered}
 use Rattle.zf_private.{proofs.Others.{other_codes_alike}, proofs.Ready.{ready_after, ready_beside}, proofs.Several.{own-or-not}}
 use Rattle.zf_array.{specs.Standing.{Held, shape, state, format}, specs.Coded.{IsCoded}}
-use Rattle.zf_run.{specs.Sessions.{setting_of, kind}, proofs.Sessions.{format_is}}
+use Rattle.zf_run.{specs.Sessions.{setting_of, kind}, proofs.Sessions.{format_is, still_array}}
 use Rattle.zf_run.specs.Splits.{owns_block, view_state, view_of, views_seen, split_session, IsPart, AreParts}
 use Rattle.zf_commands.{specs.Steps.{Does, HasWindow, starves}, proofs.Stepping.{accepted}}
 
@@ -82,7 +82,7 @@ pub record HasActed {X : Type 0} (value : X → ℤ) (w : Width) (d : ℕ) (v n 
 
 -- what is known of an array and its views after a call of view v, which becomes n
 pub record HasTaken {X : Type 0} (value : X → ℤ) (w : Width) (d : ℕ) (a b : Held) (views : List (private.Held X)) (i : ℕ) (n : private.Held X) (act : Act) (answer : Option Reply) : Type 0 where
-  pub parts : AreParts value d b (set views i n)
+  pub parts : AreParts value w d b (set views i n)
   pub kind_is : kind b ≡ kind a
   pub acts : (u : Window) → (by_view (setting_of w a) (split_session value a views u) i act).0 ≡ split_session value b (set views i n) u
   -- a command that asks for the act, and passes all tests
@@ -93,8 +93,11 @@ pub record HasTaken {X : Type 0} (value : X → ℤ) (w : Width) (d : ℕ) (a b 
       → Does (setting_of w a) c (split_session value a views u) (split_session value b (set views i n) u) reply
 
 module _ {X : Type 0} (value : X → ℤ) (w : Width) (d : ℕ) (a b : Held) (views : List (private.Held X)) (i : ℕ) (v n : private.Held X) (act : Act)
-    (same : w ≡ width_of a.header.ty) (parts : AreParts value d a views) (lt : i < length views) (at : v ≡ get_or views i v)
+    (parts : AreParts value w d a views) (lt : i < length views) (at : v ≡ get_or views i v)
     (frame : FrameOf b ≡ FrameOf a) (has : HasActed value w d v n a b act) (within : IsWithin (Own v) act) where
+  same : w ≡ width_of a.header.ty
+  same = parts.array.same_type
+
   head : b.header ≡ a.header
   head = ap (λ (q : Header × ℕ × Counts). q.0) frame
 
@@ -198,8 +201,9 @@ module _ {X : Type 0} (value : X → ℤ) (w : Width) (d : ℕ) (a b : Held) (vi
     answers = ap (λ t. option_map Reply.number (answered t act)) acts_alike ∙ ap (option_map Reply.number) (alike-answered f (Own v) after (view_state value b n) act within after_alike)
 
   -- they are parts as before
-  still_parts : AreParts value d b (set views i n)
+  still_parts : AreParts value w d b (set views i n)
   still_parts = record {
+    array = still_array w d a b head parts.array;
     is_coded = has.is_coded;
     number = subst (λ m. is_view_count (blocks (shape b)) m ≡ true) (sym (length-set views i n)) (subst (λ (h : Header). is_view_count (blocks h.shape) (length views) ≡ true) (sym head) parts.number);
     each = λ k o below there. subst (λ m. IsPart value d b m k o) (sym (length-set views i n)) (part_at k o (subst (λ m. k < m) (length-set views i n) below) there (cases_eq k i));
@@ -240,7 +244,7 @@ module _ {X : Type 0} (value : X → ℤ) (a : Held) (views : List (private.Held
   pub position_is_none : (u : Window) → is_inside (shape a) ps ≡ false → view_has (split_session value a views u) i ps ≡ false
   position_is_none u outside = has_is u ∙ ap (λ t. ltb i (length views) && (t && owner)) outside ∙ and-false (ltb i (length views))
 
-  module _ (d : ℕ) (v : private.Held X) (parts : AreParts value d a views) (lt : i < length views) (at : v ≡ get_or views i v) where
+  module _ (w : Width) (d : ℕ) (v : private.Held X) (parts : AreParts value w d a views) (lt : i < length views) (at : v ≡ get_or views i v) where
     owner_is : (k : ℕ) → is_owner (blocks (shape a)) (length views) i k ≡ owns_block v k
     owner_is k = let part = parts.each i v lt at in is_owner_is (blocks (shape a)) (length views) i v (omega (arith, lt)) part.first part.count k
 

@@ -18,7 +18,7 @@ use Rattle.zf_array.specs.Standing.{Held, shape, state, format}
 use Rattle.zf_array.specs.Coded.{IsCoded}
 use Rattle.zf_commands.specs.Sittings.{sitting}
 use Rattle.zf_commands.specs.Steps.{HasWindow, Does}
-use Rattle.zf_run.specs.Sessions.{setting_of, kind}
+use Rattle.zf_run.specs.Sessions.{setting_of, kind, IsArray}
 use Rattle.zf_run.specs.declared.splits.Parted.{Parted}
 
 -- the lists that vectors are seen as
@@ -81,23 +81,24 @@ module _ {X : Type 0} (value : X → ℤ) where
     pub count : v.count ≡ count_of (blocks (shape a)) n i
 
   -- the array stands for its codes alone, and its blocks are parted among the views in order
-  pub record AreParts (d : ℕ) (a : Held) (views : List (private.Held X)) : Type 0 where
+  pub record AreParts (w : Width) (d : ℕ) (a : Held) (views : List (private.Held X)) : Type 0 where
+    pub array : IsArray w d a
     pub is_coded : IsCoded a
     pub number : is_view_count (blocks (shape a)) (length views) ≡ true
     pub each : (i : ℕ) (v : private.Held X) → i < length views → v ≡ slice_index_or views i v
         → IsPart d a (length views) i v
 
   -- they are, where there are views
-  abbrev pub FitTogether : {Z : Type 0} → ℕ → Held → Option (Vec (private.Held X) Z) → Type 0
-  FitTogether d a None = Unit {0}
-  FitTogether d a (Some views) = AreParts d a (vec_items views)
+  abbrev pub FitTogether : {Z : Type 0} → Width → ℕ → Held → Option (Vec (private.Held X) Z) → Type 0
+  FitTogether w d a None = IsArray w d a
+  FitTogether w d a (Some views) = AreParts w d a (vec_items views)
 
   -- a command on a view was done, whatever the window; the blocks are parted as before, in an array of the
   -- same kind
   pub record ViewsObey (w : Width) (d : ℕ) (c : Command) (reply : Option Reply) (a b : Held)
       (views now : List (private.Held X)) : Type 0 where
     pub does : DoesAlone (setting_of w a) c (split_session a views) (split_session b now) reply
-    pub parts : AreParts d b now
+    pub parts : AreParts w d b now
     pub kept : kind b ≡ kind a
 
 module _ {X : Type 0} {n : ℕ} where
@@ -113,7 +114,7 @@ module _ {X : Type 0} {n : ℕ} where
   pub record ObeysParted (value : X → ℤ) (w : Width) (p q : Parted X n) (c : Command) (reply : Option Reply)
       : Type 0 where
     pub does : Does (setting_of w p.array.now) c (session_in value p) (session_in value q) reply
-    pub sound : FitTogether value n q.array.now q.views.now
+    pub sound : FitTogether value w n q.array.now q.views.now
     pub kept : StaysParted p q
 
 -- a view as it is made: nothing is in its lines, and nothing is counted

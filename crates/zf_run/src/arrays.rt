@@ -5,7 +5,7 @@ ghost use Rattle.zf_base.specs.declared.lane.Ty.{Ty};
 ghost use Rattle.zf_header.specs.declared.header.Mode.{Mode};
 ghost use Rattle.zf_header.specs.HeaderBits.{block_bits};
 ghost use Rattle.zf_cached.specs.Runs.{array_setting};
-ghost use Rattle.zf_run.specs.Sessions.{session_of, kind, array_width};
+ghost use Rattle.zf_run.specs.Sessions.{session_of, kind, array_width, IsArray};
 
 use crate::changes::{fill_block, sum_block};
 use std::alloc::AllocError;
@@ -35,7 +35,7 @@ impl<'a, T: Lane, const D: usize> Subject for Whole<'a, T, D> {
 
     ghost session = { λ a. session_of a.array.now a.window.now };
 
-    ghost sound = { λ a. Unit {0} };
+    ghost sound = { λ a. IsArray T.width D a.array.now };
 
     fn sizes(&self) -> Shape {
         self.array.shape()
@@ -56,22 +56,16 @@ impl<'a, T: Lane, const D: usize> Target for Whole<'a, T, D> {
     #[inline]
     fn value_at(&mut self, b: u64, place: usize) -> i128 {
         let array = &mut *self.array;
-        // Known by this call: the type is that of the header.
-        let _shape = array.shape();
         array.value_at(b, place).to_wide()
     }
 
     fn sum_of_block(&mut self, b: u64) -> i128 {
         let array = &mut *self.array;
-        // Known by this call: the sizes are those of a shape.
-        let _dims = array.shape().dims();
         sum_block(array, b)
     }
 
     fn use_lines(&mut self, count: u32) -> Result<(), AllocError> {
         let array = &mut *self.array;
-        // Known by this call: the type is that of the header.
-        let _shape = array.shape();
         array.set_lines(count)?;
         Ok(())
     }
@@ -86,36 +80,26 @@ impl<'a, T: Lane, const D: usize> Changing<T> for Whole<'a, T, D> {
 
     fn put(&mut self, p: Pos, v: T) {
         let array = &mut *self.array;
-        // Known by this call: the type is that of the header.
-        let _shape = array.shape();
         array.set(p, v);
     }
 
     fn increase(&mut self, p: Pos, v: T) {
         let array = &mut *self.array;
-        // Known by this call: the type is that of the header.
-        let _shape = array.shape();
         array.add(p, v);
     }
 
     fn fill_block(&mut self, b: u64, v: T) {
         let array = &mut *self.array;
-        // Known by this call: the sizes are those of a shape.
-        let _dims = array.shape().dims();
         fill_block(array, b, v);
     }
 
     fn flush_all(&mut self) {
         let array = &mut *self.array;
-        // Known by this call: the type is that of the header.
-        let _shape = array.shape();
         array.flush();
     }
 
     fn discard_all(&mut self) {
         let array = &mut *self.array;
-        // Known by this call: the type is that of the header.
-        let _shape = array.shape();
         array.discard();
     }
 }

@@ -1,7 +1,7 @@
 //! Changes of an array that need the array itself: of a window, of a block, and of its shape.
 
 ghost use Rattle.std.specs.Prelude.{◌≡◌, true, false, ◌<◌, ◌^◌, replicate, length, IfSome, IfNone};
-ghost use Rattle.zf_spec.specs.Grid.{blocks};
+ghost use Rattle.zf_spec.specs.Grid.{IsShape, blocks};
 ghost use Rattle.zf_base.specs.Formats.{existing_of};
 ghost use Rattle.zf_base.specs.Positions.{used_axes, with_unused};
 ghost use Rattle.zf_header.specs.HeaderBits.{block_bits};
@@ -27,14 +27,14 @@ pub(crate) fn change_array<T: Lane, const D: usize>(
     window: &mut Window,
     cmd: ArrayCmd,
 ) -> Option<Reply>
+    requires array { IsArray T.width D a.old }
     requires window { HasWindow (session_of a.old window.old) }
     requires plain { IsPlain (session_of a.old window.old) (array_cmd cmd) }
     ensures does { Does (setting_of T.width a.old) (asked (session_of a.old window.old) (array_cmd cmd))
         (session_of a.old window.old) (session_of a.new window.new) (said result) }
+    ensures array { IsArray T.width D a.new }
     ensures kept { kind a.new ≡ kind a.old }
 {
-    // Known by this call: the sizes are those of a shape.
-    let _dims = a.shape().dims();
     match cmd {
         ArrayCmd::Set(p, v) => vset(a, window, p, v),
         ArrayCmd::Resize(count, sizes) => resize(a, window, count, sizes),
@@ -53,6 +53,7 @@ fn vset<T: Lane, const D: usize>(
     requires unused { p ≡ with_unused 0 (used_axes (length (shape a.old)) p) }
     ensures does { Does (setting_of T.width a.old) (Command.vset (used_axes (length (shape a.old)) p) v)
         (session_of a.old window.now) (session_of a.new window.now) (said result) }
+    ensures array { IsArray T.width D a.new }
     ensures kept { kind a.new ≡ kind a.old }
 {
     if !window.contains(p) {
@@ -103,6 +104,7 @@ fn resize<T: Lane, const D: usize>(
     requires count { length (used_axes count sizes) ≡ count }
     ensures does { Does (setting_of T.width a.old) (Command.resize (used_axes count sizes))
         (session_of a.old window.old) (session_of a.new window.new) (said result) }
+    ensures array { IsArray T.width D a.new }
     ensures kept { kind a.new ≡ kind a.old }
 {
     let Some(shape) = new_shape(a, count, sizes) else {
@@ -121,7 +123,7 @@ fn resize<T: Lane, const D: usize>(
 // for it in a file.
 fn new_shape<T: Lane, const D: usize>(a: &Array<T, D>, count: u8, sizes: Pos) -> Option<Shape>
     requires { length (used_axes count sizes) ≡ count }
-    ensures shape { IfSome result (λ ns. (ns ≡ used_axes count sizes) × (length ns ≡ D)) }
+    ensures shape { IfSome result (λ ns. (ns ≡ used_axes count sizes) × (length ns ≡ D) × IsShape ns) }
     ensures rate { IfSome result (λ ns. a.now.header.mode ≡ Mode.Rate (block_bits a.now.header.mode)) }
     ensures some { IfSome result (λ ns. is_new_shape (setting_of T.width a.now) (start_of a.now)
         (used_axes count sizes) ≡ true) }

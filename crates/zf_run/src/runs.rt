@@ -32,7 +32,10 @@ pub fn run<T: Lane, const D: usize, O: Sink>(
     ensures unchanged { result ≢ RunEnd.Write → O.faults out.new ≡ O.faults out.old }
     ensures cause { HasCause (result ≡ RunEnd.Write) (O.faults out.old) (O.faults out.new) }
 {
-    let window = Window::whole(&a.shape());
+    let shape = a.shape();
+    // Known by this call: the sizes are those of a shape.
+    let _dims = shape.dims();
+    let window = Window::whole(&shape);
     let mut views = None;
     let mut parted = Parted {
         alloc,

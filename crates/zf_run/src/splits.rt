@@ -12,7 +12,7 @@ ghost use Rattle.zf_cached.specs.Runs.{array_setting, ended};
 ghost use Rattle.zf_cache.specs.Kept.{IsLineCount};
 ghost use Rattle.zf_array.specs.Coded.{HasEmptyLines, IsCoded};
 ghost use Rattle.zf_commands.specs.Kinds.{cmd_of_kind, view_cmd, asked, IsPlain};
-ghost use Rattle.zf_run.specs.Sessions.{session_of, setting_of, kind};
+ghost use Rattle.zf_run.specs.Sessions.{session_of, setting_of, kind, IsArray};
 ghost use Rattle.zf_commands.specs.Steps.{HasWindow, said};
 ghost use Rattle.zf_run.specs.Splits.{lists, session_in, FitTogether, StaysParted, ObeysParted, AreNewParts};
 
@@ -45,24 +45,23 @@ pub(crate) struct Parted<'a, T: Lane, const D: usize> {
 impl<'a, T: Lane, const D: usize> Parted<'a, T, D> {
     /// The end of a run: a split ends, and then the array is flushed.
     pub(crate) fn finish(&mut self)
-        requires { FitTogether T.value D self.old.array.now self.old.views.now }
+        requires { FitTogether T.value T.width D self.old.array.now self.old.views.now }
         ensures ended { ended (setting_of T.width self.old.array.now) (session_in T.value self.old)
             ≡ session_of self.new.array.now self.new.window }
         ensures kept { StaysParted self.old self.new }
     {
         self.join();
-        let array = &mut *self.array;
-        // Known by this call: the type is that of the header.
-        let _shape = array.shape();
-        array.flush();
+        let whole = &mut *self.array;
+        whole.flush();
     }
 
     // Flushes the views in order, and ends the split, if there is one.
     fn join(&mut self)
-        requires { FitTogether T.value D self.old.array.now self.old.views.now }
+        requires { FitTogether T.value T.width D self.old.array.now self.old.views.now }
         ensures joined { joined (setting_of T.width self.old.array.now) (session_in T.value self.old)
             ≡ session_of self.new.array.now self.new.window }
         ensures whole { self.new.views.now ≡ None }
+        ensures array { IsArray T.width D self.new.array.now }
         ensures kept { StaysParted self.old self.new }
     {
         let array = &mut *self.array;
@@ -77,6 +76,7 @@ impl<'a, T: Lane, const D: usize> Parted<'a, T, D> {
     // flushed.
     fn split(&mut self, count: u64, lines: u64) -> Option<Reply>
         requires whole { self.old.views.now ≡ None }
+        requires sound { FitTogether T.value T.width D self.old.array.now self.old.views.now }
         requires window { HasWindow (session_in T.value self.old) }
         ensures { ObeysParted T.value T.width self.old self.new (Command.split count lines) (said result) }
     {
@@ -98,6 +98,7 @@ impl<'a, T: Lane, const D: usize> Parted<'a, T, D> {
     // What a command does while the array is whole.
     fn obey_whole(&mut self, cmd: Kind) -> Option<Reply>
         requires whole { self.old.views.now ≡ None }
+        requires sound { FitTogether T.value T.width D self.old.array.now self.old.views.now }
         requires window { HasWindow (session_in T.value self.old) }
         requires plain { IsPlain (session_in T.value self.old) (cmd_of_kind cmd) }
         ensures { ObeysParted T.value T.width self.old self.new
@@ -128,7 +129,7 @@ impl<'a, T: Lane, const D: usize> Parted<'a, T, D> {
 
     // What a command does while the array is split: it ends the split, or is on a view.
     fn obey_parted(&mut self, cmd: Kind) -> Option<Reply>
-        requires sound { FitTogether T.value D self.old.array.now self.old.views.now }
+        requires sound { FitTogether T.value T.width D self.old.array.now self.old.views.now }
         requires parted { IsSome self.old.views.now }
         requires window { HasWindow (session_in T.value self.old) }
         requires plain { IsPlain (session_in T.value self.old) (cmd_of_kind cmd) }
@@ -147,7 +148,7 @@ impl<'a, T: Lane, const D: usize> Parted<'a, T, D> {
 
     // What a command on a view does. Where there is none it is refused.
     fn obey_view(&mut self, i: u64, cmd: ViewCmd) -> Option<Reply>
-        requires sound { FitTogether T.value D self.old.array.now self.old.views.now }
+        requires sound { FitTogether T.value T.width D self.old.array.now self.old.views.now }
         requires window { HasWindow (session_in T.value self.old) }
         requires plain { IsPlain (session_in T.value self.old) (view_cmd i cmd) }
         ensures { ObeysParted T.value T.width self.old self.new
@@ -172,7 +173,7 @@ impl<'a, T: Lane, const D: usize> Subject for Parted<'a, T, D> {
 
     ghost setting = { λ k. array_setting T.width (block_bits k.0.1) };
 
-    ghost sound = { λ p. FitTogether T.value D p.array.now p.views.now };
+    ghost sound = { λ p. FitTogether T.value T.width D p.array.now p.views.now };
 
     ghost session = { session_in T.value };
 

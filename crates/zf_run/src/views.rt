@@ -8,7 +8,7 @@ ghost use Rattle.zf_cached.specs.Windows.{Window as Part};
 ghost use Rattle.zf_cached.specs.Steps.{by_view, flushed_views, view_has};
 ghost use Rattle.zf_array.specs.Standing.{shape};
 ghost use Rattle.zf_commands.specs.Kinds.{view_cmd, asked, IsPlain};
-ghost use Rattle.zf_run.specs.Sessions.{setting_of, start_of, kind};
+ghost use Rattle.zf_run.specs.Sessions.{setting_of, start_of, kind, IsArray};
 ghost use Rattle.zf_commands.specs.Steps.{said};
 ghost use Rattle.zf_private.specs.Doing.{SitsOnAt, DoesAct};
 ghost use Rattle.zf_private.specs.Standing.{block_at, place_at};
@@ -35,7 +35,7 @@ pub(crate) fn on_view<T: Lane, const D: usize>(
     i: u64,
     cmd: ViewCmd,
 ) -> Option<Reply>
-    requires parts { AreParts T.value D a.old views.old }
+    requires parts { AreParts T.value T.width D a.old views.old }
     requires plain { IsPlain (start_of a.old) (view_cmd i cmd) }
     ensures { ViewsObey T.value T.width D (asked (start_of a.old) (view_cmd i cmd)) (said result)
         a.old a.new views.old views.new }
@@ -52,11 +52,12 @@ pub(crate) fn on_view<T: Lane, const D: usize>(
 
 /// Flushes the views in order.
 pub(crate) fn flush_views<T: Lane, const D: usize>(a: &mut Array<T, D>, views: &mut [Private<T, D>])
-    requires { AreParts T.value D a.old views.old }
+    requires { AreParts T.value T.width D a.old views.old }
     ensures flushed { (v : Part)
         → flushed_views (setting_of T.width a.old) (split_session T.value a.old views.old v)
         (length views.old)
         ≡ split_session T.value a.new views.new v }
+    ensures array { IsArray T.width D a.new }
     ensures kept { kind a.new ≡ kind a.old }
 {
     for i in 0..views.len() {
@@ -71,7 +72,7 @@ fn view_get<T: Lane, const D: usize>(
     i: u64,
     p: Pos,
 ) -> Option<Reply>
-    requires parts { AreParts T.value D a.old views.old }
+    requires parts { AreParts T.value T.width D a.old views.old }
     requires unused { p ≡ with_unused 0 (used_axes (length (shape a.old)) p) }
     ensures { ViewsObey T.value T.width D (Command.pget i (used_axes (length (shape a.old)) p)) (said result)
         a.old a.new views.old views.new }
@@ -79,8 +80,6 @@ fn view_get<T: Lane, const D: usize>(
     if !has_position(a, views, i, p) {
         return Some(Reply::Refused(Refusal::Range));
     }
-    // Known by this call: the type is that of the header.
-    let _shape = a.shape();
     let value = views[i as usize].get(&mut Codes::bind(a), p);
     Some(Reply::Number(value.to_wide()))
 }
@@ -95,7 +94,7 @@ fn view_change<T: Lane, const D: usize>(
     v: i128,
     change: Change,
 ) -> Option<Reply>
-    requires parts { AreParts T.value D a.old views.old }
+    requires parts { AreParts T.value T.width D a.old views.old }
     requires unused { p ≡ with_unused 0 (used_axes (length (shape a.old)) p) }
     ensures { ViewsObey T.value T.width D (change_cmd change i (used_axes (length (shape a.old)) p) v)
         (said result)
@@ -107,8 +106,6 @@ fn view_change<T: Lane, const D: usize>(
     let Some(v) = of_type(v) else {
         return Some(Reply::Refused(Refusal::Value));
     };
-    // Known by this call: the type is that of the header.
-    let _shape = a.shape();
     change_value(&mut views[i as usize], &mut Codes::bind(a), p, v, change);
     None
 }
@@ -138,7 +135,7 @@ fn view_flush<T: Lane, const D: usize>(
     views: &mut [Private<T, D>],
     i: u64,
 ) -> Option<Reply>
-    requires parts { AreParts T.value D a.old views.old }
+    requires parts { AreParts T.value T.width D a.old views.old }
     ensures { ViewsObey T.value T.width D (Command.pflush i) (said result)
         a.old a.new views.old views.new }
 {
@@ -151,16 +148,14 @@ fn view_flush<T: Lane, const D: usize>(
 
 // Writes back what is dirty in view `i`, and empties its cache.
 fn flush_view<T: Lane, const D: usize>(a: &mut Array<T, D>, views: &mut [Private<T, D>], i: usize)
-    requires parts { AreParts T.value D a.old views.old }
+    requires parts { AreParts T.value T.width D a.old views.old }
     requires view { i < length views.old }
     ensures acts { (v : Part)
         → (by_view (setting_of T.width a.old) (split_session T.value a.old views.old v) i Act.flush).0
         ≡ split_session T.value a.new views.new v }
-    ensures parts { AreParts T.value D a.new views.new }
+    ensures parts { AreParts T.value T.width D a.new views.new }
     ensures kept { kind a.new ≡ kind a.old }
 {
-    // Known by this call: the type is that of the header.
-    let _shape = a.shape();
     views[i].flush(&mut Codes::bind(a));
 }
 
@@ -170,15 +165,13 @@ fn view_discard<T: Lane, const D: usize>(
     views: &mut [Private<T, D>],
     i: u64,
 ) -> Option<Reply>
-    requires parts { AreParts T.value D a.now views.old }
+    requires parts { AreParts T.value T.width D a.now views.old }
     ensures { ViewsObey T.value T.width D (Command.pdiscard i) (said result)
         a.now a.now views.old views.new }
 {
     if i >= views.len() as u64 {
         return Some(Reply::Refused(Refusal::Range));
     }
-    // Known by this call: the type is that of the header.
-    let _shape = a.shape();
     views[i as usize].discard();
     None
 }
@@ -205,7 +198,7 @@ fn has_position<T: Lane, const D: usize>(
     i: u64,
     p: Pos,
 ) -> bool
-    requires parts { AreParts T.value D a.now views.now }
+    requires parts { AreParts T.value T.width D a.now views.now }
     requires unused { p ≡ with_unused 0 (used_axes (length (shape a.now)) p) }
     ensures has { (v : Part)
         → result ≡ view_has (split_session T.value a.now views.now v) i (used_axes (length (shape a.now)) p) }

@@ -15,7 +15,7 @@ returns-in-Ok-clause-runs g c =
     let is = c.a-1.given.1 (sym (c.finish.ensures.kept.1 ∙ ap (λ (q : _). q.1) c.run_lines.ensures.stays.kept)) in
     subst (λ (m : Held). Runs w a m c.args.script.now old new c.end_of.result) (sym is)
     (runs_all w a p.array.now (parted_session g.T.Lane.value p.array.now p.views.now _) c.whole-window.result c.args.script.now old new
-    (c.whole-window.ensures.window ∙ ap whole c.shape.ensures.value) (ap (λ (q : _). q.0) c.run_lines.ensures.stays.kept)
+    (c.whole-window.ensures.window ∙ ap whole c.shape-shape.ensures.value) (ap (λ (q : _). q.0) c.run_lines.ensures.stays.kept)
     b c.finish.new.self.window c.in-Ok.refused c.in-Ok.ensures.ok c.finish.ensures.ended c.finish.ensures.kept.0 c.end_of.result c.end_of.ensures)
 
 -- a line was the last one: its views are dropped

@@ -13,6 +13,6 @@ flush-requires g c = search (rules, lent_ready)
 pub returns : goal.returns
 returns g c =
     let back = c.flush.new.back in let does = c.flush.ensures.does in
-    let taken = lent _ g.row.D _ _ c.args.i _ c.requires.parts c.requires.view (ap (get_or _ c.args.i) c.index-views-i.is)
-    g.T.Lane.width c.a-1.given.0 c.flush.new.self Act.flush c.shape-shape.ensures.same_type c.bind.result.array back.array c.bind.ensures.array (search rules)
+    let taken = lent _ g.T.Lane.width g.row.D _ _ c.args.i _ c.requires.parts c.requires.view (ap (get_or _ c.args.i) c.index-views-i.is)
+    c.a-1.given.0 c.flush.new.self Act.flush c.bind.result.array back.array c.bind.ensures.array (search rules)
     does.step.kept (record { is_coded = back.is_coded; step = does.step.state; others = does.others; kept = does.same; whole = does.whole; fits = does.step.fits }) tt in search rules

@@ -14,5 +14,5 @@ pub returns-clause-has : goal.returns-clause-has
 returns-clause-has g c v =
     let a = c.args.a.now in
     let at = subst (λ ns. IsPosition ns c.args.p) c.shape-shape.ensures.value (c.contains.ensures.0 c.if-not-contains.false) in
-    owns_is g.T.Lane.value a c.args.views.now c.args.i (used_axes (length (shape a)) c.args.p) g.row.D c.index-views-i.result c.requires.parts c.if-i-views.false c.index-views-i.is v
+    owns_is g.T.Lane.value a c.args.views.now c.args.i (used_axes (length (shape a)) c.args.p) g.T.Lane.width g.row.D c.index-views-i.result c.requires.parts c.if-i-views.false c.index-views-i.is v
     c.owns.result c.place-b.result.0 (c.place-b.ensures.block ∙ ap (λ ns. block_number ns (used_axes (length ns) c.args.p)) c.shape-shape.ensures.value) at.inside c.owns.ensures

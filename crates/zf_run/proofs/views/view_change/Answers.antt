@@ -59,8 +59,8 @@ bind-requires g c = (lit≤ tt, (lit≤ tt, coded_empty c.args.a.now c.requires.
 pub change_value-requires : goal.change_value-requires
 change_value-requires g c =
     let has = c.has_position.ensures in
-    let there = at_view _ g.row.D _ _ c.args.i c.requires.parts _ c.index-views-i.is _ c.if-not-has_position.false has.number c.args.p c.requires.unused has.has in
-    let ready = lent_ready _ g.row.D _ _ c.args.i _ c.requires.parts there.below there.at c.bind.result.array c.bind.ensures.array in
+    let there = at_view _ g.T.Lane.width g.row.D _ _ c.args.i c.requires.parts _ c.index-views-i.is _ c.if-not-has_position.false has.number c.args.p c.requires.unused has.has in
+    let ready = lent_ready _ g.T.Lane.width g.row.D _ _ c.args.i _ c.requires.parts there.below there.at c.bind.result.array c.bind.ensures.array in
     (lit< tt, record { fits = ready.fits; blocks = ready.over; places = ready.places; position = there.position; owned = there.own })
 
 pub returns : goal.returns
@@ -70,17 +70,17 @@ returns g c =
     let value = g.T.Lane.value in
     let x = get_or views c.args.i c.index-views-i.result in
     let has = c.has_position.ensures in
-    let there = at_view value g.row.D a views c.args.i c.requires.parts _ c.index-views-i.is _ c.if-not-has_position.false has.number c.args.p c.requires.unused has.has in
+    let there = at_view value g.T.Lane.width g.row.D a views c.args.i c.requires.parts _ c.index-views-i.is _ c.if-not-has_position.false has.number c.args.p c.requires.unused has.has in
     let ps = used_axes (length (shape a)) c.args.p in
     let is = c.in-Some.ensures.value ∙ to_z-of_z w128 c.args.v c.ranges.v in
     let back = c.change_value.new.back in
     let asked = asks c.args.change g.T.Lane.width value a views c.args.i ps c.args.v in
-    let taken = lent value g.row.D a views c.args.i x c.requires.parts there.below there.at
-    g.T.Lane.width c.a-1.given.0 c.change_value.new.view (change_act c.args.change (private.block_at x c.args.p) (private.place_at x c.args.p) (value c.in-Some.v)) c.shape-shape.ensures.same_type c.bind.result.array back.array c.bind.ensures.array (search rules)
+    let taken = lent value g.T.Lane.width g.row.D a views c.args.i x c.requires.parts there.below there.at
+    c.a-1.given.0 c.change_value.new.view (change_act c.args.change (private.block_at x c.args.p) (private.place_at x c.args.p) (value c.in-Some.v)) c.bind.result.array back.array c.bind.ensures.array (search rules)
     (search rules) (search rules) (asked.within (Own x) _ _ _ there.own) in record {
       does = λ v lies. taken.takes v (change_cmd c.args.change c.args.i ps c.args.v) None lies (asked.split v) (asked.size v) (asked.range v ∙ ap not (there.has v)) (asked.number v ∙ ap not (subst (λ z. is_of_type g.T.Lane.width z ≡ true) (to_z-of_z w128 c.args.v c.ranges.v) c.in-Some.ensures.some)) (ap (option_map Reply.number) (asked.silent _ _ _ _)) refl
           (asked.does v ∙ ap (by_view (setting_of g.T.Lane.width a) (split_session value a views v) c.args.i)
-          (sym (act_there value g.row.D a views c.args.i x c.requires.parts there.below there.at c.args.p (λ b q. change_act c.args.change b q (value c.in-Some.v)) ∙ ap (λ (z : ℤ). change_act c.args.change (block_number (shape a) ps) (place_of ps) z) is)));
+          (sym (act_there value g.T.Lane.width g.row.D a views c.args.i x c.requires.parts there.below there.at c.args.p (λ b q. change_act c.args.change b q (value c.in-Some.v)) ∙ ap (λ (z : ℤ). change_act c.args.change (block_number (shape a) ps) (place_of ps) z) is)));
       parts = taken.parts;
       kept = taken.kind_is;
     }

@@ -24,6 +24,6 @@ returns g c =
     let new = c.discard.new.self in let told = c.discard.ensures in
     let step = discarded value (format a) (state a).codes x.cache new.cache ready.fits told.empty told.counts ∙ acted-discard g.T.Lane.width (format a) (view_state value a x) in
     let fits = empty_fits value (format a) (state a).codes new.cache (length x.cache.tags) told.empty in
-    let told_by = taken value g.T.Lane.width g.row.D a a views i x new Act.discard c.shape-shape.ensures.same_type c.requires.parts lt at refl
+    let told_by = taken value g.T.Lane.width g.row.D a a views i x new Act.discard c.requires.parts lt at refl
     (record { is_coded = c.requires.parts.is_coded; step = step; others = λ k not. refl; kept = told.same; whole = told.whole; fits = fits }) tt in
     record { does = λ v lies. told_by.takes v (Command.pdiscard i) None lies refl refl (ap not (has_view_is value a views i v lt)) refl refl refl refl; parts = told_by.parts; kept = told_by.kind_is }

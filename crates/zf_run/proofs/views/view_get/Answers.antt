@@ -25,8 +25,8 @@ bind-requires g c = (lit≤ tt, (lit≤ tt, coded_empty c.args.a.now c.requires.
 pub get-value-requires : goal.get-value-requires
 get-value-requires g c =
     let has = c.has_position.ensures in
-    let there = at_view _ g.row.D _ _ c.args.i c.requires.parts _ c.index-views-i.is _ c.if-not-has_position.false has.number c.args.p c.requires.unused has.has in
-    let ready = lent_ready _ g.row.D _ _ c.args.i _ c.requires.parts there.below there.at c.bind.result.array c.bind.ensures.array in
+    let there = at_view _ g.T.Lane.width g.row.D _ _ c.args.i c.requires.parts _ c.index-views-i.is _ c.if-not-has_position.false has.number c.args.p c.requires.unused has.has in
+    let ready = lent_ready _ g.T.Lane.width g.row.D _ _ c.args.i _ c.requires.parts there.below there.at c.bind.result.array c.bind.ensures.array in
     (lit< tt, record { fits = ready.fits; blocks = ready.over; places = ready.places; position = there.position; owned = there.own })
 
 pub returns : goal.returns
@@ -36,15 +36,15 @@ returns g c =
     let value = g.T.Lane.value in
     let x = get_or _ c.args.i c.index-views-i.result in
     let has = c.has_position.ensures in
-    let there = at_view value g.row.D a _ c.args.i c.requires.parts _ c.index-views-i.is _ c.if-not-has_position.false has.number c.args.p c.requires.unused has.has in
+    let there = at_view value g.T.Lane.width g.row.D a _ c.args.i c.requires.parts _ c.index-views-i.is _ c.if-not-has_position.false has.number c.args.p c.requires.unused has.has in
     let ps = used_axes (length (shape a)) c.args.p in
     let told = wide g.T.Lane.width g.met.T.Lane.two_widths c.to_wide.result (value c.get-value.result) c.to_wide.ensures.value (g.met.T.Lane.in_range_fits (value c.get-value.result)) c.to_wide.ensures.operand in
     let back = c.get-value.new.back in
-    let taken = lent value g.row.D a _ c.args.i x c.requires.parts there.below there.at
-    g.T.Lane.width c.a-1.given.0 c.get-value.new.self (Act.get (private.block_at x c.args.p) (private.place_at x c.args.p)) c.shape-shape.ensures.same_type c.bind.result.array back.array c.bind.ensures.array (search rules)
+    let taken = lent value g.T.Lane.width g.row.D a _ c.args.i x c.requires.parts there.below there.at
+    c.a-1.given.0 c.get-value.new.self (Act.get (private.block_at x c.args.p) (private.place_at x c.args.p)) c.bind.result.array back.array c.bind.ensures.array (search rules)
     (search rules) (search rules) there.own in record {
       does = λ v lies. taken.takes v (Command.pget c.args.i ps) (Some (Reply.number _)) lies refl refl (ap not (there.has v)) refl (ap (option_map Reply.number) (sym c.get-value.ensures.value) ∙ ap (λ z. Some (Reply.number z)) (sym told)) refl
-          (ap (by_view (setting_of g.T.Lane.width a) (split_session value a _ v) c.args.i) (sym (act_there value g.row.D a _ c.args.i x c.requires.parts there.below there.at c.args.p (λ b q. Act.get b q))));
+          (ap (by_view (setting_of g.T.Lane.width a) (split_session value a _ v) c.args.i) (sym (act_there value g.T.Lane.width g.row.D a _ c.args.i x c.requires.parts there.below there.at c.args.p (λ b q. Act.get b q))));
       parts = taken.parts;
       kept = taken.kind_is;
     }
