@@ -114,6 +114,14 @@ def other_arrays():
             case(False, f"{what} refused")
         except ValueError:
             case(True, f"{what} refused")
+    wide = zfpi.compress(grid.astype("i8"))
+    for what, stream, kind in (("int64 into int32", wide, "i4"), ("the same in an array", numpy.frombuffer(wide, "u1"), "i4"), ("int32 into int64", zfpi.compress(grid), "i8")):
+        room = numpy.full(grid.shape, 77, kind)
+        try:
+            zfpi.decompress_into(stream, room)
+            case(False, f"{what} is refused")
+        except TypeError:
+            case((room == 77).all(), f"{what} is refused, and nothing is written")
     whole = numpy.array([0, 65535, 1, 65534], "u2")
     case(zfpi.greatest_error(whole, zfpi.compress(whole)) == 0, "no error where nothing is lost")
     ends = numpy.array([-(2**63), 2**63 - 1, 0, 5] * 16, "i8")

@@ -204,11 +204,18 @@ def most_bytes(array, *, reversible=None, rate=None, precision=None):
 
 def compress_into(array, out, *, reversible=None, rate=None, precision=None):
     """Writes the stream of an array to the start of `out`, a writable array of bytes, and says how long it is."""
-    described = _described(array.dtype, array.shape, reversible, rate, precision)
-    if described.is_swapped or not array.flags.c_contiguous:
-        array = numpy.ascontiguousarray(array, dtype=array.dtype.newbyteorder("<"))
-    length = ctypes.c_uint64()
-    _check(_library.zfpi_compress(described.address, *_place(array), *_place_to_write(out), _addressof(length)))
+    described, length = _described(array.dtype, array.shape, reversible, rate, precision), ctypes.c_uint64()
+    if described.is_swapped:
+        array = array.astype(array.dtype.newbyteorder("<"))
+    try:
+        # where values are not contiguous they have no place, so that nothing is asked of most arrays
+        values = _addressof(_from_buffer(array))
+    except (BufferError, TypeError, ValueError):
+        array = numpy.ascontiguousarray(array)
+        values = array.ctypes.data
+    status = _library.zfpi_compress(described.address, values, array.nbytes, *_place_to_write(out), _addressof(length))
+    if status:
+        _check(status)
     return length.value
 
 
@@ -238,6 +245,11 @@ def info(stream):
     return {"dtype": numpy.dtype("<i4" if field.type == 1 else "<i8"), "shape": shape, **mode}
 
 
+def _says(number, stream):
+    """Whether a stream, if its header is one, says this type of 32 or 64 bits: the fifth byte tells."""
+    return type(stream) is bytes and len(stream) > 4 and stream[4] & 3 == number - 1
+
+
 def decompress_into(stream, out):
     """Writes the values of a stream to a contiguous little-endian array. Its type of 8 or 16 bits is that of the values."""
     number = _number_of(out.dtype)
@@ -245,11 +257,13 @@ def decompress_into(stream, out):
         raise TypeError("the output is not little-endian")
     to, place, length = _place_to_write(out), _place_of_stream(stream), ctypes.c_uint64()
     if number in _NARROW:
-        _check(_library.zfpi_restore_narrow(number, *place, *to, _addressof(length)))
-    elif _header(place).field.type != number:
-        raise TypeError("the stream's values are of another type")
+        status = _library.zfpi_restore_narrow(number, *place, *to, _addressof(length))
+    elif _says(number, stream) or _header(place).field.type == number:
+        status = _library.zfpi_restore(*place, *to, _addressof(length))
     else:
-        _check(_library.zfpi_restore(*place, *to, _addressof(length)))
+        raise TypeError("the stream's values are of another type")
+    if status:
+        _check(status)
     return out
 
 
