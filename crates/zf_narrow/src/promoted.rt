@@ -17,8 +17,8 @@ use zf_dev::{Failed, Source, UntilEnd};
 /// Gives the int32 bytes of the values that stand for the whole narrow values of `src`, and a zero byte where
 /// half a value is left over at its end.
 ///
-/// It reads no value before it gives the first byte of it, and nothing behind the end of `src`, also where the
-/// zero byte is still to be given once the end was seen.
+/// It reads no value before it gives the first byte of it, and nothing behind the end of `src`, also where
+/// the zero byte is still to be given once the end was seen.
 #[derive(Drop)]
 pub(crate) struct Promoted<'a, S: Source, K: Begun, E: zf_dev::Begun> {
     pub(crate) src: UntilEnd<'a, S, E>,

@@ -1,7 +1,7 @@
 -- An array that is restored slab by slab: how far its codes were read, and its values written. The codes are
 -- those of the bits that were left in a window, and of the bytes that were taken of the source behind them.
-use Rattle.std.specs.Prelude.{ℕ, zero, suc, ◌≡◌, ◌+◌, ◌-◌, ◌*◌, ◌/◌, ◌<◌, ◌≤◌, ◌⊎◌, ℤ, Bool, true, List, [], ◌++◌, map, length}
-use Rattle.std.specs.Prelude.{drop, Option, Some, None, Result, Ok, Err, IfErr, OnOk, OnErr}
+use Rattle.std.specs.Prelude.{ℕ, zero, suc, ◌≡◌, ◌+◌, ◌-◌, ◌*◌, ◌/◌, ◌<◌, ◌≤◌, ◌⊎◌, ℤ, Bool, true, List, [], ◌++◌}
+use Rattle.std.specs.Prelude.{map, length, drop, Option, Some, None, Result, Ok, Err, IfErr, OnOk, OnErr}
 use Rattle.std.specs.Result.{result_map_both}
 use Rattle.zf_spec.specs.Grid.{blocks, upto, extent_of, block_of, blocks_of}
 use Rattle.zf_spec.specs.Codes.{existing_values}
@@ -57,8 +57,7 @@ pub record RestoredBehind (prefix : List ℕ) (result : Result (Unit {0}) Stream
   pub err : OnErr result (LeavesPrefix restored_text (behind prefix src_before) src_now out_before out_now)
   pub unwritten : IfErr result (λ e. IsBeforeWriting e → out_now ≡ out_before)
 
--- how the rest of such a stream is restored from a source to a sink, of what the source says that it gave, too,
--- and what is left of both
+-- how the rest of such a stream is restored from a source to a sink, and what is left of both
 pub record RestoringBehind {A B : Type 0} (S : Source A) (O : Sink B) (prefix : List ℕ)
     (result : Result (Unit {0}) StreamFault) (src src_now : A) (out out_now : B) : Type 0 where
   pub outcome : RestoredBehind prefix result

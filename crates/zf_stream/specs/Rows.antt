@@ -1,6 +1,6 @@
 -- An array that is compressed row by row: how far its raw values were read, and its codes written.
-use Rattle.std.specs.Prelude.{ℕ, ◌≡◌, ◌+◌, ◌*◌, ◌/◌, ◌%◌, ◌≤◌, ◌⊎◌, Bool, true, List, ◌++◌, map, length, Option}
-use Rattle.std.specs.Prelude.{Result, Err, OnOk}
+use Rattle.std.specs.Prelude.{ℕ, ◌≡◌, ◌+◌, ◌*◌, ◌/◌, ◌%◌, ◌≤◌, ◌⊎◌, Bool, true, List, ◌++◌, map, length}
+use Rattle.std.specs.Prelude.{Option, Result, Err, OnOk}
 use Rattle.std.specs.List.{flat_map}
 use Rattle.std.specs.Int.{byte_len}
 use Rattle.zf_spec.specs.Grid.{product, upto, extent_of, block_of}

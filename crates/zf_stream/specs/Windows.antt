@@ -1,5 +1,6 @@
 -- A window of a stream: the bits of it that are held, of which some were read.
-use Rattle.std.specs.Prelude.{ℕ, ◌≡◌, ◌+◌, ◌*◌, ◌%◌, ◌^◌, ◌<◌, ◌≤◌, Bool, true, false, List, ◌++◌, length, Result, OnOk, OnErr}
+use Rattle.std.specs.Prelude.{ℕ, ◌≡◌, ◌+◌, ◌*◌, ◌%◌, ◌^◌, ◌<◌, ◌≤◌, Bool, true, false, List, ◌++◌, length}
+use Rattle.std.specs.Prelude.{Result, OnOk, OnErr}
 use Rattle.zf_spec.specs.Stream.{to_bits}
 use Rattle.zf_bits.specs.Reader.{Reader, rest}
 use Rattle.zf_dev.specs.declared.source.Source.{Ghosts as Source}
@@ -44,10 +45,9 @@ pub record Refills {A : Type 0} (S : Source A) (src_before src_now : A) (old new
   pub bits : left_of new ≡ left_of old ++ to_bits bytes
   pub room : new.room ≡ old.room
 
--- the window is refilled as far as is wanted, or the source failed, and alone the source: then some bytes were
--- drawn
-pub record Reaches {A : Type 0} (S : Source A) (result : Result (Unit {0}) StreamFault) (src_before src_now : A)
-    (old new : Window) : Type 0 where
+-- the window was refilled, or the source failed, and nothing else did: then some bytes were drawn
+pub record Reaches {A : Type 0} (S : Source A) (result : Result (Unit {0}) StreamFault)
+    (src_before src_now : A) (old new : Window) : Type 0 where
   pub ok : OnOk result (Refills S src_before src_now old new)
   pub ended : OnOk result (KnowsEnd S new src_now)
   pub drawn : OnErr result (DrawsSome S src_before src_now)

@@ -92,8 +92,8 @@ pub fn restore_where<S: Source, O: Sink>(
     Ok(true)
 }
 
-/// Restores what stands behind a header, where these bytes were read, with the header. Where they are fewer than
-/// were asked for, the end was seen with them; the source is not read behind its end.
+/// Restores what stands behind a header, where these bytes were read, with the header. Where they are fewer
+/// than were asked for, the end was seen with them; the source is not read behind its end.
 fn restore_behind<S: Source, O: Sink, K: Begun>(
     alloc: Global,
     h: &Header,
