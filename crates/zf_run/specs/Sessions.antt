@@ -50,6 +50,10 @@ pub record IsArray (w : Width) (d : ℕ) (a : Held) : Type 0 where
   pub sizes : IsShape (shape a)
   pub dims : length (shape a) ≡ d
 
+-- b is one of the kind of a
+abbrev pub StillArray : Width → ℕ → Held → Held → Type 0
+StillArray w d a b = IsArray w d b × (kind b ≡ kind a)
+
 -- ---- an array that is only read
 
 -- what a script doesn't change about it: the type of its values and how its blocks are coded

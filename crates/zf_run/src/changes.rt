@@ -12,7 +12,7 @@ ghost use Rattle.zf_array.specs.Standing.{shape, state, format};
 ghost use Rattle.zf_window.specs.Bounds.{IsUpTo};
 ghost use Rattle.zf_commands.specs.Kinds.{array_cmd, asked, IsPlain};
 ghost use Rattle.zf_commands.specs.Steps.{HasWindow, Does, said};
-ghost use Rattle.zf_run.specs.Sessions.{setting_of, session_of, start_of, kind, IsArray};
+ghost use Rattle.zf_run.specs.Sessions.{setting_of, session_of, start_of, IsArray, StillArray};
 
 use zf_array::Array;
 use zf_base::{Lane, Pos, Shape};
@@ -32,8 +32,7 @@ pub(crate) fn change_array<T: Lane, const D: usize>(
     requires plain { IsPlain (session_of a.old window.old) (array_cmd cmd) }
     ensures does { Does (setting_of T.width a.old) (asked (session_of a.old window.old) (array_cmd cmd))
         (session_of a.old window.old) (session_of a.new window.new) (said result) }
-    ensures array { IsArray T.width D a.new }
-    ensures kept { kind a.new ≡ kind a.old }
+    ensures kept { StillArray T.width D a.old a.new }
 {
     match cmd {
         ArrayCmd::Set(p, v) => vset(a, window, p, v),
@@ -53,8 +52,7 @@ fn vset<T: Lane, const D: usize>(
     requires unused { p ≡ with_unused 0 (used_axes (length (shape a.old)) p) }
     ensures does { Does (setting_of T.width a.old) (Command.vset (used_axes (length (shape a.old)) p) v)
         (session_of a.old window.now) (session_of a.new window.now) (said result) }
-    ensures array { IsArray T.width D a.new }
-    ensures kept { kind a.new ≡ kind a.old }
+    ensures kept { StillArray T.width D a.old a.new }
 {
     if !window.contains(p) {
         return Some(Reply::Refused(Refusal::Range));
@@ -104,8 +102,7 @@ fn resize<T: Lane, const D: usize>(
     requires count { length (used_axes count sizes) ≡ count }
     ensures does { Does (setting_of T.width a.old) (Command.resize (used_axes count sizes))
         (session_of a.old window.old) (session_of a.new window.new) (said result) }
-    ensures array { IsArray T.width D a.new }
-    ensures kept { kind a.new ≡ kind a.old }
+    ensures kept { StillArray T.width D a.old a.new }
 {
     let Some(shape) = new_shape(a, count, sizes) else {
         return Some(Reply::Refused(Refusal::Size));

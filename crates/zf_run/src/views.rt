@@ -8,7 +8,7 @@ ghost use Rattle.zf_cached.specs.Windows.{Window as Part};
 ghost use Rattle.zf_cached.specs.Steps.{by_view, flushed_views, view_has};
 ghost use Rattle.zf_array.specs.Standing.{shape};
 ghost use Rattle.zf_commands.specs.Kinds.{view_cmd, asked, IsPlain};
-ghost use Rattle.zf_run.specs.Sessions.{setting_of, start_of, kind, IsArray};
+ghost use Rattle.zf_run.specs.Sessions.{setting_of, start_of, kind, StillArray};
 ghost use Rattle.zf_commands.specs.Steps.{said};
 ghost use Rattle.zf_private.specs.Doing.{SitsOnAt, DoesAct};
 ghost use Rattle.zf_private.specs.Standing.{block_at, place_at};
@@ -57,8 +57,7 @@ pub(crate) fn flush_views<T: Lane, const D: usize>(a: &mut Array<T, D>, views: &
         → flushed_views (setting_of T.width a.old) (split_session T.value a.old views.old v)
         (length views.old)
         ≡ split_session T.value a.new views.new v }
-    ensures array { IsArray T.width D a.new }
-    ensures kept { kind a.new ≡ kind a.old }
+    ensures kept { StillArray T.width D a.old a.new }
 {
     for i in 0..views.len() {
         flush_view(a, views, i);
