@@ -30,7 +30,6 @@ fn take_plane<P: Plane>(
     requires there { next.len ≤ cursor.old.count }
     ensures read { MovesOverPlane size (state n cursor.old) (state result.above cursor.new)
         (P.words result.plane) }
-    ensures count { cursor.new.count + next.len ≡ cursor.old.count }
 {
     let mut plane = P::zero();
     plane.set_word(0, next.digits);
@@ -134,63 +133,6 @@ fn read_last<P: Plane>(size: usize, cursor: &mut Cursor<'_>) -> Option<PlaneRead
     read_by_runs(size, size, cursor)
 }
 
-/// Reads four such planes, whose bits are in sight, from the one of number `from` on.
-#[inline(always)]
-fn read_four_last<P: Plane>(size: usize, from: usize, planes: &mut [P], cursor: &mut Cursor<'_>)
-    requires size { IsWordSize size }
-    requires there { 4 * size ≤ cursor.old.count }
-    requires planes { from + 4 ≤ length planes.old }
-    requires zeros { AreZeroFrom size from (map P.words planes.old) }
-    ensures read { MovesOverSame size size from (from + 4) cursor.old cursor.new (map P.words planes.old)
-        (map P.words planes.new) }
-    ensures zeros { AreZeroFrom size (from + 4) (map P.words planes.new) }
-    ensures long { length planes.new ≡ length planes.old }
-{
-    // Together, so that what they pass is counted once.
-    for j in 0..4 {
-        let read = take_plane::<P>(size, size, plane_of_all(size, cursor.bits), cursor);
-        let k = planes.len() - 1 - (from + j);
-        planes[k] = read.plane;
-    }
-}
-
-/// Reads planes in which all ranks have had a one above, from the one of number `from` on and before that of
-/// number `to`: four at once where a look shows so many, or one. The answer is the number of the first plane
-/// that was not read.
-#[inline(always)]
-fn read_some_last<P: Plane>(
-    size: usize,
-    from: usize,
-    to: usize,
-    planes: &mut [P],
-    cursor: &mut Cursor<'_>,
-) -> Option<usize>
-    requires some { 0 < size }
-    requires words { size ≤ 64 * P.word_count }
-    requires next { from < to }
-    requires planes { to ≤ length planes.old }
-    requires zeros { AreZeroFrom size from (map P.words planes.old) }
-    ensures short { IfNone result (Lack size 1 (state size cursor.old)) }
-    ensures some { IfSome result (λ next. from < next) }
-    ensures within { IfSome result (λ next. next ≤ to) }
-    ensures read { IfSome result (λ next. MovesOverSame size size from next cursor.old cursor.new
-        (map P.words planes.old) (map P.words planes.new)) }
-    ensures zeros { IfSome result (λ next. AreZeroFrom size next (map P.words planes.new)) }
-    ensures long { length planes.new ≡ length planes.old }
-{
-    if size <= 16 && to - from >= 4 {
-        cursor.look_on(4 * size as u64);
-        if 4 * size as u64 <= cursor.count {
-            read_four_last(size, from, planes, cursor);
-            return Some(from + 4);
-        }
-    }
-    let read = read_last::<P>(size, cursor)?;
-    let k = planes.len() - 1 - from;
-    planes[k] = read.plane;
-    Some(from + 1)
-}
-
 /// Reads the code of the top `prec` planes. All are zero before, and the other planes stay so. The answer is
 /// what is left of the budget.
 #[inline(always)]
@@ -225,7 +167,10 @@ pub(crate) fn read_by_kinds<P: Plane>(
     }
     // Where planes are left, all ranks have had a one.
     while i < prec as usize && cursor.left > 0 {
-        i = read_some_last(size, i, prec as usize, planes, &mut cursor)?;
+        let read = read_last::<P>(size, &mut cursor)?;
+        let k = planes.len() - 1 - i;
+        planes[k] = read.plane;
+        i += 1;
     }
     Some(cursor.left)
 }

@@ -1,4 +1,4 @@
-use Rattle.std.proofs.Common.{◌≡◌, ℕ, ◌+◌, ◌-◌, ◌<◌, ◌≤◌, ◌⊎◌, ⊎_elim, inl, inr, List, length, map, set, ◌∙◌, arith, length-set}
+use Rattle.std.proofs.Common.{◌≡◌, ℕ, ◌+◌, ◌-◌, ◌<◌, ◌≤◌, ◌⊎◌, ⊎_elim, inl, inr, List, length, map, set, ◌∙◌, sym, arith, length-set}
 use Rattle.std.proofs.lemmas.List.{length-map}
 use Rattle.zf_bits.specs.Reader.{Reader}
 use Rattle.zf_planes.{proofs.Passing.{if_none}, proofs.Coming.{comes_then, comes_lack, lack_of_one}}
@@ -57,22 +57,22 @@ loop-i-preserved-then-cursor-above-eq0 g c =
 all_ranks : (above size left prec i : ℕ) → (above ≡ size) ⊎ ((left ≡ 0) ⊎ (prec ≤ i)) → 0 < left → i < prec → above ≡ size
 all_ranks above size left prec i all some below = ⊎_elim (λ same. same) (⊎_elim (λ none. absurd (omega arith)) (λ end. absurd (omega arith))) all
 
-pub returns-in_err-i-clause-short : goal.returns-in_err-i-clause-short
-returns-in_err-i-clause-short g c =
+pub returns-in_err-read-2-clause-short : goal.returns-in_err-read-2-clause-short
+returns-in_err-read-2-clause-short g c =
     let all = all_ranks _ _ _ _ _ c.loop-i-2.invariant.all c.if-cursor-gt0-2.true c.loop-i-2-test.true in
-    if_none _ (lacks (state c.args.size c.loop-i-2.cursor) (rw all at c.loop-i-2.invariant.read) c.loop-i-2-test.true c.in_err-i.ensures.short)
+    if_none _ (lacks (state c.args.size c.loop-i-2.cursor) (rw all at c.loop-i-2.invariant.read) c.loop-i-2-test.true c.in_err-read-2.ensures.short)
 
 pub loop-i-2-preserved : goal.loop-i-2-preserved
 loop-i-2-preserved g c =
     let before = c.loop-i-2.invariant in
-    let next = c.in_ok-i.i in
-    let told = c.in_ok-i.ensures in
+    let one = c.in_ok-read-2.read in
     let all = all_ranks _ _ _ _ _ before.all c.if-cursor-gt0-2.true c.loop-i-2-test.true in
-    let read = rw all at before.read in
-    let parts : c.loop-i-2.i + (next - c.loop-i-2.i) ≡ next = omega (arith, told.some) in
+    let read = c.in_ok-read-2.ensures.read in
+    let same : one.above ≡ c.args.size = omega (arith, read.comes.risen, read.comes.ranks (omega arith)) in
+    let next = more g.P.Plane.words c.loop-i-2.planes one.plane (rw all at before.read) c.loop-i-2-test.true (omega (arith, before.long, c.requires.planes.enough)) read in
     record {
-      read = rw all (record { comes = rw parts at (comes_then read.comes told.read); zeros = told.zeros; within = told.within });
-      long = told.long ∙ before.long;
+      read = rw (all ∙ sym same) next;
+      long = length-set c.loop-i-2.planes _ one.plane ∙ before.long;
       all = inl all;
     }
 
