@@ -161,9 +161,10 @@ impl<T: Lane> BlockCode<T> for Rate {
         let bits = u64::from(self.bits);
         let width = T::WIDTH;
         let zeros = zf_coef::zero_planes(digits, width);
-        // Half as many planes are turned in half the time, and sixteen of many digits in a quarter.
+        // Half as many planes are turned in half the time, and sixteen of many digits in a quarter. Of sixteen
+        // digits all 32 planes are turned at once, so that fewer of those save nothing.
         let few = (zeros + 16).min(width);
-        if reaches_upper::<T>(bits, few, digits) {
+        if (size > 16 || width == 64) && reaches_upper::<T>(bits, few, digits) {
             write_upper::<T, P>(zeros, bits, few, 16, digits, planes, out);
             return;
         }
