@@ -1,8 +1,11 @@
 -- What comes of reading a code at the front of a reader's bits: it is passed whole, or the bits end before it
 -- does.
-use Rattle.std.specs.Prelude.{ℕ, ℤ, ◌≡◌, ◌<◌, ◌≤◌, Bool, false, List, Option, IfNone, OnSome, IsTrue, length, take, replicate}
+use Rattle.std.specs.Prelude.{ℕ, ℤ, ◌≡◌, ◌<◌, ◌≤◌, ◌-◌, Bool, false, List, ◌∷◌, Option, IfNone, IfSome, OnSome, IsTrue}
+use Rattle.std.specs.Prelude.{length, take, replicate}
 use Rattle.std.specs.Int.{Width}
 use Rattle.zf_spec.specs.Codes.{coefficients_of}
+use Rattle.zf_spec.specs.Planes.{planes_of}
+use Rattle.zf_coef.specs.HeldDigits.{digits_in}
 use Rattle.zf_bits.specs.Reader.{Reader, rest, Reads}
 use Rattle.zf_block.specs.Block.{AreAbove}
 
@@ -40,3 +43,13 @@ StandsFor w d back planes_at block bits = block ≡ back (coefficients_of w d (p
 -- a meaning: of the planes that are held, the top ones are those that bits stand for, and all below are zero
 abbrev pub HoldsAbove : ℕ → (List Bool → List (List Bool)) → List (List Bool) → List Bool → Type 0
 HoldsAbove size planes_at held bits = AreAbove size (planes_at bits) held
+
+-- a code of planes in which the first rank alone has ones is read only where it is seen: then it was passed
+-- whole, and these are the digits of the first rank
+abbrev pub FindsFirst : ℕ → ℕ → (List Bool → ℕ) → (List Bool → List (List Bool)) → Option ℕ → Reader → Reader
+    → Type 0
+FindsFirst w size len planes_at result old new =
+    IfNone result (new ≡ old)
+    × OnSome result (PassesCode (len (rest old)) old new)
+    × IfSome result (λ u. HoldsAbove size planes_at
+        (planes_of w (digits_in w (u ∷ replicate (size - 1) 0))) (rest old))

@@ -12,7 +12,7 @@ ghost use Rattle.zf_bits.specs.Reader.{rest};
 ghost use Rattle.zf_base.specs.WholeBlocks.{IsBlockOf};
 ghost use Rattle.zf_block.specs.Block.{AreAbove};
 ghost use Rattle.zf_block.specs.Held.{IsHeldSize, IsWorkRoom, AreBlank};
-ghost use Rattle.zf_block.specs.Decoding.{PassesCode, MovesIf, Decodes, HoldsAbove};
+ghost use Rattle.zf_block.specs.Decoding.{PassesCode, MovesIf, Decodes, HoldsAbove, FindsFirst};
 ghost use Rattle.zf_block.specs.Passing.{HasNext};
 
 use crate::Dims;
@@ -132,11 +132,8 @@ pub(crate) trait BlockCode<T: Lane> {
     /// Reads the code of a block of which the first coefficient alone is not zero, where it is seen that one
     /// is next. The answer is the digits of the first.
     fn read_first(&self, d: Dims, word: u64, reader: &mut BitReader<'_>) -> Option<u64>
-        ensures unread { IfNone result (reader.new ≡ reader.old) }
-        ensures reads { OnSome result
-            (PassesCode (len_at self.now (4 ^ d.count) (rest reader.old)) reader.old reader.new) }
-        ensures planes { IfSome result (λ u. HoldsAbove (4 ^ d.count) (planes_at self.now (4 ^ d.count))
-            (planes_of T.WIDTH (digits_in T.WIDTH (u ∷ replicate (4 ^ d.count - 1) 0))) (rest reader.old)) };
+        ensures { FindsFirst T.WIDTH (4 ^ d.count) (len_at self.now (4 ^ d.count))
+            (planes_at self.now (4 ^ d.count)) result reader.old reader.new };
 
     /// How many bits the code of a block of zeros has, all of which are zero.
     fn len_of_zeros(&self, d: Dims) -> u64

@@ -4,8 +4,9 @@ ghost use Rattle.std.specs.Prelude.{◌≡◌, ◌≤◌, ◌^◌, ◌↔◌, Is
 ghost use Rattle.zf_spec.specs.Codes as codes;
 ghost use Rattle.zf_bits.specs.Writer.{Appends};
 ghost use Rattle.zf_spec.specs.Padding.{pad};
-ghost use Rattle.zf_base.specs.Positions.{used_axes, IsExtent};
+ghost use Rattle.zf_base.specs.Positions.{used_axes};
 ghost use Rattle.zf_base.specs.WholeBlocks.{IsBlockOf};
+ghost use Rattle.zf_block.specs.Block.{IsPart, IsWide};
 ghost use Rattle.zf_block.specs.Held.{IsHeldSize, IsWorkRoom, AreBlank};
 ghost use Rattle.zf_bits.specs.Reader.{rest};
 ghost use Rattle.zf_block.specs.Passing.{HasNext};
@@ -51,8 +52,7 @@ pub(crate) fn encode_part<C: BlockCode<T>, T: Lane>(
     s: &mut Scratch<T>,
     out: &mut BitWriter,
 )
-    requires block { length block.now ≡ 4 ^ d.count }
-    requires extent { IsExtent d.count e.now }
+    requires part { IsPart d.count e.now block.now }
     requires fits { C.longest code.now (4 ^ d.count) ≤ out.old.room }
     ensures { Appends out.old out.new (C.code_of code.now (codes.planes T.width d.count
         (C.forth d.count (pad (used_axes d.count e.now.size) (map T.value block.now))))) }
@@ -77,9 +77,8 @@ fn encode_copy<C: BlockCode<T>, T: Lane>(
     s: &mut Scratch<T>,
     out: &mut BitWriter,
 )
-    requires block { length block.now ≡ 4 ^ d.count }
+    requires part { IsPart d.count e.now block.now }
     requires copy { length padded.old ≡ 4 ^ d.count }
-    requires extent { IsExtent d.count e.now }
     requires fits { C.longest code.now (4 ^ d.count) ≤ out.old.room }
     ensures { Appends out.old out.new (C.code_of code.now (codes.planes T.width d.count
         (C.forth d.count (pad (used_axes d.count e.now.size) (map T.value block.now))))) }
@@ -101,8 +100,7 @@ fn encode_any<C: BlockCode<T>, T: Lane>(
     s: &mut Scratch<T>,
     out: &mut BitWriter,
 )
-    requires block { length block.old ≡ 4 ^ d.count }
-    requires more { ¬ (d.count ≡ 1) }
+    requires block { IsWide d.count block.old }
     requires fits { C.longest code.now (4 ^ d.count) ≤ out.old.room }
     ensures { Appends out.old out.new
         (C.code_of code.now (codes.planes T.width d.count (C.forth d.count (map T.value block.old)))) }
@@ -231,9 +229,8 @@ fn read_any<C: BlockCode<T>, T: Lane>(
     reader: &mut BitReader<'_>,
     block: &mut [T],
 ) -> Option<()>
-    requires more { ¬ (d.count ≡ 1) }
     requires next { HasNext word (rest reader.old) }
-    requires block { length block.old ≡ 4 ^ d.count }
+    requires block { IsWide d.count block.old }
     ensures { Decodes (C.len_at code.now (4 ^ d.count))
         (StandsFor T.width d.count (C.back d.count) (C.planes_at code.now (4 ^ d.count))
         (map T.value block.new)) result reader.old reader.new }

@@ -14,6 +14,7 @@ ghost use Rattle.zf_bits.specs.Writer.{Appends};
 ghost use Rattle.zf_bits.specs.Reader.{rest};
 ghost use Rattle.zf_lift.proofs.FirstAlone.{lift-zeros, unlift-zeros};
 ghost use Rattle.zf_block.specs.Decoding.{ZerosNext, MovesIf};
+ghost use Rattle.zf_block.specs.Block.{AreTopZeros};
 ghost use Rattle.zf_block.specs.Held.{IsHeldSize};
 ghost use Rattle.zf_block.specs.ReadBlocks.{ReadsRate};
 
@@ -257,9 +258,7 @@ fn write_first<P: Plane>(
     requires planes { length planes.now ≡ count }
     requires few { count ≤ 64 }
     requires fits { bits ≤ out.old.room }
-    requires within { zeros ≤ count }
-    requires zeros { take zeros (planes_held size (map P.words planes.now))
-        ≡ replicate zeros (replicate size false) }
+    requires zeros { AreTopZeros zeros count size (planes_held size (map P.words planes.now)) }
     ensures { Appends out.old out.new (first_bits bits (code (planes_held size (map P.words planes.now)))) }
 {
     let bits = u64::from(bits);

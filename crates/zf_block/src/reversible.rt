@@ -12,7 +12,7 @@ ghost use Rattle.zf_spec.specs.Lorenzo.{lorenzo, unlorenzo};
 ghost use Rattle.zf_base.specs.Positions.{used_axes, IsExtent};
 ghost use Rattle.zf_bits.specs.Writer.{Appends};
 ghost use Rattle.zf_bits.specs.Reader.{rest, Reads};
-ghost use Rattle.zf_block.specs.Decoding.{LacksBits, ZerosNext, MovesIf, PassesCode, HoldsAbove};
+ghost use Rattle.zf_block.specs.Decoding.{LacksBits, ZerosNext, MovesIf, FindsFirst};
 ghost use Rattle.zf_block.specs.Passing.{HasNext};
 ghost use Rattle.zf_block.specs.Room.{longest_rev};
 ghost use Rattle.zf_lorenzo.proofs.FirstAlone.{lorenzo-zeros, unlorenzo-zeros};
@@ -260,11 +260,8 @@ fn write_count<T: Lane>(digits: &[u64], out: &mut BitWriter) -> u32
 /// answer is its digits. It stands apart, so that other blocks do not enter it.
 #[inline(never)]
 fn read_counted<T: Lane>(d: Dims, reader: &mut BitReader<'_>) -> Option<u64>
-    ensures unread { IfNone result (reader.new ≡ reader.old) }
-    ensures reads { OnSome result
-        (PassesCode (rev_len T.width (4 ^ d.count) (rest reader.old)) reader.old reader.new) }
-    ensures planes { IfSome result (λ u. HoldsAbove (4 ^ d.count) (rev_planes T.width (4 ^ d.count))
-        (planes_of T.WIDTH (digits_in T.WIDTH (u ∷ replicate (4 ^ d.count - 1) 0))) (rest reader.old)) }
+    ensures { FindsFirst T.WIDTH (4 ^ d.count) (rev_len T.width (4 ^ d.count))
+        (rev_planes T.width (4 ^ d.count)) result reader.old reader.new }
 {
     let mut place = reader.another();
     let prec = read_count::<T>(look(&place), &mut place)?;

@@ -1,11 +1,12 @@
 //! The code of planes without a budget.
 
-ghost use Rattle.std.specs.Prelude.{◌≡◌, ◌≤◌, ◌+◌, ◌*◌, false, map, length, take, replicate};
+ghost use Rattle.std.specs.Prelude.{◌≡◌, ◌≤◌, ◌+◌, ◌*◌, map, length, take, replicate};
 ghost use Rattle.zf_spec.specs.Planes.{planes_of, code};
 ghost use Rattle.zf_spec.specs.ReadPlanes.{planes_in};
 ghost use Rattle.zf_spec.specs.HeldPlanes.{planes_held};
 ghost use Rattle.zf_coef.specs.HeldDigits.{digits_in};
 ghost use Rattle.zf_bits.specs.Writer.{Appends};
+ghost use Rattle.zf_block.specs.Block.{AreTopZeros};
 ghost use Rattle.zf_block.specs.Held.{IsHeldSize, IsWorkRoom};
 ghost use Rattle.zf_block.specs.Decoding.{Decodes, HoldsAbove};
 ghost use Rattle.zf_block.specs.ReadBlocks.{uncut_len};
@@ -17,9 +18,7 @@ use zf_bits::{BitReader, BitWriter, Plane};
 /// How many of the top `prec` planes of these digits have no one, as the digits tell at once.
 #[inline(always)]
 pub(crate) fn zeros_above<T: Lane>(prec: u32, digits: &[u64]) -> u32
-    ensures within { result ≤ prec }
-    ensures zeros { take result (planes_of T.WIDTH (digits_in T.WIDTH digits.now))
-        ≡ replicate result (replicate (length digits.now) false) }
+    ensures { AreTopZeros result prec (length digits.now) (planes_of T.WIDTH (digits_in T.WIDTH digits.now)) }
 {
     zf_coef::zero_planes(digits, T::WIDTH).min(prec)
 }
@@ -36,9 +35,7 @@ pub(crate) fn write_uncut<P: Plane>(
     requires planes { prec ≤ length planes.now }
     requires few { length planes.now ≤ 64 }
     requires fits { size * prec + size ≤ out.old.room }
-    requires within { zeros ≤ prec }
-    requires zeros { take zeros (planes_held size (map P.words planes.now))
-        ≡ replicate zeros (replicate size false) }
+    requires zeros { AreTopZeros zeros prec size (planes_held size (map P.words planes.now)) }
     ensures { Appends out.old out.new (code (take prec (planes_held size (map P.words planes.now)))) }
 {
     zf_planes::write_planes_below(zeros, u64::MAX, prec, size, planes, out);
@@ -59,9 +56,7 @@ pub(crate) fn write_uncut_digits<T: Lane, P: Plane>(
     requires room { IsWorkRoom size P.word_count T.WIDTH digits.old planes.old }
     requires planes { prec ≤ T.WIDTH }
     requires fits { size * prec + size ≤ out.old.room }
-    requires within { zeros ≤ prec }
-    requires zeros { take zeros (planes_of T.WIDTH (digits_in T.WIDTH digits.old))
-        ≡ replicate zeros (replicate size false) }
+    requires zeros { AreTopZeros zeros prec size (planes_of T.WIDTH (digits_in T.WIDTH digits.old)) }
     ensures { Appends out.old out.new (code (take prec (planes_of T.WIDTH (digits_in T.WIDTH digits.old)))) }
 {
     if zeros == prec {
@@ -87,9 +82,7 @@ pub(crate) fn write_uncut_four<T: Lane>(
 )
     requires planes { prec ≤ T.WIDTH }
     requires fits { 4 * prec + 4 ≤ out.old.room }
-    requires within { zeros ≤ prec }
-    requires zeros { take zeros (planes_of T.WIDTH (digits_in T.WIDTH digits.now))
-        ≡ replicate zeros (replicate 4 false) }
+    requires zeros { AreTopZeros zeros prec 4 (planes_of T.WIDTH (digits_in T.WIDTH digits.now)) }
     ensures { Appends out.old out.new
         (code (take prec (planes_of T.WIDTH (digits_in T.WIDTH digits.now)))) }
 {

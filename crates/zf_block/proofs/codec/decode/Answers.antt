@@ -19,12 +19,12 @@ returns-in-Some g c =
     let coefficients = coefficients_first g.T.Lane.width d _ c.in-Some.digits _ c.args.d.range g.met.T.Lane.bits_of_width refl in
     rw (← c.pass_zeros.ensures.passes.0 (λ passed. cc)) (
       tt,
-      passes_block (g.C.BlockCode.len_at code) (g.C.BlockCode.planes_at code) c.pass_zeros.new.reader c.read_first.new.reader d _ refl g.T.Lane.width (g.C.BlockCode.back d) _ c.in-Some.ensures.reads
-          _ c.in-Some.ensures.planes (cc (c.inverse_of_first-in-Some.ensures, c.from_digits.ensures.value, coefficients)),
+      passes_block (g.C.BlockCode.len_at code) (g.C.BlockCode.planes_at code) c.pass_zeros.new.reader c.read_first.new.reader d _ refl g.T.Lane.width (g.C.BlockCode.back d) _ c.in-Some.ensures.1
+          _ c.in-Some.ensures.2 (cc (c.inverse_of_first-in-Some.ensures, c.from_digits.ensures.value, coefficients)),
     )
 
 pub read_any-requires-clause-next : goal.read_any-requires-clause-next
-read_any-requires-clause-next g c = rw (c.in_default.ensures.unread, c.pass_zeros.ensures.passes.0 (λ passed. cc)) c.look-word.ensures
+read_any-requires-clause-next g c = rw (c.in_default.ensures.0, c.pass_zeros.ensures.passes.0 (λ passed. cc)) c.look-word.ensures
 
 pub returns : goal.returns
-returns g c = rw (← c.pass_zeros.ensures.passes.0 (λ passed. cc), ← c.in_default.ensures.unread) c.read_any.ensures
+returns g c = rw (← c.pass_zeros.ensures.passes.0 (λ passed. cc), ← c.in_default.ensures.0) c.read_any.ensures

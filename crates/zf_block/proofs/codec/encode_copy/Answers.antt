@@ -11,7 +11,7 @@ returns g c =
     let d = c.args.d.count in
     let value = g.T.Lane.value in
     let copied : c.copy_from_slice.new.self ≡ c.args.block.now =
-    c.copy_from_slice.ensures.after ∙ take_all (length c.args.padded.now) c.args.block.now (omega (arith, c.requires.copy, c.requires.block)) in
+    c.copy_from_slice.ensures.after ∙ take_all (length c.args.padded.now) c.args.block.now (omega (arith, c.requires.copy, c.requires.part)) in
     Appends-same c.encode.ensures
     (ap (λ vs. g.C.BlockCode.code_of c.args.code.now (codes.planes g.T.Lane.width d (g.C.BlockCode.forth d vs)))
     (c.pad.ensures ∙ ap (λ vs. pad (used_axes d c.args.e.now.size) (map value vs)) copied))

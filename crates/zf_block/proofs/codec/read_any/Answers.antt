@@ -15,10 +15,10 @@ returns-in-3-count g c = rw c.in-3-count.is c.read_block-in-3-count.ensures
 
 pub returns-in_default-count : goal.returns-in_default-count
 returns-in_default-count g c =
-    let four : c.args.d.count ≡ 4 = omega (arith, c.args.d.range, c.requires.more, c.in_default-count) in
+    let four : c.args.d.count ≡ 4 = omega (arith, c.args.d.range, c.requires.block.1, c.in_default-count) in
     rw four c.read_block-in_default-count.ensures
 
 pub returns-in_default : goal.returns-in_default
 returns-in_default g c =
-    let four : c.args.d.count ≡ 4 = omega (arith, c.args.d.range, c.requires.more, c.in_default) in
+    let four : c.args.d.count ≡ 4 = omega (arith, c.args.d.range, c.requires.block.1, c.in_default) in
     rw four c.read_block-in_default.ensures

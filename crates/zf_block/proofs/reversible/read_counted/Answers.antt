@@ -6,17 +6,8 @@ use Rattle.zf_block.{proofs.ReadCodes.{planes-behind_count, passes-behind_count}
 use Rattle.zf_block.{proofs.FirstAlone.{uncut_first, passes_first}, proofs.Widths.{width_bounds}, proofs.Sizes.{block_sizes}}
 use Rattle.zf_block.proofs.reversible.read_counted.Goals as goal
 
-pub returns-clause-reads : goal.returns-clause-reads
-returns-clause-reads g c =
-    let size = 4 ^ c.args.d.count in
-    let first = c.in_ok-first.first in
-    let middle = c.read_count.new.reader in
-    let count = c.in_ok-prec.ensures in
-    rw c.another-place.ensures at (passes-behind_count g.T.Lane.width size c.in_ok-prec.prec c.another-place.result middle count.value count.reads c.skip.new.self
-    (passes_first size c.in_ok-prec.prec first.digits first.len middle c.skip.new.self (block_sizes c.args.d.count _ c.args.d.range.0 c.args.d.range.1 refl) c.in_ok-first.ensures c.skip.ensures))
-
-pub returns-clause-planes : goal.returns-clause-planes
-returns-clause-planes g c =
+pub returns : goal.returns
+returns g c =
     let w = g.T.Lane.width in
     let size = 4 ^ c.args.d.count in
     let first = c.in_ok-first.first in
@@ -26,5 +17,11 @@ returns-clause-planes g c =
     let word = first.digits * 2 ^ (c.WIDTH.result - prec) % 2 ^ 64 in
     let bounds = width_bounds w g.T.Lane.WIDTH g.met.T.Lane.two_widths g.met.T.Lane.bits_of_width in
     let Above : ℕ → Type 0 = λ n. AreAbove size (planes_in prec size (rest middle)) (planes_of n (digits_in n (word ∷ replicate (size - 1) 0))) in
-    rw (← c.another-place.ensures, ← planes-behind_count w size prec c.another-place.result middle count.value count.reads)
-    (subst Above c.WIDTH.ensures (uncut_first size c.WIDTH.result prec first.digits first.len word (rest middle) (block_sizes c.args.d.count _ c.args.d.range.0 c.args.d.range.1 refl) (omega (arith, count.within, c.WIDTH.ensures)) (omega (arith, bounds.1, c.WIDTH.ensures)) refl c.in_ok-first.ensures))
+    let sizes = block_sizes c.args.d.count _ c.args.d.range.0 c.args.d.range.1 refl in
+    let passed = passes_first size prec first.digits first.len middle c.skip.new.self sizes c.in_ok-first.ensures c.skip.ensures in
+    (
+      tt,
+      rw c.another-place.ensures at (passes-behind_count w size prec c.another-place.result middle count.value count.reads c.skip.new.self passed),
+      rw (← c.another-place.ensures, ← planes-behind_count w size prec c.another-place.result middle count.value count.reads)
+      (subst Above c.WIDTH.ensures (uncut_first size c.WIDTH.result prec first.digits first.len word (rest middle) sizes (omega (arith, count.within, c.WIDTH.ensures)) (omega (arith, bounds.1, c.WIDTH.ensures)) refl c.in_ok-first.ensures)),
+    )

@@ -9,7 +9,7 @@ pub returns-then-zeros-prec : goal.returns-then-zeros-prec
 returns-then-zeros-prec g c =
     let some : 1 ≤ c.args.size = omega (arith, c.requires.room) in
     let none = code-zero_planes c.args.prec c.args.size some in
-    Appends-same c.write_zeros_reserved.ensures.bits (cc (c.from.ensures, c.if-zeros-prec.true, c.requires.zeros, none))
+    Appends-same c.write_zeros_reserved.ensures.bits (cc (c.from.ensures, c.if-zeros-prec.true, c.requires.zeros.1, none))
 
 pub returns-then-prec-zeros : goal.returns-then-prec-zeros
 returns-then-prec-zeros g c =

@@ -5,14 +5,11 @@ use Rattle.zf_bits.specs.Reader.{rest}
 use Rattle.zf_block.{specs.Block.{AreAbove}, proofs.FirstAlone.{rate_first}, proofs.Sizes.{block_sizes}}
 use Rattle.zf_block.proofs.rate.RateBlockCode.read_first.Goals as goal
 
-pub returns-clause-reads : goal.returns-clause-reads
-returns-clause-reads g c = search rules
-
-pub returns-clause-planes : goal.returns-clause-planes
-returns-clause-planes g c =
+pub returns : goal.returns
+returns g c =
     let s = rest c.args.reader.now in
     let budget = c.args.self.now.bits in
     let size = 4 ^ c.args.d.count in
     let first = c.in_ok-first.first in
     let Above : ℕ → Type 0 = λ w. AreAbove size (kept_planes budget (planes_in w size (take budget s))) (planes_of w (digits_in w (first.digits ∷ replicate (size - 1) 0))) in
-    subst Above c.WIDTH.ensures (rate_first size c.WIDTH.result first.digits first.len budget s (block_sizes c.args.d.count _ c.args.d.range.0 c.args.d.range.1 refl) (omega arith) (omega arith) c.in_ok-first.ensures)
+    (tt, search rules, subst Above c.WIDTH.ensures (rate_first size c.WIDTH.result first.digits first.len budget s (block_sizes c.args.d.count _ c.args.d.range.0 c.args.d.range.1 refl) (omega arith) (omega arith) c.in_ok-first.ensures))
