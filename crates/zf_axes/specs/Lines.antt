@@ -1,5 +1,9 @@
 -- What becomes of one line of a block.
-use Rattle.std.specs.Prelude.{ℕ, ◌≡◌, ◌≢◌, ◌+◌, ◌*◌, ◌<◌, ℤ, pos, List, length, slice_index_or}
+use Rattle.std.specs.Prelude.{ℕ, ◌≡◌, ◌≢◌, ◌+◌, ◌*◌, ◌%◌, ◌<◌, ℤ, pos, List, length, slice_index_or}
+
+-- the n values of a block are whole lines along an axis on which neighbours are so many places apart
+abbrev pub AreLines : {A : Type 0} → ℕ → ℕ → List A → Type 0
+AreLines step n block = (0 < step) × (n ≡ length block) × (length block % (4 * step) ≡ 0)
 
 -- the value k steps behind the start of a line, 0 past the end of the block
 abbrev pub member : List ℤ → ℕ → ℕ → ℕ → ℤ

@@ -2,6 +2,7 @@
 
 ghost use Rattle.std.specs.Prelude.{◌≡◌, ◌*◌, ◌%◌, ◌^◌, ◌<◌, map, length};
 ghost use Rattle.zf_spec.specs.Lift.{along, along_axes, along_axes_back};
+ghost use Rattle.zf_axes.specs.Lines.{AreLines};
 
 use crate::line::{LineMap, map_line};
 use zf_base::Lane;
@@ -21,9 +22,7 @@ pub fn pass<T: Lane, M: LineMap<T>>(line_map: &M, step: usize, block: &mut [T])
 // Passes over the lines, compiled anew for each step and length that is a constant.
 #[inline(always)]
 fn pass_by<T: Lane, M: LineMap<T>>(line_map: &M, step: usize, len: usize, block: &mut [T])
-    requires step { 0 < step }
-    requires len { len ≡ length block.old }
-    requires whole { length block.old % (4 * step) ≡ 0 }
+    requires lines { AreLines step len block.old }
     ensures { map T.value block.new ≡ along (M.line line_map.now) step (map T.value block.old) }
 {
     // The block is made of groups of `4 * step` values, and the lines of a group begin at its first `step`
