@@ -5,14 +5,15 @@
 
 Fields are waves with noise of the last bits, int32 and int64, from 4x4 on. Each call is the fastest of its calls in rounds
 that go by turns, so that a slow minute falls on all. zfpy and zfpi write the same modes; blosc keeps every value. `--threads`
-adds four threads at once, each on a quarter of the field. Needs numpy and zfpy, and blosc where it is to be shown.
+adds four threads at once, each on a quarter of a field. Needs numpy and zfpy, and blosc where it is to be shown.
 """
 
 import argparse
 import pathlib
+import statistics
 import sys
-import threading
 import time
+from concurrent.futures import ThreadPoolExecutor
 
 import numpy
 import zfpy
@@ -90,37 +91,41 @@ def table(rounds, shapes):
                 print(f"| {kind} {'x'.join(map(str, shape[::-1]))} | {name} | {said('zfpi')} | {said('zfpy')} | {times} | {said('blosc')} |", flush=True)
 
 
-def at_once(count, field, rounds):
-    """Seconds in which so many threads compress all parts of a field, and restore them, each its own."""
+def four_times_one(field, rounds):
+    """Times one thread's speed of four threads on four parts of a field, compressing and restoring: the median of rounds."""
     parts = [numpy.ascontiguousarray(part) for part in numpy.array_split(field, 4)]
     rooms = [numpy.empty(zfpi.most_bytes(part), "u1") for part in parts]
     backs = [numpy.empty_like(part) for part in parts]
     sizes = [0] * 4
 
-    def work(mine, way):
-        for k in mine:
-            if way == 0:
-                sizes[k] = zfpi.compress_into(parts[k], rooms[k])
-            else:
-                zfpi.decompress_into(rooms[k][: sizes[k]], backs[k])
+    def compress(k):
+        sizes[k] = zfpi.compress_into(parts[k], rooms[k])
 
-    least_of = [9e9, 9e9]
-    for _ in range(rounds):
-        for way in (0, 1):
-            workers = [threading.Thread(target=work, args=(range(k, 4, count), way)) for k in range(count)]
-            begun = time.perf_counter()
-            for it in workers:
-                it.start()
-            for it in workers:
-                it.join()
-            least_of[way] = min(least_of[way], time.perf_counter() - begun)
-    return least_of
+    def restore(k):
+        zfpi.decompress_into(rooms[k][: sizes[k]], backs[k])
+
+    def work(call, mine):
+        # Several times each, so that it weighs little when threads are woken.
+        for _ in range(4):
+            for k in mine:
+                call(k)
+
+    def seconds(pool, call, shares):
+        begun = time.perf_counter()
+        list(pool.map(work, [call] * len(shares), shares))
+        return time.perf_counter() - begun
+
+    times = {compress: [], restore: []}
+    with ThreadPoolExecutor(1) as one, ThreadPoolExecutor(4) as four:
+        for _ in range(rounds):
+            for call, took in times.items():
+                took.append(seconds(one, call, [range(4)]) / seconds(four, call, [[k] for k in range(4)]))
+    return [statistics.median(took) for took in times.values()]
 
 
 def threads(rounds):
-    field = waves((256, 256, 256), "int32")
-    alone, four = at_once(1, field, rounds), at_once(4, field, rounds)
-    print(f"four threads on four parts: {alone[0] / four[0]:.2f} / {alone[1] / four[1]:.2f} times one")
+    there, back = four_times_one(waves((256, 256, 256), "int32"), rounds)
+    print(f"four threads on four parts: {there:.2f} / {back:.2f} times one")
 
 
 def main():
