@@ -1,24 +1,17 @@
 -- Digits that stand two bits apart, put together and turned, so that the first one is the greatest.
-use Rattle.std.proofs.Common.{rules, ◌≡◌, ℕ, zero, suc, ◌+◌, ◌-◌, ◌*◌, ◌/◌, ◌%◌, ◌^◌, ◌<◌, ◌≤◌, ◌==◌, false, ◌∷◌, take, refl, sym, ap, ◌∙◌, arith, pow-suc}
-use Rattle.std.{specs.Int.RustNames.{bit_or}, proofs.Math.Nat.{mul-le-mul_right, div-one, mod-eq_of_lt}, proofs.Math.Pow.{pow_mono}}
+use Rattle.std.proofs.Common.{rules, ◌≡◌, ℕ, zero, suc, ◌+◌, ◌-◌, ◌*◌, ◌/◌, ◌%◌, ◌^◌, ◌<◌, ◌≤◌, ◌==◌, false, ◌∷◌, take, refl, sym, ap, ◌∙◌, arith}
+use Rattle.std.{specs.Int.RustNames.{bit_or}, proofs.Math.Nat.{div-one, mod-eq_of_lt}, proofs.Math.Pow.{pow_mono}}
 use Rattle.std.proofs.lemmas.Nat.{and_block, or_block, and_mask, or_shifted, or_lt, pow_pos, pow-add, shr-shr, shr_high, shr_split, shl_below, mod_low, mod_below}
 use Rattle.std.proofs.lemmas.Nat.Bits.{and_pow}
 use lib.Bits.{bit_and}
 use Rattle.zf_spec.specs.Numbers.{field, is_odd, digit_value}
 use Rattle.zf_spec.proofs.Fields.{sum_below, is_odd-digit_value}
 use Rattle.zf_bits.{specs.Reader.{Reader, rest, Reads}, proofs.Reading.{Reads-same}}
-use Rattle.zf_planes.specs.Spread.{lone_code}
-use Rattle.zf_block.specs.FirstAlone.{digits_down, turned, ReadsDigits}
+use Rattle.zf_planes.{specs.Spread.{lone_code, turned}, proofs.TurnedPairs.{turned-lt}}
+use Rattle.zf_block.specs.FirstAlone.{digits_down, ReadsDigits}
 use Rattle.zf_block.proofs.FirstAlone.{digits_down-add}
 
 -- ---- the number that they make
-
-pub turned-lt : (k n : ℕ) → turned k n < 2 ^ k
-unfolding turned
-turned-lt zero n = omega arith
-turned-lt (suc k) n =
-    let high : n % 2 * 2 ^ k ≤ 1 * 2 ^ k = mul-le-mul_right (2 ^ k) (omega arith) in
-    omega (arith, high, turned-lt k (n / 4), pow-suc 2 k)
 
 -- those behind the first ones lie below them
 pub turned-add : (a b n : ℕ) → turned (a + b) n ≡ turned a n * 2 ^ b + turned b (n / 2 ^ (2 * a))

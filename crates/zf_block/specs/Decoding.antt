@@ -52,4 +52,4 @@ FindsFirst w size len planes_at result old new =
     IfNone result (new ≡ old)
     × OnSome result (PassesCode (len (rest old)) old new)
     × IfSome result (λ u. HoldsAbove size planes_at
-        (planes_of w (digits_in w (u ∷ replicate (size - 1) 0))) (rest old))
+    (planes_of w (digits_in w (u ∷ replicate (size - 1) 0))) (rest old))

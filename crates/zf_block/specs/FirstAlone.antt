@@ -1,5 +1,5 @@
 -- Planes in which the first rank alone has ones, as those of a block of one value, and their code.
-use Rattle.std.specs.Prelude.{ℕ, zero, suc, ◌≡◌, ◌<◌, ◌≤◌, ◌+◌, ◌-◌, ◌*◌, ◌/◌, ◌%◌, ◌^◌, Bool, true, false, List, [], ◌∷◌, length, map, reverse, take, replicate}
+use Rattle.std.specs.Prelude.{ℕ, ◌≡◌, ◌<◌, ◌≤◌, ◌-◌, ◌^◌, Bool, true, false, List, [], ◌∷◌, length, map, reverse, take, replicate}
 use Rattle.zf_spec.specs.Numbers.{field}
 use Rattle.zf_bits.specs.Reader.{Reader, Reads}
 use Rattle.zf_planes.specs.Spread.{lone_code}
@@ -25,12 +25,6 @@ pub record IsFirstCode (k u len : ℕ) (s : List Bool) : Type 0 where
   pub there : len ≤ length s
   pub some : 1 ≤ k
   pub small : u < 2 ^ k
-
--- of k digits that stand two bits apart, the lowest of which comes first, the number in which the first one is
--- the greatest
-unfoldable pub turned : ℕ → ℕ → ℕ
-turned zero n = 0
-turned (suc k) n = n % 2 * 2 ^ k + turned k (n / 4)
 
 -- so many digits came next, each with a group bit of zero behind it
 pub record ReadsDigits (k u : ℕ) (old new : Reader) : Type 0 where

@@ -2,7 +2,8 @@
 
 ghost use Rattle.std.specs.Prelude.{◌≡◌, ◌<◌, ◌≤◌, IfSome};
 ghost use Rattle.zf_bits.specs.Reader.{rest};
-ghost use Rattle.zf_block.specs.FirstAlone.{IsFirstCode, ReadsDigits, turned};
+ghost use Rattle.zf_block.specs.FirstAlone.{IsFirstCode, ReadsDigits};
+ghost use Rattle.zf_planes.specs.Spread.{turned};
 
 use crate::ahead::look;
 use crate::zero_block::are_zeros;

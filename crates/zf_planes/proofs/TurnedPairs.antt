@@ -5,7 +5,7 @@ use Rattle.std.proofs.lemmas.Nat.{and_block, and_mask, and_le_r, or_lt, le_or_r}
 use Rattle.std.proofs.lemmas.Nat.Bits.{bit_at_and, bit_at_or, bit_at-trailing_zeros, bit_at-lt, bit_at-suc, bit_at_cat_low, bit_at_cat_high}
 use Rattle.std.proofs.Math.Nat.{mul-le-mul_right}
 use lib.Bits.{bit_and}
-use Rattle.zf_planes.specs.Lanes.{AreTurned}
+use Rattle.zf_planes.specs.{Lanes.{AreTurned}, Spread.{turned}}
 use Rattle.zf_planes.proofs.Tables.{each_below, each_below-true}
 
 -- the mask of k digits two bits apart, and a number whose digits are put so far apart, or together again
@@ -38,12 +38,7 @@ masked (suc k) n =
     let above : (n % 2 + 2 * p) / 2 ≡ p = omega arith in
     ap (λ m. bit_and m (mask k * 4 + 1)) whole ∙ block ∙ (rw (digit, above) (omega (arith, masked k (n / 4), low)))
 
--- the first one as the greatest
-turned : ℕ → ℕ → ℕ
-turned zero n = 0
-turned (suc k) n = n % 2 * 2 ^ k + turned k (n / 4)
-
-turned-lt : (k n : ℕ) → turned k n < 2 ^ k
+pub turned-lt : (k n : ℕ) → turned k n < 2 ^ k
 unfolding turned
 turned-lt zero n = omega arith
 turned-lt (suc k) n =

@@ -1,5 +1,5 @@
 -- Digits of words from the top: the greatest first.
-use Rattle.std.specs.Prelude.{ℕ, suc, zero, ◌≡◌, ◌<◌, ◌≤◌, ◌+◌, ◌-◌, ◌*◌, ◌/◌, ◌^◌, Bool, true, false, List, [], ◌∷◌, map, slice_index_or}
+use Rattle.std.specs.Prelude.{ℕ, suc, zero, ◌≡◌, ◌<◌, ◌≤◌, ◌+◌, ◌-◌, ◌*◌, ◌/◌, ◌%◌, ◌^◌, Bool, true, false, List, [], ◌∷◌, map, slice_index_or}
 use Rattle.zf_spec.specs.Numbers.{is_odd, digit_value}
 use Rattle.zf_spec.specs.Grid.{upto}
 
@@ -16,6 +16,12 @@ top_planes k words = map (λ i. map (λ word. top_digit word i) words) (upto k)
 unfoldable pub spread : ℕ → ℕ → (ℕ → Bool) → ℕ
 spread b zero digits = 0
 spread b (suc k) digits = digit_value (digits 0) + b * spread b k (λ i. digits (suc i))
+
+-- of k digits that stand two bits apart, the lowest of which comes first, the number in which the first one is
+-- the greatest
+unfoldable pub turned : ℕ → ℕ → ℕ
+turned zero n = 0
+turned (suc k) n = n % 2 * 2 ^ k + turned k (n / 4)
 
 -- planes of four digits in which the first rank alone has ones
 abbrev pub lone_planes : List Bool → List (List Bool)

@@ -3,8 +3,8 @@ use lib.Bits.{bit_and}
 use Rattle.std.proofs.lemmas.Nat.{shr_high}
 use Rattle.zf_bits.specs.Reader.{rest}
 use Rattle.zf_planes.proofs.Peeking.{peeked}
-use Rattle.zf_block.specs.FirstAlone.{turned}
-use Rattle.zf_block.proofs.TurnedDigits.{digits_read, group_bits, group_bits_shown, turned-add, turned-lt}
+use Rattle.zf_planes.{specs.Spread.{turned}, proofs.TurnedPairs.{turned-lt}}
+use Rattle.zf_block.proofs.TurnedDigits.{digits_read, group_bits, group_bits_shown, turned-add}
 use Rattle.zf_block.proofs.first_code.next_digits.Goals as goal
 
 pub returns : goal.returns

@@ -18,10 +18,9 @@ returns g c =
     let bounds = width_bounds w g.T.Lane.WIDTH g.met.T.Lane.two_widths g.met.T.Lane.bits_of_width in
     let Above : ℕ → Type 0 = λ n. AreAbove size (planes_in prec size (rest middle)) (planes_of n (digits_in n (word ∷ replicate (size - 1) 0))) in
     let sizes = block_sizes c.args.d.count _ c.args.d.range.0 c.args.d.range.1 refl in
-    let passed = passes_first size prec first.digits first.len middle c.skip.new.self sizes c.in_ok-first.ensures c.skip.ensures in
-    (
+    let passed = passes_first size prec first.digits first.len middle c.skip.new.self sizes c.in_ok-first.ensures c.skip.ensures in (
       tt,
       rw c.another-place.ensures at (passes-behind_count w size prec c.another-place.result middle count.value count.reads c.skip.new.self passed),
       rw (← c.another-place.ensures, ← planes-behind_count w size prec c.another-place.result middle count.value count.reads)
-      (subst Above c.WIDTH.ensures (uncut_first size c.WIDTH.result prec first.digits first.len word (rest middle) sizes (omega (arith, count.within, c.WIDTH.ensures)) (omega (arith, bounds.1, c.WIDTH.ensures)) refl c.in_ok-first.ensures)),
+          (subst Above c.WIDTH.ensures (uncut_first size c.WIDTH.result prec first.digits first.len word (rest middle) sizes (omega (arith, count.within, c.WIDTH.ensures)) (omega (arith, bounds.1, c.WIDTH.ensures)) refl c.in_ok-first.ensures)),
     )

@@ -20,8 +20,7 @@ returns g c =
     let Above : ℕ → ℕ → Type 0 = λ p w. AreAbove size (planes_in p size s) (planes_of w (digits_in w (word ∷ replicate (size - 1) 0))) in
     let bounds = width_bounds g.T.Lane.width g.T.Lane.WIDTH g.met.T.Lane.two_widths g.met.T.Lane.bits_of_width in
     let sizes = block_sizes c.args.d.count _ c.args.d.range.0 c.args.d.range.1 refl in
-    let held : Above prec width = uncut_first size width prec first.digits first.len word s sizes (omega arith) (omega (arith, bounds.1, c.WIDTH-width.ensures)) refl c.in_ok-first.ensures in
-    (
+    let held : Above prec width = uncut_first size width prec first.digits first.len word s sizes (omega arith) (omega (arith, bounds.1, c.WIDTH-width.ensures)) refl c.in_ok-first.ensures in (
       tt,
       rw top at (passes_first size prec first.digits first.len c.args.reader.now c.skip.new.self sizes c.in_ok-first.ensures c.skip.ensures),
       subst (Above (min c.args.self.now.prec (bits g.T.Lane.width))) c.WIDTH-width.ensures (subst (λ p. Above p width) top held),
