@@ -82,6 +82,14 @@ half_of_planes number from planes words turned same turn j i less few =
     let here = same i few in
     (cc, cc)
 
+-- words that are there, and zeros past their end
+pub half_of_few : (number from : ℕ) (planes : List (List ℕ)) (words turned : List ℕ) → length words ≡ 16
+    → ((j : ℕ) → j < 16 → get_or words j 0 ≡ word_of planes number (from + j))
+    → ((k : ℕ) → from + 16 ≤ k → word_of planes number k ≡ 0) → IsTurned 32 words turned
+    → AreHalf 32 number from planes turned
+half_of_few number from planes words turned long same none turn =
+    half_of_planes number from planes words turned (search (rules, get_or_past, cases_lt)) turn
+
 -- of zeros each word is zero
 pub no_word : (n j : ℕ) → let none : ℕ = 0 in get_or (replicate n none) j none ≡ none
 no_word n j = ⊎_elim (λ (less : j < n). get_or-replicate n j 0 0 less) (λ (past : n ≤ j). get_or_past (replicate n 0) j 0 (let none : ℕ = 0 in omega (arith, length-replicate n none))) (cases_lt j n)
@@ -136,6 +144,13 @@ digits_in_window n number from planes words digits long below above held parts r
     (rw row at (parts.upper (r - n) less)))
     (cases_lt r n)
 
+-- the first 32 planes are all
+pub digits_of_half : (n number : ℕ) (planes : List (List ℕ)) (words digits : List ℕ) → length digits ≡ 2 * n
+    → length planes ≤ 32 → AreHalf n number 0 planes words → AreMoved n n 0 words digits
+    → IsOfGroup number planes digits
+digits_of_half n number planes words digits long few held parts =
+    digits_in_window n number 0 planes words digits long (λ k h. absurd (omega arith)) (λ k past. word_of-past planes number k (omega arith)) held parts
+
 -- the first of more digits
 pub group_of_prefix : (number : ℕ) (planes : List (List ℕ)) (whole digits : List ℕ) → length digits ≤ length whole
     → ((r : ℕ) → r < length digits → get_or digits r 0 ≡ get_or whole r 0) → IsOfGroup number planes whole → IsOfGroup number planes digits
@@ -164,4 +179,4 @@ zeros_put n count number from old new all put kept =
 -- what becomes of groups of digits, and of planes
 pub ruleset of_planes = (length-map, planes_of_first, planes_of_tiles, group_of_same, group_of_none)
 
-pub ruleset of_digits = (length-map, digits_of_halves, digits_in_window, half_past)
+pub ruleset of_digits = (length-map, digits_of_halves, digits_in_window, digits_of_half, half_past)

@@ -1,8 +1,10 @@
 -- Steps that together turn the tiles of words.
-use Rattle.std.proofs.Common.{rules, ◌≡◌, refl, ap, ◌∙◌, ℕ, zero, suc, ◌+◌, ◌-◌, ◌*◌, ◌/◌, ◌%◌, ◌^◌, ◌<◌, ◌≤◌, ◌≢◌, min, ⊎_elim, Bool, true, eqb, ◌&&◌, List, length, arith}
+use Rattle.std.proofs.Common.{rules, ◌≡◌, refl, ap, ◌∙◌, ℕ, zero, suc, ◌+◌, ◌-◌, ◌*◌, ◌/◌, ◌%◌, ◌^◌, ◌<◌, ◌≤◌, ◌≢◌, min, ⊎_elim, Bool, true, eqb, ◌&&◌, List, ◌++◌, length, get_or, replicate, arith}
 use Rattle.std.{proofs.lemmas.Bool.{cases_lt, cases_eq, eqb-true, and_parts}, specs.Int.{bit_at}}
 use Rattle.std.{proofs.Math.Nat.{mod-eq_of_lt, mod-le}, specs.Int.RustNames.{bit_xor}}
-use Rattle.std.proofs.lemmas.Nat.Bits.{bit_at_xor, bit_at-lt}
+use Rattle.std.proofs.lemmas.List.{get_or_past, get_or_append_left, get_or-append_right, length-append}
+use Rattle.std.proofs.lemmas.Nat.Bits.{bit_at_xor, bit_at-lt, bit_at-zero}
+use Rattle.zf_coef.proofs.Halves.{no_word}
 use Rattle.zf_coef.specs.Turned.{bit_of, moved, IsMask, with_digit, IsStepped, IsTurned, crossed, IsFoldedTurned}
 use Rattle.zf_coef.proofs.ShiftedBits.{bit_at-mod, bit_at-shl_low, bit_at-shl_high}
 use Rattle.zf_coef.proofs.Steps.{bit_at-moved}
@@ -48,6 +50,18 @@ more_turned n s old mid new d long before step j i a b = grind arith
 pub all_turned : (n : ℕ) (old new : List ℕ) → IsTurnedTo n 1 old new → IsTurned n old new
 unfolding IsTurned
 all_turned n old new to j i a b = search rules
+
+-- turned sixteen rows, and sixteen rows of zeros behind them, by the step that is left
+pub half_turned : (old mid new : List ℕ) → length old ≡ 16 → length mid ≡ 16 → IsTurned 16 old mid
+    → IsStepped 16 (mid ++ replicate 16 0) new → IsTurned 32 old new
+unfolding IsTurned IsStepped
+half_turned old mid new long all turn step j i a b =
+    let row : (k : ℕ) → k < 16 → get_or (mid ++ replicate 16 0) k 0 ≡ get_or mid k 0 =
+    λ k h. get_or_append_left mid (replicate 16 0) 0 k (omega arith) in
+    let none : (k : ℕ) → 16 ≤ k → get_or (mid ++ replicate 16 0) k 0 ≡ 0 =
+    λ k h. get_or-append_right mid (replicate 16 0) 16 k 0 all h ∙ no_word 16 (k - 16) in
+    let size : length (mid ++ replicate 16 0) ≡ 32 = omega (arith, length-append mid (replicate 16 0)) in
+    grind (arith, get_or_past, bit_at-zero)
 
 -- ---- sixteen rows in eight words
 

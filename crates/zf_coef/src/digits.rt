@@ -10,7 +10,7 @@ ghost use Rattle.zf_coef.specs.Groups.{word_of, HasWord, IsHalfAt, IsOfGroup, Ar
 ghost use Rattle.zf_coef.specs.Groups.{AreUnfolded, AreMoved};
 
 use crate::planes::{WORD_BITS, have_four_words, place_of_eight};
-use crate::turning::{turn_32, turn_folded};
+use crate::turning::{turn_16_of_32, turn_32, turn_folded};
 use zf_bits::Plane;
 
 /// The way back: writes the digits of as many coefficients as `digits` has words, at most 256, of at most 64
@@ -285,14 +285,32 @@ fn take_64<P: Plane>(planes: &[P], number: usize, digits: &mut [u64])
 {
     // A number of planes that is known needs no loop.
     match planes.len() {
-        32 => unfold::<32>(&whole_half(planes, 0, number), &[0; 32], digits),
+        32 => take_64_of_32(planes, number, digits),
         64 => take_64_of_64(planes, number, digits),
         _ => take_64_of(planes, number, digits),
     }
 }
 
-/// Takes 64 digits of 64 planes. Where 32 planes beside one another have all the ones, as a budget mostly
-/// leaves it, no others are turned.
+/// Takes 64 digits of 32 planes. Where sixteen planes beside one another have all the ones, no others are
+/// turned.
+#[tactic(auto, using(crate::proofs::Halves::of_digits))]
+#[inline(always)]
+fn take_64_of_32<P: Plane>(planes: &[P], number: usize, digits: &mut [u64])
+    requires number { number < P.word_count }
+    requires planes { length planes.now ≡ 32 }
+    requires digits { length digits.old ≡ 64 }
+    ensures { IsOfGroup number (map P.words planes.now) digits.new }
+{
+    let from = zeros_below(planes, 16, number);
+    if are_zeros(planes, from + 16, number) {
+        unfold_from::<32>(&few_of_half(planes, from, number), from, digits);
+    } else {
+        unfold_from::<32>(&whole_half(planes, 0, number), 0, digits);
+    }
+}
+
+/// Takes 64 digits of 64 planes. Where sixteen planes beside one another have all the ones, or 32, as a budget
+/// mostly leaves it, no others are turned.
 #[tactic(auto, using(crate::proofs::Halves::of_digits))]
 #[inline(always)]
 fn take_64_of_64<P: Plane>(planes: &[P], number: usize, digits: &mut [u64])
@@ -301,8 +319,10 @@ fn take_64_of_64<P: Plane>(planes: &[P], number: usize, digits: &mut [u64])
     requires digits { length digits.old ≡ 64 }
     ensures { IsOfGroup number (map P.words planes.now) digits.new }
 {
-    let from = zeros_below(planes, number);
-    if are_zeros(planes, from + 32, number) {
+    let from = zeros_below(planes, 32, number);
+    if are_zeros(planes, from + 16, number) {
+        unfold_from::<32>(&few_of_half(planes, from, number), from, digits);
+    } else if are_zeros(planes, from + 32, number) {
         unfold_from::<32>(&whole_half(planes, from, number), from, digits);
     } else {
         unfold::<32>(
@@ -313,20 +333,20 @@ fn take_64_of_64<P: Plane>(planes: &[P], number: usize, digits: &mut [u64])
     }
 }
 
-/// How many of the lowest 32 planes have no one, up to the first that has.
+/// How many of the lowest planes, so many at most, have no one, up to the first that has.
 #[inline(always)]
-fn zeros_below<P: Plane>(planes: &[P], number: usize) -> usize
+fn zeros_below<P: Plane>(planes: &[P], most: usize, number: usize) -> usize
     requires number { number < P.word_count }
-    requires planes { 32 ≤ length planes.now }
-    ensures within { result ≤ 32 }
+    requires planes { most ≤ length planes.now }
+    ensures within { result ≤ most }
     ensures zeros { (k : ℕ) → k < result → word_of (map P.words planes.now) number k ≡ 0 }
 {
-    for k in 0..32 {
+    for k in 0..most {
         if planes[k].word(number) != 0 {
             return k;
         }
     }
-    32
+    most
 }
 
 /// Whether no plane from this one on has a one.
@@ -373,6 +393,19 @@ fn whole_half<P: Plane>(planes: &[P], from: usize, number: usize) -> [u64; 32]
     let mut words = words_at(planes, from, number);
     turn_32(&mut words);
     words
+}
+
+/// The 32 planes from `from` on, turned, of which only the first sixteen have ones.
+#[tactic(auto, using(crate::proofs::Halves::half_of_few))]
+#[inline(always)]
+fn few_of_half<P: Plane>(planes: &[P], from: usize, number: usize) -> [u64; 32]
+    requires number { number < P.word_count }
+    requires from { from + 16 ≤ length planes.now }
+    requires zeros { (k : ℕ) → from + 16 ≤ k → word_of (map P.words planes.now) number k ≡ 0 }
+    ensures { AreHalf 32 number from (map P.words planes.now) result }
+{
+    let mut words = words_at(planes, from, number);
+    turn_16_of_32(&mut words)
 }
 
 /// The 32 planes from `from` on, turned. Planes past the end are zero.

@@ -117,6 +117,19 @@ pub(crate) fn turn_16(words: &mut [u64; 16])
     step_next(words, 0x5555_5555_5555_5555);
 }
 
+/// Turns the tiles of 32 rows of which only the first sixteen are there, and the others are zero.
+#[tactic(auto, using(crate::proofs::Turns::turning_steps))]
+#[inline(always)]
+pub(crate) fn turn_16_of_32(words: &mut [u64; 16]) -> [u64; 32]
+    ensures { IsTurned 32 words.old result }
+{
+    turn_16(words);
+    let mut rows = [0; 32];
+    rows[..16].copy_from_slice(words);
+    step::<32, 16>(&mut rows, 0x0000_ffff_0000_ffff);
+    rows
+}
+
 /// Turns the tiles of 32 rows.
 #[tactic(auto, using(crate::proofs::Turns::turning_steps))]
 #[inline(always)]
