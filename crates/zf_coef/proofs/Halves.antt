@@ -94,12 +94,6 @@ half_of_few number from planes words turned long same none turn =
 pub no_word : (n j : ℕ) → let none : ℕ = 0 in get_or (replicate n none) j none ≡ none
 no_word n j = ⊎_elim (λ (less : j < n). get_or-replicate n j 0 0 less) (λ (past : n ≤ j). get_or_past (replicate n 0) j 0 (let none : ℕ = 0 in omega (arith, length-replicate n none))) (cases_lt j n)
 
--- no plane has words there
-pub half_past : (n number : ℕ) (planes : List (List ℕ)) → length planes ≤ 32
-    → AreHalf n number 32 planes (replicate n 0)
-unfolding AreHalf
-half_past n number planes few j i less small = search (rules, bit_at-zero, word_of-past, no_word)
-
 -- both halves of the digits
 pub digits_of_halves : (n number : ℕ) (planes : List (List ℕ)) (low high digits : List ℕ)
     → length digits ≡ 2 * n
@@ -179,4 +173,4 @@ zeros_put n count number from old new all put kept =
 -- what becomes of groups of digits, and of planes
 pub ruleset of_planes = (length-map, planes_of_first, planes_of_tiles, group_of_same, group_of_none)
 
-pub ruleset of_digits = (length-map, digits_of_halves, digits_in_window, digits_of_half, half_past)
+pub ruleset of_digits = (length-map, digits_of_halves, digits_in_window, digits_of_half)

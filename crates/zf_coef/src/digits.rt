@@ -95,7 +95,7 @@ fn take_16<P: Plane>(planes: &[P], number: usize, digits: &mut [u64])
 {
     // A number of planes that is known needs no loop.
     match planes.len() {
-        32 => unfold::<8>(&half_of_16(planes, 0, number), &[0; 8], digits),
+        32 => unfold_from::<8>(&half_of_16(planes, 0, number), 0, digits),
         64 => take_16_of_64(planes, number, digits),
         _ => take_16_of(planes, number, digits),
     }
@@ -183,7 +183,7 @@ fn take_16_of<P: Plane>(planes: &[P], number: usize, digits: &mut [u64])
     if planes.len() > 32 {
         unfold::<8>(&low, &half_of_16(planes, 32, number), digits);
     } else {
-        unfold::<8>(&low, &[0; 8], digits);
+        unfold_from::<8>(&low, 0, digits);
     }
 }
 
@@ -227,19 +227,6 @@ fn put_sixteen_bits(words: &mut [u64; 8], tile: &[u64; 8], place: usize)
     for j in 0..8 {
         words[j] |= (tile[j] & 0xffff) << place;
     }
-}
-
-/// The words of the `N` planes from `from` on.
-#[inline(always)]
-fn words_at<P: Plane, const N: usize>(planes: &[P], from: usize, number: usize) -> [u64; N]
-    requires number { number < P.word_count }
-    requires from { from + N ≤ length planes.now }
-    ensures { (j : ℕ) → j < N → slice_index_or result j 0
-        ≡ word_of (map P.words planes.now) number (from + j) }
-{
-    let mut words = [0; N];
-    copy_words(planes, from, N, number, &mut words);
-    words
 }
 
 /// The words of the planes from `from` on, and zeros past their end.
@@ -305,7 +292,7 @@ fn take_64_of_32<P: Plane>(planes: &[P], number: usize, digits: &mut [u64])
     if are_zeros(planes, from + 16, number) {
         unfold_from::<32>(&few_of_half(planes, from, number), from, digits);
     } else {
-        unfold_from::<32>(&whole_half(planes, 0, number), 0, digits);
+        unfold_from::<32>(&half(planes, 0, number), 0, digits);
     }
 }
 
@@ -323,13 +310,9 @@ fn take_64_of_64<P: Plane>(planes: &[P], number: usize, digits: &mut [u64])
     if are_zeros(planes, from + 16, number) {
         unfold_from::<32>(&few_of_half(planes, from, number), from, digits);
     } else if are_zeros(planes, from + 32, number) {
-        unfold_from::<32>(&whole_half(planes, from, number), from, digits);
+        unfold_from::<32>(&half(planes, from, number), from, digits);
     } else {
-        unfold::<32>(
-            &whole_half(planes, 0, number),
-            &whole_half(planes, 32, number),
-            digits,
-        );
+        unfold::<32>(&half(planes, 0, number), &half(planes, 32, number), digits);
     }
 }
 
@@ -377,34 +360,19 @@ fn take_64_of<P: Plane>(planes: &[P], number: usize, digits: &mut [u64])
     if planes.len() > 32 {
         unfold::<32>(&low, &half(planes, 32, number), digits);
     } else {
-        unfold::<32>(&low, &[0; 32], digits);
+        unfold_from::<32>(&low, 0, digits);
     }
-}
-
-/// The 32 planes from `from` on, turned.
-#[tactic(auto, using(crate::proofs::Halves::half_of_planes))]
-#[inline(always)]
-fn whole_half<P: Plane>(planes: &[P], from: usize, number: usize) -> [u64; 32]
-    requires number { number < P.word_count }
-    requires from { from + 32 ≤ length planes.now }
-    requires first { from ≤ 32 }
-    ensures { AreHalf 32 number from (map P.words planes.now) result }
-{
-    let mut words = words_at(planes, from, number);
-    turn_32(&mut words);
-    words
 }
 
 /// The 32 planes from `from` on, turned, of which only the first sixteen have ones.
 #[tactic(auto, using(crate::proofs::Halves::half_of_few))]
 #[inline(always)]
 fn few_of_half<P: Plane>(planes: &[P], from: usize, number: usize) -> [u64; 32]
-    requires number { number < P.word_count }
-    requires from { from + 16 ≤ length planes.now }
+    requires half { IsHalfAt number P.word_count from planes.now }
     requires zeros { (k : ℕ) → from + 16 ≤ k → word_of (map P.words planes.now) number k ≡ 0 }
     ensures { AreHalf 32 number from (map P.words planes.now) result }
 {
-    let mut words = words_at(planes, from, number);
+    let mut words = words_from(planes, from, number);
     turn_16_of_32(&mut words)
 }
 

@@ -1,9 +1,0 @@
-use Rattle.std.{proofs.Common.{arith}, proofs.lemmas.List.{length-map}}
-use Rattle.zf_coef.proofs.Halves.{half_past, digits_of_halves}
-use Rattle.zf_coef.proofs.digits.take_64_of.Goals as goal
-
-pub returns-else-planes-gt32 : goal.returns-else-planes-gt32
-returns-else-planes-gt32 g c =
-    digits_of_halves 32 _ _ _ _ _ (omega arith) c.half-low.ensures
-    (half_past 32 _ _ (omega (arith, length-map c.args.planes.now g.P.Plane.words)))
-    c.unfold-else-planes-gt32.ensures
