@@ -30,6 +30,14 @@ KeepsOthers number old new = (k p : ℕ) → p ≢ number → word_of new p k �
 abbrev pub HasWord : {P : Type 0} → ℕ → ℕ → List P → Type 0
 HasWord number count planes = (number < count) × (length planes ≤ 64)
 
+-- just n planes have one
+abbrev pub HasWordOfAll : {P : Type 0} → ℕ → ℕ → ℕ → List P → Type 0
+HasWordOfAll number count n planes = (number < count) × (length planes ≡ n)
+
+-- n planes or more have one
+abbrev pub HasWordBelow : {P : Type 0} → ℕ → ℕ → ℕ → List P → Type 0
+HasWordBelow number count n planes = (number < count) × (n ≤ length planes)
+
 -- each plane has a word of this number, where it has so many; the 32 planes from `from` on are a half of 64,
 -- and begin among the planes or at their end
 abbrev pub IsHalfAt : {P : Type 0} → ℕ → ℕ → ℕ → List P → Type 0

@@ -6,8 +6,8 @@ ghost use Rattle.std.specs.Int.RustNames.{bit_or};
 ghost use Rattle.zf_spec.specs.Planes.{digits_in_planes};
 ghost use Rattle.zf_spec.specs.HeldPlanes.{planes_held};
 ghost use Rattle.zf_coef.specs.HeldDigits.{digits_in};
-ghost use Rattle.zf_coef.specs.Groups.{word_of, HasWord, IsHalfAt, IsOfGroup, AreHalf, IsFoldOf};
-ghost use Rattle.zf_coef.specs.Groups.{AreUnfolded, AreMoved};
+ghost use Rattle.zf_coef.specs.Groups.{word_of, HasWord, HasWordOfAll, HasWordBelow, IsHalfAt, IsOfGroup};
+ghost use Rattle.zf_coef.specs.Groups.{AreHalf, IsFoldOf, AreUnfolded, AreMoved};
 
 use crate::planes::{WORD_BITS, have_four_words, place_of_eight};
 use crate::turning::{turn_16_of_32, turn_32, turn_folded};
@@ -107,8 +107,7 @@ fn take_16<P: Plane>(planes: &[P], number: usize, digits: &mut [u64])
 #[tactic(auto, using(crate::proofs::Halves::of_digits))]
 #[inline(always)]
 fn take_16_of_64<P: Plane>(planes: &[P], number: usize, digits: &mut [u64])
-    requires number { number < P.word_count }
-    requires planes { length planes.now ≡ 64 }
+    requires planes { HasWordOfAll number P.word_count 64 planes.now }
     requires digits { length digits.old ≡ 16 }
     ensures { IsOfGroup number (map P.words planes.now) digits.new }
 {
@@ -127,8 +126,7 @@ fn take_16_of_64<P: Plane>(planes: &[P], number: usize, digits: &mut [u64])
 /// How many of the lowest 32 planes have no one, up to the first sixteen of which one has.
 #[inline(always)]
 fn zeros_below_by_16<P: Plane>(planes: &[P], number: usize) -> usize
-    requires number { number < P.word_count }
-    requires planes { 32 ≤ length planes.now }
+    requires planes { HasWordBelow number P.word_count 32 planes.now }
     ensures within { result ≤ 32 }
     ensures zeros { (k : ℕ) → k < result → word_of (map P.words planes.now) number k ≡ 0 }
 {
@@ -145,8 +143,7 @@ fn zeros_below_by_16<P: Plane>(planes: &[P], number: usize) -> usize
 /// before it that are of the same sixteen are asked too.
 #[inline(always)]
 fn are_zeros_by_16<P: Plane>(planes: &[P], from: usize, number: usize) -> bool
-    requires number { number < P.word_count }
-    requires planes { length planes.now ≡ 64 }
+    requires planes { HasWordOfAll number P.word_count 64 planes.now }
     requires from { 32 ≤ from }
     ensures { IsTrue result → (k : ℕ) → from ≤ k → word_of (map P.words planes.now) number k ≡ 0 }
 {
@@ -158,8 +155,7 @@ fn are_zeros_by_16<P: Plane>(planes: &[P], from: usize, number: usize) -> bool
 /// compiled to lanes.
 #[inline(always)]
 fn are_16_zeros<P: Plane>(planes: &[P], from: usize, number: usize) -> bool
-    requires number { number < P.word_count }
-    requires from { from + 16 ≤ length planes.now }
+    requires planes { HasWordBelow number P.word_count (from + 16) planes.now }
     ensures { IsTrue result
         → (k : ℕ) → from ≤ k → k < from + 16 → word_of (map P.words planes.now) number k ≡ 0 }
 {
@@ -232,8 +228,7 @@ fn put_sixteen_bits(words: &mut [u64; 8], tile: &[u64; 8], place: usize)
 /// The words of the planes from `from` on, and zeros past their end.
 #[inline(always)]
 fn words_from<P: Plane, const N: usize>(planes: &[P], from: usize, number: usize) -> [u64; N]
-    requires number { number < P.word_count }
-    requires from { from ≤ length planes.now }
+    requires planes { HasWordBelow number P.word_count from planes.now }
     ensures { (j : ℕ) → j < N → slice_index_or result j 0
         ≡ word_of (map P.words planes.now) number (from + j) }
 {
@@ -250,9 +245,8 @@ fn words_from<P: Plane, const N: usize>(planes: &[P], from: usize, number: usize
 /// Copies the words of so many planes from `from` on.
 #[inline(always)]
 fn copy_words<P: Plane>(planes: &[P], from: usize, count: usize, number: usize, words: &mut [u64])
-    requires planes { from + count ≤ length planes.now }
+    requires planes { HasWordBelow number P.word_count (from + count) planes.now }
     requires words { count ≤ length words.old }
-    requires number { number < P.word_count }
     ensures copied { (j : ℕ) → j < count → slice_index_or words.new j 0
         ≡ word_of (map P.words planes.now) number (from + j) }
     ensures others { (j : ℕ) → count ≤ j → slice_index_or words.new j 0 ≡ slice_index_or words.old j 0 }
@@ -283,8 +277,7 @@ fn take_64<P: Plane>(planes: &[P], number: usize, digits: &mut [u64])
 #[tactic(auto, using(crate::proofs::Halves::of_digits))]
 #[inline(always)]
 fn take_64_of_32<P: Plane>(planes: &[P], number: usize, digits: &mut [u64])
-    requires number { number < P.word_count }
-    requires planes { length planes.now ≡ 32 }
+    requires planes { HasWordOfAll number P.word_count 32 planes.now }
     requires digits { length digits.old ≡ 64 }
     ensures { IsOfGroup number (map P.words planes.now) digits.new }
 {
@@ -296,13 +289,12 @@ fn take_64_of_32<P: Plane>(planes: &[P], number: usize, digits: &mut [u64])
     }
 }
 
-/// Takes 64 digits of 64 planes. Where sixteen planes beside one another have all the ones, or 32, as a budget
-/// mostly leaves it, no others are turned.
+/// Takes 64 digits of 64 planes. Where sixteen planes beside one another have all the ones, or 32, as a
+/// budget mostly leaves it, no others are turned.
 #[tactic(auto, using(crate::proofs::Halves::of_digits))]
 #[inline(always)]
 fn take_64_of_64<P: Plane>(planes: &[P], number: usize, digits: &mut [u64])
-    requires number { number < P.word_count }
-    requires planes { length planes.now ≡ 64 }
+    requires planes { HasWordOfAll number P.word_count 64 planes.now }
     requires digits { length digits.old ≡ 64 }
     ensures { IsOfGroup number (map P.words planes.now) digits.new }
 {
@@ -319,8 +311,7 @@ fn take_64_of_64<P: Plane>(planes: &[P], number: usize, digits: &mut [u64])
 /// How many of the lowest planes, so many at most, have no one, up to the first that has.
 #[inline(always)]
 fn zeros_below<P: Plane>(planes: &[P], most: usize, number: usize) -> usize
-    requires number { number < P.word_count }
-    requires planes { most ≤ length planes.now }
+    requires planes { HasWordBelow number P.word_count most planes.now }
     ensures within { result ≤ most }
     ensures zeros { (k : ℕ) → k < result → word_of (map P.words planes.now) number k ≡ 0 }
 {
@@ -335,8 +326,7 @@ fn zeros_below<P: Plane>(planes: &[P], most: usize, number: usize) -> usize
 /// Whether no plane from this one on has a one.
 #[inline(always)]
 fn are_zeros<P: Plane>(planes: &[P], from: usize, number: usize) -> bool
-    requires number { number < P.word_count }
-    requires from { from ≤ length planes.now }
+    requires planes { HasWordBelow number P.word_count from planes.now }
     ensures { IsTrue result → (k : ℕ) → from ≤ k → word_of (map P.words planes.now) number k ≡ 0 }
 {
     for k in from..planes.len() {

@@ -5,8 +5,8 @@ ghost use Rattle.std.specs.Prelude.{slice_index_or, [], IsTrue};
 ghost use Rattle.zf_spec.specs.Planes.{planes_of};
 ghost use Rattle.zf_spec.specs.HeldPlanes.{planes_held, IsClearFrom};
 ghost use Rattle.zf_coef.specs.HeldDigits.{digits_in};
-ghost use Rattle.zf_coef.specs.Groups.{word_of, HasWord, IsHalfAt, IsGroup, PutsGroup, PutsHalf, PutsNone};
-ghost use Rattle.zf_coef.specs.Groups.{KeepsOthers, HoldsFrom, HoldsFolded};
+ghost use Rattle.zf_coef.specs.Groups.{word_of, HasWord, HasWordBelow, IsHalfAt, IsGroup, PutsGroup};
+ghost use Rattle.zf_coef.specs.Groups.{PutsHalf, PutsNone, KeepsOthers, HoldsFrom, HoldsFolded};
 ghost use Rattle.zf_coef.specs.Turned.{bit_of};
 
 use crate::needed::any_digits;
@@ -239,8 +239,7 @@ fn put_from<P: Plane, const N: usize>(
     number: usize,
     planes: &mut [P],
 )
-    requires number { number < P.word_count }
-    requires from { from ≤ length planes.old }
+    requires planes { HasWordBelow number P.word_count from planes.old }
     ensures words { HoldsFrom N number from words.now (map P.words planes.old) (map P.words planes.new) }
     ensures others { KeepsOthers number (map P.words planes.old) (map P.words planes.new) }
 {
@@ -257,8 +256,7 @@ fn put_from<P: Plane, const N: usize>(
 #[inline(always)]
 fn put_words<P: Plane>(words: &[u64], count: usize, from: usize, number: usize, planes: &mut [P])
     requires words { count ≤ length words.now }
-    requires planes { from + count ≤ length planes.old }
-    requires number { number < P.word_count }
+    requires planes { HasWordBelow number P.word_count (from + count) planes.old }
     ensures words { HoldsFrom count number from words.now (map P.words planes.old) (map P.words planes.new) }
     ensures others { KeepsOthers number (map P.words planes.old) (map P.words planes.new) }
 {
