@@ -84,11 +84,9 @@ half_of_planes number from planes words turned same turn j i less few =
 
 -- words that are there, and zeros past their end
 pub half_of_few : (number from : ℕ) (planes : List (List ℕ)) (words turned : List ℕ) → length words ≡ 16
-    → ((j : ℕ) → j < 16 → get_or words j 0 ≡ word_of planes number (from + j))
-    → ((k : ℕ) → from + 16 ≤ k → word_of planes number k ≡ 0) → IsTurned 32 words turned
-    → AreHalf 32 number from planes turned
-half_of_few number from planes words turned long same none turn =
-    half_of_planes number from planes words turned (search (rules, get_or_past, cases_lt)) turn
+    → ((j : ℕ) → j < 16 → get_or words j 0 ≡ word_of planes number (from + j)) → ((k : ℕ) → from + 16 ≤ k → word_of planes number k ≡ 0)
+    → IsTurned 32 words turned → AreHalf 32 number from planes turned
+half_of_few number from planes words turned long same none turn = half_of_planes number from planes words turned (search (rules, get_or_past, cases_lt)) turn
 
 -- of zeros each word is zero
 pub no_word : (n j : ℕ) → let none : ℕ = 0 in get_or (replicate n none) j none ≡ none
@@ -139,9 +137,8 @@ digits_in_window n number from planes words digits long below above held parts r
     (cases_lt r n)
 
 -- the first 32 planes are all
-pub digits_of_half : (n number : ℕ) (planes : List (List ℕ)) (words digits : List ℕ) → length digits ≡ 2 * n
-    → length planes ≤ 32 → AreHalf n number 0 planes words → AreMoved n n 0 words digits
-    → IsOfGroup number planes digits
+pub digits_of_half : (n number : ℕ) (planes : List (List ℕ)) (words digits : List ℕ) → length digits ≡ 2 * n → length planes ≤ 32
+    → AreHalf n number 0 planes words → AreMoved n n 0 words digits → IsOfGroup number planes digits
 digits_of_half n number planes words digits long few held parts =
     digits_in_window n number 0 planes words digits long (λ k h. absurd (omega arith)) (λ k past. word_of-past planes number k (omega arith)) held parts
 

@@ -1,8 +1,8 @@
 -- Steps that together turn the tiles of words.
-use Rattle.std.proofs.Common.{rules, ◌≡◌, refl, ap, ◌∙◌, ℕ, zero, suc, ◌+◌, ◌-◌, ◌*◌, ◌/◌, ◌%◌, ◌^◌, ◌<◌, ◌≤◌, ◌≢◌, min, ⊎_elim, Bool, true, eqb, ◌&&◌, List, ◌++◌, length, get_or, replicate, arith}
+use Rattle.std.proofs.Common.{rules, ◌≡◌, refl, ap, ◌∙◌, ℕ, zero, suc, ◌+◌, ◌-◌, ◌*◌, ◌/◌, ◌%◌, ◌^◌, ◌<◌, ◌≤◌, ◌≢◌, min, ⊎_elim, Bool, true, eqb, ◌&&◌, List, ◌++◌, length, replicate, arith}
 use Rattle.std.{proofs.lemmas.Bool.{cases_lt, cases_eq, eqb-true, and_parts}, specs.Int.{bit_at}}
 use Rattle.std.{proofs.Math.Nat.{mod-eq_of_lt, mod-le}, specs.Int.RustNames.{bit_xor}}
-use Rattle.std.proofs.lemmas.List.{get_or_past, get_or_append_left, get_or-append_right, length-append}
+use Rattle.std.proofs.lemmas.List.{get_or_past, get_or_append_left, get_or-append_right, length-append, length-replicate}
 use Rattle.std.proofs.lemmas.Nat.Bits.{bit_at_xor, bit_at-lt, bit_at-zero}
 use Rattle.zf_coef.proofs.Halves.{no_word}
 use Rattle.zf_coef.specs.Turned.{bit_of, moved, IsMask, with_digit, IsStepped, IsTurned, crossed, IsFoldedTurned}
@@ -51,17 +51,35 @@ pub all_turned : (n : ℕ) (old new : List ℕ) → IsTurnedTo n 1 old new → I
 unfolding IsTurned
 all_turned n old new to j i a b = search rules
 
--- turned sixteen rows, and sixteen rows of zeros behind them, by the step that is left
-pub half_turned : (old mid new : List ℕ) → length old ≡ 16 → length mid ≡ 16 → IsTurned 16 old mid
-    → IsStepped 16 (mid ++ replicate 16 0) new → IsTurned 32 old new
+-- what is known of numbers and their digits at n, in tiles of twice as many rows
+pub record Twice (n : ℕ) : Type 0 where
+  pub here : (j i : ℕ) → j < 2 * n → i < 64 → i / n % 2 ≡ 0 → (with_digit n j i < n) × (with_digit n i j < 64)
+  pub row : (j i : ℕ) → j < 2 * n → i < 64 → i / n % 2 ≡ 0 → with_digit n i j % n ≡ i % (2 * n)
+  pub column : (j i : ℕ) → j < 2 * n → i < 64 → i / n % 2 ≡ 0
+      → with_digit n i j - with_digit n i j % n + with_digit n j i ≡ i - i % (2 * n) + j
+  pub past : (j i : ℕ) → j < 2 * n → i < 64 → i / n % 2 ≢ 0 → (n ≤ with_digit n j i) × (n ≤ i % (2 * n))
+
+-- turned rows, and as many rows of zeros behind them, by the step that is left
+pub half_turned : (n m : ℕ) (old turned mid new : List ℕ) → IsStepped n (mid ++ replicate n 0) new → mid ≡ turned
+    → IsTurned n old turned → m ≡ 2 * n → Twice n → length old ≡ n → length mid ≡ n → IsTurned m old new
 unfolding IsTurned IsStepped
-half_turned old mid new long all turn step j i a b =
-    let row : (k : ℕ) → k < 16 → get_or (mid ++ replicate 16 0) k 0 ≡ get_or mid k 0 =
-    λ k h. get_or_append_left mid (replicate 16 0) 0 k (omega arith) in
-    let none : (k : ℕ) → 16 ≤ k → get_or (mid ++ replicate 16 0) k 0 ≡ 0 =
-    λ k h. get_or-append_right mid (replicate 16 0) 16 k 0 all h ∙ no_word 16 (k - 16) in
-    let size : length (mid ++ replicate 16 0) ≡ 32 = omega (arith, length-append mid (replicate 16 0)) in
-    grind (arith, get_or_past, bit_at-zero)
+half_turned n m old turned mid new step same turn twice known long all j i a b =
+    let zeros : List ℕ = replicate n 0 in
+    let below : j < 2 * n = omega arith in
+    let is = step j i (omega (arith, length-append mid zeros, length-replicate {A = ℕ} n 0)) b in
+    let row = with_digit n j i in
+    let place = with_digit n i j in
+    ⊎_elim
+    (λ (none : i / n % 2 ≡ 0).
+    let here = known.here j i below b none in
+    let first = get_or_append_left mid zeros 0 row (omega arith) in
+    cc (is, first, turn row place here.0 here.1, known.row j i below b none, known.column j i below b none))
+    (λ (one : i / n % 2 ≢ 0).
+    let past = known.past j i below b one in
+    let zero = get_or-append_right mid zeros n row 0 all past.0 ∙ no_word n (row - n) in
+    let gone = get_or_past old (i % (2 * n)) 0 (omega arith) in
+    cc (is, zero, gone, bit_at-zero place, bit_at-zero (i - i % (2 * n) + j)))
+    (cases_eq (i / n % 2) 0)
 
 -- ---- sixteen rows in eight words
 

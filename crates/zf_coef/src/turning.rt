@@ -8,6 +8,7 @@ ghost use Rattle.std.specs.Prelude.{◌≡◌, ℕ, ◌+◌, ◌*◌, ◌%◌, �
 ghost use Rattle.zf_coef.specs.Turned.{bit_of, IsSwapped, AreSwapped, IsStep, IsMask, IsStepped, IsTurned};
 ghost use Rattle.zf_coef.specs.Turned.{crossed, IsFoldedTurned};
 
+use crate::needed::any_digits;
 use std::simd::prelude::*;
 
 /// Swaps the bits of the two words from `low` on, each from its place `shift` on, with the bits of the two
@@ -117,13 +118,40 @@ pub(crate) fn turn_16(words: &mut [u64; 16])
     step_next(words, 0x5555_5555_5555_5555);
 }
 
+/// Turns the tiles of sixteen rows of which only the first eight are there, and the others are zero.
+#[tactic(auto, using(crate::proofs::Turns::mask_from, crate::proofs::Turns::half_turned))]
+#[inline(always)]
+fn turn_8_of_16(words: &mut [u64; 8]) -> [u64; 16]
+    ensures { IsTurned 16 words.old result }
+{
+    turn_8(words);
+    let mut rows = [0; 16];
+    rows[..8].copy_from_slice(words);
+    step::<16, 8>(&mut rows, 0x00ff_00ff_00ff_00ff);
+    rows
+}
+
+/// Turns the tiles of sixteen rows, of which only the first eight if the others have no ones.
+#[inline(always)]
+fn turn_few(words: &mut [u64; 16])
+    ensures { IsTurned 16 words.old words.new }
+{
+    if any_digits(&words[8..]) == 0 {
+        let mut first = [0; 8];
+        first.copy_from_slice(&words[..8]);
+        *words = turn_8_of_16(&mut first);
+    } else {
+        turn_16(words);
+    }
+}
+
 /// Turns the tiles of 32 rows of which only the first sixteen are there, and the others are zero.
-#[tactic(auto, using(crate::proofs::Turns::turning_steps))]
+#[tactic(auto, using(crate::proofs::Turns::mask_from))]
 #[inline(always)]
 pub(crate) fn turn_16_of_32(words: &mut [u64; 16]) -> [u64; 32]
     ensures { IsTurned 32 words.old result }
 {
-    turn_16(words);
+    turn_few(words);
     let mut rows = [0; 32];
     rows[..16].copy_from_slice(words);
     step::<32, 16>(&mut rows, 0x0000_ffff_0000_ffff);

@@ -1,8 +1,8 @@
-use Rattle.std.proofs.Common.{arith}
+use Rattle.std.proofs.Common.{refl, arith, rules}
 use Rattle.zf_coef.proofs.Turns.{half_turned}
 use Rattle.zf_coef.proofs.turning.turn_16_of_32.Goals as goal
 
 pub returns : goal.returns
 returns c =
-    half_turned c.args.words.now c.turn_16.new.words c.step.new.words (omega arith) (omega arith) c.turn_16.ensures
-    (rw c.copy_from_slice.ensures.after at c.step.ensures)
+    half_turned 16 32 c.args.words.now c.turn_few.new.words c.copy_from_slice.new.self c.step.new.words c.step.ensures c.copy_from_slice.ensures.after
+    c.turn_few.ensures refl (search rules) (omega arith) (omega arith)
