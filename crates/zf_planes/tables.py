@@ -76,6 +76,13 @@ def doubled():
         yield number_of(bits) + (len(bits) << 16)
 
 
+def tail_codes():
+    for number in range(256):
+        digits = digits_of(number, 9)
+        code = tail_code(digits)
+        yield number_of(code) - number + (len(code) << 16) + (reach(digits) << 24)
+
+
 def pairs():
     for above in range(3):
         for number in range(256):
@@ -126,7 +133,7 @@ def tails():
             yield known
 
 
-TABLES = {"DOUBLED": doubled, "PAIRS": pairs, "LANES": lanes, "SPREAD": spread, "TAILS": tails}
+TABLES = {"DOUBLED": doubled, "TAIL_CODES": tail_codes, "PAIRS": pairs, "LANES": lanes, "SPREAD": spread, "TAILS": tails}
 
 
 def laid_out(entries, indent):

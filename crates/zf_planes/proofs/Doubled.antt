@@ -1,8 +1,8 @@
 -- The code of runs: digits before others are doubled, and zeros behind the last one but the first make no difference.
-use Rattle.std.proofs.Common.{rules, ◌≡◌, ◌≢◌, ℕ, zero, suc, ◌+◌, ◌-◌, ◌*◌, ◌/◌, ◌%◌, ◌^◌, ◌<◌, ◌≤◌, ⊎_elim, Bool, true, false, cond, ◌&&◌, ◌||◌, ltb, eqb, List, [], ◌∷◌, ◌++◌, get_or, replicate, refl, sym, ap, ◌∙◌, arith, pow-suc, lit<, take, drop, append-nil}
-use Rattle.std.{proofs.Math.Nat.{pow-le-pow_right, div-eq_of_lt}, specs.Int.{leading_zeros, w64}}
+use Rattle.std.proofs.Common.{rules, ◌≡◌, ◌≢◌, ℕ, zero, suc, ◌+◌, ◌-◌, ◌*◌, ◌/◌, ◌%◌, ◌^◌, ◌<◌, ◌≤◌, ⊎_elim, Bool, true, false, cond, ◌&&◌, ◌||◌, ltb, eqb, List, [], ◌∷◌, ◌++◌, get_or, replicate, refl, sym, ap, ◌∙◌, arith, pow-suc, take, drop, append-nil}
+use Rattle.std.{proofs.Math.Nat.{pow-le-pow_right, div-eq_of_lt}}
 use Rattle.std.{proofs.lemmas.Nat.{pow-add, shr_below}}
-use Rattle.std.proofs.lemmas.Bool.{cases_lt, false≢true, and_parts, ltb-true, lt-ltb, eqb-false}
+use Rattle.std.proofs.lemmas.Bool.{cases_lt, false≢true, and_parts, ltb-true, eqb-false}
 use Rattle.zf_spec.{specs.Numbers.{field}, specs.Planes.{has_one, code_from_run, plane_code}}
 use Rattle.zf_spec.{proofs.Fields.{field-add, field-mod, field-zero}, proofs.PlaneCode.{tail-zeros}}
 use Rattle.zf_spec.{proofs.Full.{tail-some}, proofs.Reach.{has_one-zeros}}
@@ -90,76 +90,18 @@ double_of_entry digits eight =
     let two = and_parts (ltb (e % 65536) (2 ^ (e / 65536))) _ one.1 in
     (ltb-true _ _ two.1, ltb-true _ _ two.0, same_digits-true _ _ one.0)
 
--- the one of the last digit has no bit, and nothing follows it
-abbrev pub implied : ℕ → ℕ → ℕ
-implied most digits = cond (eqb (digits / 2 ^ (most - 1)) 0) 0 2
+-- ---- more digits make no difference, where they are zeros
 
--- the bits of eight digits doubled, up to the last one, whose second bit is a group bit of zero
-abbrev pub run_len : ℕ → ℕ → ℕ
-run_len digits e = e / 65536 - leading_zeros w64 (digits * 2 ^ 56 % 2 ^ 64)
+pub zeros_behind : (a most digits : ℕ) → a < most → digits < 2 ^ a → field most digits ≡ field a digits ++ replicate (suc (most - suc a)) false
+zeros_behind a most digits within small =
+    let parts : most ≡ a + suc (most - suc a) = omega arith in
+    let none : digits / 2 ^ a ≡ 0 = div-eq_of_lt small in search (rules, field-add, field-zero)
 
-abbrev pub run_bits : ℕ → ℕ → ℕ
-run_bits digits e = e % 65536 - 2 ^ (run_len digits e - 1)
-
-abbrev test_run : ℕ → ℕ → ℕ → Bool
-test_run most digits e =
-    cond (eqb digits 0) true (cond (ltb digits (2 ^ most)) (same_digits (field (run_len digits e - implied most digits) (run_bits digits e)) (code_from_run (field most digits))
-    && (ltb (run_len digits e) 17 && (ltb 1 (run_len digits e) && (ltb (leading_zeros w64 (digits * 2 ^ 56 % 2 ^ 64)) (e / 65536) && ltb (2 ^ (run_len digits e - 1)) (e % 65536 + 1))))) true)
-
-test_runs : each_below (λ i. test_run (i / 256 + 1) (i % 256) (get_or DOUBLED (i % 256) 0)) 2304 ≡ true
-unfolding lib.Count.count_leading_zeros
-test_runs = refl
-
-pub record IsRunCode (most digits e : ℕ) : Type 0 where
-  pub bits : field (run_len digits e - implied most digits) (run_bits digits e) ≡ code_from_run (field most digits)
-  pub len : run_len digits e < 17
-  pub two : 1 < run_len digits e
-  pub digits_enough : leading_zeros w64 (digits * 2 ^ 56 % 2 ^ 64) < e / 65536
-  pub bits_enough : 2 ^ (run_len digits e - 1) < e % 65536 + 1
-
-run_of_entry_to_9 : (most digits e : ℕ) → 0 < most → most ≤ 9 → 0 < digits → digits < 256 → digits < 2 ^ most → e ≡ get_or DOUBLED digits 0 → IsRunCode most digits e
-run_of_entry_to_9 most digits e some nine one eight within is =
-    let i = 256 * (most - 1) + digits in
-    let prefix : i / 256 + 1 ≡ most = omega arith in
-    let low : i % 256 ≡ digits = omega arith in
-    let whole : test_run most digits e ≡ true =
-    cc (
-    each_below-true (λ j. test_run (j / 256 + 1) (j % 256) (get_or DOUBLED (j % 256) 0)) 2304 i test_runs
-    (omega arith)) in
-    search (rules, lt-ltb, and_parts, same_digits, same_digits-true, ltb-true)
-
--- more digits make no difference, where they are zeros
 pub eight_of : (most digits : ℕ) → 9 ≤ most → digits < 256 → field most digits ≡ field 8 digits ++ replicate (suc (most - 9)) false
-eight_of most digits nine eight =
-    let parts : most ≡ 8 + suc (most - 9) = omega arith in
-    let none : digits / 2 ^ 8 ≡ 0 = omega arith in search (rules, field-add, field-zero)
+eight_of most digits nine eight = zeros_behind 8 most digits nine eight
 
 pub nine_digits : (most digits : ℕ) → 9 ≤ most → 0 < digits → digits < 256 → code_from_run (field most digits) ≡ code_from_run (field 9 digits)
 nine_digits most digits nine one eight = search (rules, has_one-field, eight_of, run_zeros_behind)
-
-not_last : (most digits : ℕ) → 9 ≤ most → digits < 256 → implied most digits ≡ 0
-not_last most digits nine eight =
-    let none : digits / 2 ^ (most - 1) ≡ 0 = div-eq_of_lt (omega (arith, pow-le-pow_right {n = 2} (lit< tt) order)) in
-    ap (λ v. cond (eqb v 0) 0 2) none
-  where
-    order : 8 ≤ most - 1
-    order = omega arith
-
-pub run_of_entry : (most digits e : ℕ) → 0 < digits → digits < 256 → digits < 2 ^ most → e ≡ get_or DOUBLED digits 0 → IsRunCode most digits e
-run_of_entry most digits e one eight within is = ⊎_elim
-    (λ (few : most < 9). run_of_entry_to_9 most digits e (some most digits one within) (omega arith) one eight within is)
-    (λ (nine : 9 ≤ most).
-    let short = run_of_entry_to_9 9 digits e (omega arith) (omega arith) one eight (omega arith) is in
-    let all = not_last most digits nine eight in
-    let all_of_9 = not_last 9 digits (omega arith) eight in
-    let bits : field (run_len digits e - implied most digits) (run_bits digits e)
-    ≡ code_from_run (field most digits) =
-    cc (all, all_of_9, short.bits, nine_digits most digits nine one eight) in search rules)
-    (cases_lt most 9)
-  where
-    some : (m v : ℕ) → 0 < v → v < 2 ^ m → 0 < m
-    some zero v one below = absurd (omega arith)
-    some (suc m) v one below = omega arith
 
 -- ---- a run in a word
 

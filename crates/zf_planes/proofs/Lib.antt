@@ -4,6 +4,7 @@
 --     Doubled      the code of runs, and its tables
 --     Gathering    bits of several planes in one word
 --     Narrow       planes in which the first three ranks alone have ones
+--     ShortPlanes  planes in one word by the codes of their tails
 --     WordPlanes   planes in one word by the bits of their code
 --     Lengths      how long the tail of a plane is
 --     Budgets      a list that is written in parts, as far as a budget reaches
@@ -31,6 +32,7 @@ pub mod Tables
 pub mod Doubled
 pub mod Gathering
 pub mod Narrow
+pub mod ShortPlanes
 pub mod WordPlanes
 pub mod Lengths
 pub mod Budgets

@@ -1,15 +1,15 @@
 -- Planes in one word by the bits of their code, with a table of tails.
-use Rattle.std.proofs.Common.{rules, ◌≡◌, ℕ, suc, ◌+◌, ◌-◌, ◌*◌, ◌/◌, ◌%◌, ◌^◌, ◌<◌, ◌≤◌, ⊎_elim, min, Bool, true, false, ◌&&◌, cond, ltb, eqb, List, [], ◌∷◌, ◌++◌, length, drop, get_or, replicate, refl, sym, ap, append_assoc, ◌∙◌, arith, lit<, take_at, drop_at, pow_pos}
+use Rattle.std.proofs.Common.{rules, ◌≡◌, ℕ, suc, ◌+◌, ◌-◌, ◌*◌, ◌/◌, ◌%◌, ◌^◌, ◌<◌, ◌≤◌, ⊎_elim, min, Bool, true, false, ◌&&◌, cond, ltb, eqb, List, ◌∷◌, ◌++◌, length, drop, get_or, replicate, refl, sym, ap, append_assoc, ◌∙◌, arith, lit<, take_at, drop_at, pow_pos}
 use Rattle.std.{specs.Int.Bits.{bit_or}, proofs.Math.Nat.{pow-le-pow_right, div-eq_of_lt}}
 use Rattle.std.proofs.lemmas.Bool.{cases_lt, and_parts, ltb-true, le-ltb, lt-ltb, eqb-true}
 use Rattle.zf_spec.{specs.Numbers.{field, is_odd}, specs.Planes.{has_one, reach, tail, plane_code, code_from_run}}
 use Rattle.zf_spec.{proofs.Fields.{length-field, field-add, field-mod, field-zero}, proofs.Full.{tail-some}}
-use Rattle.zf_spec.proofs.Reach.{reach_some, reach-le}
+use Rattle.zf_spec.proofs.Reach.{reach-le}
 use Rattle.zf_bits.proofs.Fields as wide
 use Rattle.zf_bits.proofs.Fields.{field_more}
 use Rattle.zf_planes.{specs.WordPlanes.{IsReadAs, IsTail, IsBegun, IsTailEntry}, specs.Doubled.{doubled}, specs.declared.entries.TheConstants.{TAILS}}
 use Rattle.zf_planes.proofs.Tables.{same_digits, same_digits-true, each_below, each_below-true}
-use Rattle.zf_planes.{proofs.Placing.{reach_behind}, proofs.Gathering.{bits_behind, small_behind}}
+use Rattle.zf_planes.{proofs.Placing.{reach_behind}, proofs.ShortPlanes.{reach_behind_all}, proofs.Gathering.{bits_behind, small_behind}}
 use Rattle.zf_planes.proofs.Doubled.{has_one-behind, has_one-field, run_doubled, eight_of, nine_digits, plane_whole, plane_without}
 
 -- ---- the table, by computation
@@ -105,10 +105,6 @@ tail_of_entry most bits e some eight is = ⊎_elim
     (cases_lt most 9)
 
 -- ---- a plane of its first digits and a tail
-
-reach_behind_all : (xs ys : List Bool) → has_one ys ≡ true → reach (xs ++ ys) ≡ length xs + reach ys
-reach_behind_all [] ys one = omega arith
-reach_behind_all (x ∷ xs) ys one = reach_some x (xs ++ ys) (has_one-behind (x ∷ xs) ys one) ∙ omega (arith, reach_behind_all xs ys one)
 
 code_of_parts : (n : ℕ) (prefix rest : List Bool) → length prefix ≡ n → plane_code n (prefix ++ rest) ≡ prefix ++ tail rest
 code_of_parts n prefix rest long = ap (λ (ds : List Bool). ds ++ tail (drop n (prefix ++ rest))) (take_at prefix rest n long) ∙ ap (λ (ds : List Bool). prefix ++ tail ds) (drop_at prefix rest n long)

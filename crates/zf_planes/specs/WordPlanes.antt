@@ -34,6 +34,32 @@ pub record IsTailEntry (most bits digits l a : ℕ) : Type 0 where
   pub tail : l ≤ 64 → IsTail most bits digits l a
   pub begun : 64 < l → IsBegun most bits digits l a
 
+-- the tail of these digits and of zeros behind them, whose ones reach so far, is the l bits of the digits and so
+-- much more; where no digit is behind the last one, without the last two
+pub record IsTailCode (digits more l a : ℕ) : Type 0 where
+  pub whole : (most : ℕ) → a < most → tail (field most digits) ≡ field l (digits + more)
+  pub last : tail (field a digits) ≡ field (l - 2) (digits + more)
+  pub bits : digits + more < 2 ^ l
+  pub some : 0 < l
+  pub two : 0 < a → 2 < l
+  pub few : l ≤ 17
+  pub within : digits < 2 ^ a
+  pub reached : reach (field a digits) ≡ a
+  pub least : (most : ℕ) → digits < 2 ^ most → a ≤ most
+
+-- the code of the plane of these digits, of any size, in which the ranks below n have had a one above, is these
+-- bits, and so far do its ones and those above reach; where no rank is behind the last one, without the last two
+pub record IsShortCode (n digits l bits a : ℕ) : Type 0 where
+  pub whole : (size : ℕ) → a < size → plane_code n (field size digits) ≡ field l bits
+  pub last : n < a → plane_code n (field a digits) ≡ field (l - 2) bits
+  pub small : bits < 2 ^ l
+  pub some : 0 < l
+  pub two : n < a → 2 < l
+  pub len : l ≤ 64
+  pub order : n ≤ a
+  pub reached : (size : ℕ) → a ≤ size → max n (reach (field size digits)) ≡ a
+  pub least : (size : ℕ) → n ≤ size → digits < 2 ^ size → a ≤ size
+
 -- these bits are the whole code of the plane, whose ones reach no farther than those above
 pub record IsPlainCode (n size digits l bits : ℕ) : Type 0 where
   pub code : plane_code n (field size digits) ≡ field l bits

@@ -4,7 +4,7 @@ ghost use Rattle.std.specs.Prelude.{◌≡◌, ◌+◌, ◌-◌, ◌*◌, ◌/�
 ghost use Rattle.zf_spec.specs.{Numbers.{field}, Planes.{code_from_run, plane_code}};
 ghost use Rattle.{zf_bits.specs.Writer.{Appends}, zf_planes.specs.{Doubled.{doubled}, Writes.{LeavesPart}}};
 
-use crate::entries::doubled_entry;
+use crate::entries::{doubled_entry, tail_code};
 use zf_bits::BitWriter;
 
 /// Bits of a code.
@@ -42,16 +42,15 @@ fn short_run(most: u64, digits: u64) -> Part
     ensures small { result.bits < 2 ^ result.len }
     ensures len { result.len ≤ 16 }
 {
-    // The digits doubled, up to the last one. Its second bit is the group bit behind it, which is zero.
-    let entry = doubled_entry(digits);
-    let len = entry.len - u64::from((digits << 56).leading_zeros());
-    let bits = entry.bits - (1 << (len - 1));
+    let tail = tail_code(digits);
     // The one of the last digit has no bit, and nothing follows it.
-    let implied = if digits >> (most - 1) == 0 { 0 } else { 2 };
-    let count = len - implied;
+    let implied = if tail.reach as u64 == most { 2 } else { 0 };
+    // The tail is the run behind a group bit.
+    let len = tail.len - 1 - implied;
+    let bits = (digits + tail.more) / 2;
     Part {
-        bits: bits % (1 << count),
-        len: count,
+        bits: bits % (1 << len),
+        len,
     }
 }
 
@@ -101,6 +100,28 @@ pub(crate) fn make_room(left: u64, more: u64, part: &mut Part, out: &mut BitWrit
     }
     let left = write_part(left, *part, out);
     *part = Part { bits: 0, len: 0 };
+    left
+}
+
+/// Puts more bits behind others, which are appended before where a word has no room for all, as far as `left`
+/// bits reach. The answer is the bits that are left.
+#[inline(always)]
+pub(crate) fn put_behind(left: u64, part: &mut Part, more: Part, out: &mut BitWriter) -> u64
+    requires some { 0 < more.len }
+    requires in_word { part.old.len ≤ 64 }
+    requires more { more.len ≤ 64 }
+    requires small { part.old.bits < 2 ^ part.old.len }
+    requires small_more { more.bits < 2 ^ more.len }
+    requires fits { min left (part.old.len + more.len) ≤ out.old.room }
+    ensures { LeavesPart left result out.old out.new (field part.old.len part.old.bits
+        ++ field more.len more.bits) part.new.len part.new.bits }
+{
+    if part.len + more.len <= 64 {
+        *part = join(*part, more);
+        return left;
+    }
+    let left = write_part(left, *part, out);
+    *part = more;
     left
 }
 
@@ -157,12 +178,10 @@ pub(crate) fn write_with(
     let bits = digits % (1 << n);
     let prefix = Part { bits, len: n };
     let rest = digits >> n;
-    if part.len + n < 40 {
-        *part = join(join(*part, prefix), group);
-        return write_run(left, part, size - n, rest, out);
-    }
-    let left = write_part(left, *part, out);
-    let left = write_part(left, prefix, out);
-    *part = group;
+    let left = make_room(left, n + 1, part, out);
+    *part = join(*part, prefix);
+    // For the group bit too.
+    let left = make_room(left, 25, part, out);
+    *part = join(*part, group);
     write_run(left, part, size - n, rest, out)
 }

@@ -3,9 +3,10 @@
 ghost use Rattle.std.specs.Prelude.{◌≡◌, ◌+◌, ◌-◌, ◌*◌, ◌/◌, ◌^◌, ◌<◌, ◌≤◌, ◌⊎◌, true, false, min, max, ◌++◌, length, map, take, drop};
 ghost use Rattle.zf_spec.specs.{Numbers.{field}, Planes.{plane_code, code_from, reach}};
 ghost use Rattle.{zf_spec.specs.HeldPlanes.{planes_held}, zf_planes.specs.Sizes.{IsWordSize}};
-ghost use Rattle.zf_planes.specs.{Writes.{Writes}, WordPlanes.{IsPlainCode, AreBegun}};
+ghost use Rattle.zf_planes.specs.{Writes.{Writes}, WordPlanes.{IsPlainCode, IsShortCode, AreBegun}};
 
-use crate::doubling::{Part, join, write_part, write_with};
+use crate::doubling::{Part, join, put_behind, write_part, write_with};
+use crate::entries::tail_code;
 use crate::four_writing::code_of_two;
 use crate::words::{first_word, reach_in};
 use zf_bits::{BitWriter, Plane};
@@ -21,6 +22,33 @@ fn plain_plane(n: u64, size: u64, digits: u64) -> Part
 {
     let len = n + 1;
     Part { bits: digits, len }
+}
+
+/// The code of a plane whose ones behind the ranks that have had one are among the next eight.
+#[derive(Clone, Copy)]
+struct ShortPlane {
+    /// Its bits, of which the last two are missing where the last rank has a one.
+    part: Part,
+    /// How far its ones reach, and those above them.
+    above: usize,
+}
+
+/// The code of such a plane, in which the ranks below `n` have had a one above.
+#[inline(always)]
+fn short_plane(n: usize, digits: u64) -> ShortPlane
+    requires few { n ≤ 32 }
+    requires digits { digits < 2 ^ 32 }
+    requires short { digits / 2 ^ n < 256 }
+    ensures { IsShortCode n digits result.part.len result.part.bits result.above }
+{
+    let tail = tail_code(digits >> n);
+    ShortPlane {
+        part: Part {
+            bits: digits + (tail.more << n),
+            len: n as u64 + tail.len,
+        },
+        above: n + tail.reach,
+    }
 }
 
 /// The code of the first planes, which is not written yet.
@@ -106,14 +134,23 @@ pub(crate) fn write_planes_of_word<P: Plane>(
         let plane = &planes[planes.len() - 1 - i];
         let digits = first_word(plane, size);
         i += 1;
-        if digits >> above == 0 {
-            let more = plain_plane(above as u64, size as u64, digits);
-            if part.len + more.len > 64 {
+        let rest = digits >> above;
+        if size <= 32 && rest < 256 {
+            let plane = short_plane(above, digits);
+            above = plane.above;
+            if above == size {
                 left = write_part(left, part, out);
-                part = more;
-            } else {
-                part = join(part, more);
+                // The one of the last rank has no bit, and nothing follows it.
+                part = Part {
+                    bits: plane.part.bits,
+                    len: plane.part.len - 2,
+                };
+                break;
             }
+            left = put_behind(left, &mut part, plane.part, out);
+        } else if rest == 0 {
+            let more = plain_plane(above as u64, size as u64, digits);
+            left = put_behind(left, &mut part, more, out);
         } else {
             left = write_with(left, &mut part, above as u64, size as u64, digits, out);
             let end = reach_in(plane, size);

@@ -1,9 +1,9 @@
 use Rattle.std.proofs.Common.{rules, ◌≡◌, ℕ, ◌+◌, ◌-◌, ◌*◌, ◌/◌, ◌%◌, ◌<◌, ◌⊎◌, ⊎_elim, min, length, take, drop, ap, subst, ◌∙◌, arith}
 use Rattle.std.{proofs.lemmas.Bool.{cases_lt}, proofs.lemmas.List.{length-take}, proofs.Math.Seq.{take-add}}
 use Rattle.zf_bits.specs.Reader.{rest}
-use Rattle.zf_planes.{specs.Decoding.{Lacks}, proofs.PlaneAhead.{prefix_read}}
+use Rattle.zf_planes.{specs.Decoding.{Lacks}}
 use Rattle.zf_planes.proofs.Passing.{Passes-part, Passes-lacks, Takes-rest, if_none}
-use Rattle.zf_planes.proofs.Placing.{clear_zeros, clear_later, held_behind, word_filled}
+use Rattle.zf_planes.proofs.Placing.{clear_zeros, word_filled}
 use Rattle.zf_spec.proofs.HeldPlanes.{digits_held-none}
 use Rattle.zf_planes.proofs.decoding.read_prefix.Goals as goal
 

@@ -1,6 +1,6 @@
 use Rattle.std.proofs.Common.{rules, ◌≡◌, ℕ, ◌-◌, List, false, ◌++◌, replicate}
 use Rattle.zf_planes.specs.Lanes.{IsGathered, gathered}
-use Rattle.zf_planes.proofs.Lanes.{zeros_below, no_lanes_below, gathered_words, gathered_none, low_planes-zeros, four_below}
+use Rattle.zf_planes.proofs.Lanes.{zeros_below, no_lanes_below, gathered_words, gathered_none, low_planes-zeros}
 use Rattle.zf_planes.proofs.four_reading.digits_of.Goals as goal
 
 -- ---- nothing was read

@@ -1,8 +1,8 @@
-use Rattle.std.proofs.Common.{rules, ◌≡◌, ℕ, ◌+◌, ◌-◌, ◌≤◌, Bool, true, false, List, ◌++◌, replicate, ◌∙◌, arith}
+use Rattle.std.proofs.Common.{rules, ◌≡◌, ℕ, ◌+◌, ◌-◌, ◌≤◌, Bool, false, List, ◌++◌, replicate, ◌∙◌}
 use Rattle.std.proofs.lemmas.List.{append_assoc, replicate-append-replicate}
 use Rattle.zf_bits.specs.Reader.{rest}
 use Rattle.zf_planes.specs.Lanes.{gathered}
-use Rattle.zf_planes.proofs.Lanes.{planes_of-words, each_below}
+use Rattle.zf_planes.proofs.Lanes.{planes_of-words}
 use Rattle.zf_planes.proofs.PlanesRead.{whole_is}
 use Rattle.zf_planes.proofs.four_reading.read_four.Goals as goal
 

@@ -1,4 +1,4 @@
-use Rattle.std.proofs.Common.{rules, arith}
+use Rattle.std.proofs.Common.{arith}
 use Rattle.zf_spec.proofs.Fields.{length-field}
 use Rattle.zf_planes.{proofs.PlanesRead.{known_plane}, proofs.Coming.{one_comes}}
 use Rattle.zf_planes.proofs.four_reading.read_one.Goals as goal

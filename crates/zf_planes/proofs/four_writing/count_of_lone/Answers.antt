@@ -1,7 +1,7 @@
 use Rattle.std.{proofs.Common.{rules, ◌≡◌, ℕ, List, map, get_or, subst, arith}, specs.Int.RustNames.{bit_or}}
 use Rattle.std.{proofs.lemmas.Grind.{common_steps}, proofs.lemmas.Nat.{or_lt}}
 use Rattle.zf_spec.{specs.Grid.{upto}, proofs.Counting.{four_elements}}
-use Rattle.zf_planes.{specs.Spread.{top_digit, top_planes, lone_planes}, proofs.TopPlanes.{no_top_planes}}
+use Rattle.zf_planes.{specs.Spread.{top_digit, top_planes, lone_planes}}
 use Rattle.zf_planes.proofs.Lone.{lone_top}
 use Rattle.zf_planes.proofs.four_writing.count_of_lone.Goals as goal
 

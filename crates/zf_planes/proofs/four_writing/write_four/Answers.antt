@@ -1,5 +1,4 @@
 use Rattle.std.proofs.Common.{◌+◌, ◌-◌, Bool, List, ◌++◌, map, take, refl, ap, ◌∙◌, arith, append-nil, length-append}
-use Rattle.std.proofs.lemmas.Nat.{pow_pos}
 use Rattle.zf_spec.{specs.Numbers.{field}, specs.Planes.{planes_of, code, code_from}, proofs.Fields.{length-field}}
 use Rattle.zf_planes.{specs.Spread.{top_planes}, specs.Writes.{Remains, Writes}}
 use Rattle.zf_planes.proofs.Budgets.{Remains-same, Remains-all, Remains-last}

@@ -1,4 +1,4 @@
-use Rattle.std.proofs.Common.{rules, [], get_or, refl, ◌<◌, ◌≤◌, ◌≡◌, ℕ, ◌+◌, ◌-◌, max, Bool, List, ◌++◌, length, map, take, drop, sym, ap, ◌∙◌, arith, append_assoc, length-append}
+use Rattle.std.proofs.Common.{rules, [], get_or, refl, ◌<◌, ◌≤◌, ◌≡◌, ℕ, ◌+◌, ◌-◌, max, min, Bool, List, ◌++◌, length, map, take, drop, sym, ap, ◌∙◌, arith, append_assoc, length-append}
 use Rattle.std.proofs.lemmas.List.{drop_all, length-map}
 use Rattle.zf_spec.{specs.Numbers.{field}, proofs.Reach.{reach-le}, proofs.Fields.{length-field}}
 use Rattle.zf_spec.{specs.Planes.{plane_code, code_from, reach}, specs.HeldPlanes.{digits_held, planes_held}}
@@ -6,77 +6,108 @@ use Rattle.zf_planes.proofs.Budgets.{Remains-through, Remains-same, Remains-fits
 use Rattle.zf_planes.{proofs.Unpacking.{length-top_held, next_word}, specs.Writes.{Remains, LeavesPart}}
 use Rattle.zf_planes.{proofs.Strings.{Remains-cut}, proofs.Doubled.{plane_whole}}
 use Rattle.zf_planes.proofs.word_writing.write_planes_of_word.Given.{Over}
-use Rattle.zf_planes.proofs.word_writing.write_planes_of_word.Goals.{then-loop-i-test+else-left-part, else-loop-i-test, then-loop-i-test+then-left-part+else-digits-above-eq0+then-above-size, then-loop-i-3-test+else-whole-size-le64, else-loop-i-3-test}
+use Rattle.zf_planes.proofs.word_writing.write_planes_of_word.Goals.{then-loop-i-test+else-left-part, else-loop-i-test, then-loop-i-test+then-left-part+else-size-le32+else-rest-eq0+then-above-size-2, then-loop-i-test+then-left-part+then-size-le32+then-rest-lt256+then-above-size, then-loop-i-3-test+else-whole-size-le64, else-loop-i-3-test}
 use Rattle.zf_bits.specs.Writer.{Writer}
 use Rattle.zf_planes.proofs.word_writing.write_planes_of_word.Goals as goal
 
-pub loop-i-preserved-then-part-more-gt64 : goal.loop-i-preserved-then-part-more-gt64
-loop-i-preserved-then-part-more-gt64 g c =
+-- the code of the next plane, by another name, is behind the bits that were put together
+next_as : {A : Type 0} {old now : Writer} {budget left : ℕ} {whole : List Bool} (words : A → List ℕ) (above prec size i len bits digits : ℕ) (planes : List A) (plane : A) (code : List Bool)
+    → Remains old now budget left whole (field len bits ++ code_from above (drop i (take prec (planes_held size (map words planes)))))
+    → plane ≡ get_or planes (length planes - 1 - i) plane → i < prec → prec ≤ length planes → field size digits ≡ digits_held size (words plane) → plane_code above (field size digits) ≡ code
+    → Remains old now budget left whole ((field len bits ++ code) ++ code_from (max above (reach (field size digits))) (drop (i + 1) (take prec (planes_held size (map words planes)))))
+next_as words above prec size i len bits digits planes plane code remains is below within same named =
+    let rest = code_from (max above (reach (field size digits))) (drop (i + 1) (take prec (planes_held size (map words planes)))) in
+    Remains-same (next_word words above prec size i len bits digits planes plane remains is below within same) (cc (named, append_assoc (field len bits) code rest))
+
+-- there is room for it
+next_fits : {old now : Writer} {budget left : ℕ} {whole : List Bool} (len bits : ℕ) (code rest : List Bool) → Remains old now budget left whole ((field len bits ++ code) ++ rest) → min left (len + length code) ≤ now.room
+next_fits len bits code rest remains = omega (arith, Remains-fits (field len bits ++ code) rest remains, length-append (field len bits) code, length-field len bits)
+
+-- and it is put behind them
+with_next : {A : Type 0} {old now new : Writer} {budget left after : ℕ} {whole : List Bool} (words : A → List ℕ) (above prec size i len bits digits l v top : ℕ) (planes : List A) (plane : A) (code : List Bool)
+    → Remains old now budget left whole (field len bits ++ code_from above (drop i (take prec (planes_held size (map words planes)))))
+    → plane ≡ get_or planes (length planes - 1 - i) plane → i < prec → prec ≤ length planes → field size digits ≡ digits_held size (words plane) → plane_code above (field size digits) ≡ code
+    → LeavesPart left after now new (field len bits ++ code) l v → max above (reach (field size digits)) ≡ top
+    → Remains old new budget after whole (field l v ++ code_from top (drop (i + 1) (take prec (planes_held size (map words planes)))))
+with_next words above prec size i len bits digits l v top planes plane code remains is below within same named leaves reached =
+    let rest = drop (i + 1) (take prec (planes_held size (map words planes))) in
+    let next = next_as words above prec size i len bits digits planes plane code remains is below within same named in
+    Remains-same
+    (Remains-through (field len bits ++ code) (field l v) _ next leaves.code)
+    (ap (λ n. field l v ++ code_from n rest) reached)
+
+-- ---- a plane that brings no new rank
+
+pub put_behind-left-requires-then-rest-eq0-clause-fits : goal.put_behind-left-requires-then-rest-eq0-clause-fits
+put_behind-left-requires-then-rest-eq0-clause-fits g c =
     let part = c.loop-i.part in
-    let more = c.plain_plane-more in
-    let next = next_word g.P.Plane.words c.loop-i.above c.args.prec c.args.size c.loop-i.i part.len part.bits c.first_word-digits.result c.args.planes.now c.index-planes-planes.result c.loop-i.invariant.remains
-    c.index-planes-planes.is c.loop-i-test.true c.requires.planes c.first_word-digits.ensures.digits in
+    let more = c.plain_plane-more.result in
+    let code = field more.len more.bits in
+    let next = next_as g.P.Plane.words c.loop-i.above c.args.prec c.args.size c.loop-i.i part.len part.bits c.first_word-digits.result c.args.planes.now c.index-planes-planes.result code c.loop-i.invariant.remains
+    c.index-planes-planes.is c.loop-i-test.true c.requires.planes c.first_word-digits.ensures.digits c.plain_plane-more.ensures.code in
+    omega (arith, next_fits part.len part.bits code _ next, length-field more.len more.bits)
+
+pub loop-i-preserved-then-rest-eq0 : goal.loop-i-preserved-then-rest-eq0
+loop-i-preserved-then-rest-eq0 g c =
+    let part = c.loop-i.part in
+    let more = c.plain_plane-more.result in
+    let new = c.put_behind-left-then-rest-eq0.new.part in
     record {
-      remains = Remains-same (Remains-part part.len part.bits _ next c.write_part-left.ensures.bits c.write_part-left.ensures.left) (cc (more.ensures.code, more.ensures.same));
+      remains = with_next g.P.Plane.words c.loop-i.above c.args.prec c.args.size c.loop-i.i part.len part.bits c.first_word-digits.result new.len new.bits c.loop-i.above c.args.planes.now c.index-planes-planes.result (field more.len more.bits) c.loop-i.invariant.remains
+          c.index-planes-planes.is c.loop-i-test.true c.requires.planes c.first_word-digits.ensures.digits c.plain_plane-more.ensures.code c.put_behind-left-then-rest-eq0.ensures c.plain_plane-more.ensures.same;
       above = c.loop-i.invariant.above;
       place = omega (arith, c.loop-i-test.true);
-      small = more.ensures.small;
-      in_word = more.ensures.len;
+      small = c.put_behind-left-then-rest-eq0.ensures.small;
+      in_word = c.put_behind-left-then-rest-eq0.ensures.len;
     }
 
-pub loop-i-preserved-else-part-more-gt64 : goal.loop-i-preserved-else-part-more-gt64
-loop-i-preserved-else-part-more-gt64 g c =
+-- ---- one whose new ranks are among the next eight
+
+pub put_behind-left-requires-clause-fits : goal.put_behind-left-requires-clause-fits
+put_behind-left-requires-clause-fits g c =
     let part = c.loop-i.part in
-    let more = c.plain_plane-more in
-    let rest = drop (c.loop-i.i + 1) (take c.args.prec (planes_held c.args.size (map g.P.Plane.words c.args.planes.now))) in
-    let next = next_word g.P.Plane.words c.loop-i.above c.args.prec c.args.size c.loop-i.i part.len part.bits c.first_word-digits.result c.args.planes.now c.index-planes-planes.result c.loop-i.invariant.remains
-    c.index-planes-planes.is c.loop-i-test.true c.requires.planes c.first_word-digits.ensures.digits in
+    let plane = c.short_plane-plane in
+    let code = field plane.result.part.len plane.result.part.bits in
+    let inner : plane.result.above < c.args.size = omega (arith, plane.ensures.least c.args.size (omega (arith, c.loop-i.invariant.above)) c.first_word-digits.ensures.small, c.if-above-size.false) in
+    let next = next_as g.P.Plane.words c.loop-i.above c.args.prec c.args.size c.loop-i.i part.len part.bits c.first_word-digits.result c.args.planes.now c.index-planes-planes.result code c.loop-i.invariant.remains
+    c.index-planes-planes.is c.loop-i-test.true c.requires.planes c.first_word-digits.ensures.digits (plane.ensures.whole c.args.size inner) in
+    omega (arith, next_fits part.len part.bits code _ next, length-field plane.result.part.len plane.result.part.bits)
+
+pub loop-i-preserved-then-rest-lt256 : goal.loop-i-preserved-then-rest-lt256
+loop-i-preserved-then-rest-lt256 g c =
+    let part = c.loop-i.part in
+    let plane = c.short_plane-plane in
+    let new = c.put_behind-left.new.part in
+    let inner : plane.result.above < c.args.size = omega (arith, plane.ensures.least c.args.size (omega (arith, c.loop-i.invariant.above)) c.first_word-digits.ensures.small, c.if-above-size.false) in
     record {
-      remains = Remains-same next (cc (
-        more.ensures.code,
-        more.ensures.same,
-        c.join-part.ensures.bits,
-        append_assoc (field part.len part.bits) (field more.result.len more.result.bits)
-            (code_from c.loop-i.above rest),
-      ));
-      above = c.loop-i.invariant.above;
+      remains = with_next g.P.Plane.words c.loop-i.above c.args.prec c.args.size c.loop-i.i part.len part.bits c.first_word-digits.result new.len new.bits plane.result.above c.args.planes.now c.index-planes-planes.result (field plane.result.part.len plane.result.part.bits)
+          c.loop-i.invariant.remains c.index-planes-planes.is c.loop-i-test.true c.requires.planes c.first_word-digits.ensures.digits (plane.ensures.whole c.args.size inner) c.put_behind-left.ensures (plane.ensures.reached c.args.size (omega (arith, inner)));
+      above = inner;
       place = omega (arith, c.loop-i-test.true);
-      small = c.join-part.ensures.small more.ensures.small;
-      in_word = omega (arith, c.join-part.ensures.len, c.if-part-more-gt64.false);
+      small = c.put_behind-left.ensures.small;
+      in_word = c.put_behind-left.ensures.len;
     }
 
--- ---- a plane that brings a new rank
+-- ---- any other that brings a new rank
 
 pub write_with-left-requires-clause-fits : goal.write_with-left-requires-clause-fits
 write_with-left-requires-clause-fits g c =
     let part = c.loop-i.part in
     let code = plane_code c.loop-i.above (field c.args.size c.first_word-digits.result) in
-    let next = next_word g.P.Plane.words c.loop-i.above c.args.prec c.args.size c.loop-i.i part.len part.bits c.first_word-digits.result c.args.planes.now c.index-planes-planes.result c.loop-i.invariant.remains
-    c.index-planes-planes.is c.loop-i-test.true c.requires.planes c.first_word-digits.ensures.digits in
-    omega (arith, Remains-fits (field part.len part.bits ++ code) _ (Remains-same next (sym (append_assoc (field part.len part.bits) code _))), length-append (field part.len part.bits) code, length-field part.len part.bits)
-
--- its code follows the bits that were put together
-with_next : {A : Type 0} {old now new : Writer} {budget left after : ℕ} {whole : List Bool} (words : A → List ℕ) (above prec size i len bits digits l v top : ℕ) (planes : List A) (plane : A)
-    → Remains old now budget left whole (field len bits ++ code_from above (drop i (take prec (planes_held size (map words planes)))))
-    → plane ≡ get_or planes (length planes - 1 - i) plane → i < prec → prec ≤ length planes → field size digits ≡ digits_held size (words plane)
-    → LeavesPart left after now new (field len bits ++ plane_code above (field size digits)) l v → max above (reach (field size digits)) ≡ top
-    → Remains old new budget after whole (field l v ++ code_from top (drop (i + 1) (take prec (planes_held size (map words planes)))))
-with_next words above prec size i len bits digits l v top planes plane remains is below within same leaves reached =
-    let code = plane_code above (field size digits) in
-    let rest = drop (i + 1) (take prec (planes_held size (map words planes))) in
-    let next = next_word words above prec size i len bits digits planes plane remains is below within same in
-    Remains-same
-    (Remains-through (field len bits ++ code) (field l v) _ (Remains-same next (sym (append_assoc (field len bits) code _))) leaves.code)
-    (ap (λ n. field l v ++ code_from n rest) reached)
+    next_fits part.len part.bits code _ (next_as g.P.Plane.words c.loop-i.above c.args.prec c.args.size c.loop-i.i part.len part.bits c.first_word-digits.result c.args.planes.now c.index-planes-planes.result code c.loop-i.invariant.remains
+    c.index-planes-planes.is c.loop-i-test.true c.requires.planes c.first_word-digits.ensures.digits refl)
 
 pub loop-i-preserved : goal.loop-i-preserved
 loop-i-preserved g c =
     let ds = field c.args.size c.first_word-digits.result in
+    let part = c.loop-i.part in
+    let new = c.write_with-left.new.part in
     let top : c.max-above.result ≡ max c.loop-i.above c.reach_in-end.result = omega (arith, c.max-above.ensures) in
     let reached : max c.loop-i.above (reach ds) ≡ c.max-above.result = omega (arith, ap reach c.first_word-digits.ensures.digits, c.reach_in-end.ensures.value, top) in
     record {
-      remains = search (rules, with_next);
-      above = omega (arith, c.loop-i.invariant.above, c.reach_in-end.ensures.bound, top, c.if-above-size.false);
+      remains = with_next g.P.Plane.words c.loop-i.above c.args.prec c.args.size c.loop-i.i part.len part.bits c.first_word-digits.result new.len new.bits c.max-above.result c.args.planes.now c.index-planes-planes.result (plane_code c.loop-i.above ds)
+          c.loop-i.invariant.remains c.index-planes-planes.is c.loop-i-test.true c.requires.planes c.first_word-digits.ensures.digits refl c.write_with-left.ensures reached;
+      above = omega (arith, c.loop-i.invariant.above, c.reach_in-end.ensures.bound, top, c.if-above-size-2.false);
       place = omega (arith, c.loop-i-test.true);
       small = c.write_with-left.ensures.small;
       in_word = c.write_with-left.ensures.len;
@@ -90,20 +121,30 @@ ended : (g : Over) (c : goal.After-write_part-arg-2-1 g) → Remains c.args.out.
 ended g c = elim c.loop-i-test.branch [
   | then-loop-i-test+else-left-part w ↦ rw (w.out-is, w.left-is, w.part-is, w.above-is, w.i-is) c.loop-i.invariant.remains
   | else-loop-i-test w ↦ rw (w.out-is, w.left-is, w.part-is, w.above-is, w.i-is) c.loop-i.invariant.remains
-  | then-loop-i-test+then-left-part+else-digits-above-eq0+then-above-size w ↦
+  | then-loop-i-test+then-left-part+else-size-le32+else-rest-eq0+then-above-size-2 w ↦
       let part = c.loop-i.part in
       let ds = field c.args.size w.first_word-digits.result in
       let new = w.write_with-left.new.part in
       let top : w.max-above.result ≡ max c.loop-i.above w.reach_in-end.result = omega (arith, w.max-above.ensures) in
       let reached : max c.loop-i.above (reach ds) ≡ w.max-above.result = omega (arith, ap reach w.first_word-digits.ensures.digits, w.reach_in-end.ensures.value, top) in
       rw (w.out-is, w.left-is, w.part-is, w.above-is, w.i-is)
-      (with_next g.P.Plane.words c.loop-i.above c.args.prec c.args.size c.loop-i.i part.len part.bits w.first_word-digits.result new.len new.bits w.max-above.result c.args.planes.now w.index-planes-planes.result
-      c.loop-i.invariant.remains w.index-planes-planes.is w.loop-i-test.true c.requires.planes w.first_word-digits.ensures.digits w.write_with-left.ensures reached)
+      (with_next g.P.Plane.words c.loop-i.above c.args.prec c.args.size c.loop-i.i part.len part.bits w.first_word-digits.result new.len new.bits w.max-above.result c.args.planes.now w.index-planes-planes.result (plane_code c.loop-i.above ds)
+      c.loop-i.invariant.remains w.index-planes-planes.is w.loop-i-test.true c.requires.planes w.first_word-digits.ensures.digits refl w.write_with-left.ensures reached)
+  | then-loop-i-test+then-left-part+then-size-le32+then-rest-lt256+then-above-size w ↦
+      let part = c.loop-i.part in
+      let plane = w.short_plane-plane in
+      let size = w.if-above-size.true in
+      let rest = drop (c.loop-i.i + 1) (take c.args.prec (planes_held c.args.size (map g.P.Plane.words c.args.planes.now))) in
+      let last : plane_code c.loop-i.above (field c.args.size w.first_word-digits.result) ≡ field (plane.result.part.len - 2) plane.result.part.bits = rw size at (plane.ensures.last (omega (arith, c.loop-i.invariant.above, size))) in
+      let next = next_word g.P.Plane.words c.loop-i.above c.args.prec c.args.size c.loop-i.i part.len part.bits w.first_word-digits.result c.args.planes.now w.index-planes-planes.result c.loop-i.invariant.remains
+      w.index-planes-planes.is w.loop-i-test.true c.requires.planes w.first_word-digits.ensures.digits in
+      rw (w.out-is, w.left-is, w.part-is, w.above-is, w.i-is)
+      (Remains-same (Remains-part part.len part.bits _ next w.write_part-left.ensures.bits w.write_part-left.ensures.left) (cc (last, plane.ensures.reached c.args.size (omega (arith, size)))))
 ]
 
 pub write_part-left-requires-2-clause-in_word : goal.write_part-left-requires-2-clause-in_word
 write_part-left-requires-2-clause-in_word g c =
-    search (rules, then-loop-i-test+else-left-part, else-loop-i-test, then-loop-i-test+then-left-part+else-digits-above-eq0+then-above-size)
+    search (rules, then-loop-i-test+else-left-part, else-loop-i-test, then-loop-i-test+then-left-part+else-size-le32+else-rest-eq0+then-above-size-2, then-loop-i-test+then-left-part+then-size-le32+then-rest-lt256+then-above-size)
 
 pub write_part-left-requires-2-clause-fits : goal.write_part-left-requires-2-clause-fits
 write_part-left-requires-2-clause-fits g c = room_for c.loop-i-test.part.len c.loop-i-test.part.bits _ (ended g c)
@@ -129,13 +170,15 @@ behind g c = elim c.loop-i-test.branch [
       Remains-same (written g c)
       (none_left g.P.Plane.words c.loop-i-test.above c.args.prec c.args.size c.loop-i-test.i c.args.planes.now c.requires.planes past
       ∙ sym (none_left g.P.Plane.words c.args.size c.args.prec c.args.size c.loop-i-test.i c.args.planes.now c.requires.planes past))
-  | then-loop-i-test+then-left-part+else-digits-above-eq0+then-above-size w ↦
+  | then-loop-i-test+then-left-part+else-size-le32+else-rest-eq0+then-above-size-2 w ↦
+      Remains-same (written g c) (ap (λ n. code_from n (drop c.loop-i-test.i (take c.args.prec (planes_held c.args.size (map g.P.Plane.words c.args.planes.now))))) (w.above-is ∙ w.if-above-size-2.true))
+  | then-loop-i-test+then-left-part+then-size-le32+then-rest-lt256+then-above-size w ↦
       Remains-same (written g c) (ap (λ n. code_from n (drop c.loop-i-test.i (take c.args.prec (planes_held c.args.size (map g.P.Plane.words c.args.planes.now))))) (w.above-is ∙ w.if-above-size.true))
 ]
 
 place : (g : Over) (c : goal.After-write_part-left-2 g) → c.loop-i-test.i ≤ c.args.prec
 place g c =
-    search (rules, then-loop-i-test+else-left-part, else-loop-i-test, then-loop-i-test+then-left-part+else-digits-above-eq0+then-above-size)
+    search (rules, then-loop-i-test+else-left-part, else-loop-i-test, then-loop-i-test+then-left-part+else-size-le32+else-rest-eq0+then-above-size-2, then-loop-i-test+then-left-part+then-size-le32+then-rest-lt256+then-above-size)
 
 pub loop-i-2-init : goal.loop-i-2-init
 loop-i-2-init g c = record { remains = behind g c; place = place g c }

@@ -1,7 +1,7 @@
 use Rattle.std.proofs.Common.{◌≡◌, ◌-◌, ◌*◌, ◌%◌, ◌^◌, ◌≤◌, length, arith}
 use Rattle.std.specs.Int.{w64, leading_zeros}
 use Rattle.zf_spec.{specs.Planes.{reach}, specs.HeldPlanes.{digits_held}}
-use Rattle.zf_planes.proofs.Digits.{reach_in_word, reach_none_from}
+use Rattle.zf_planes.proofs.Digits.{reach_in_word}
 use Rattle.zf_planes.proofs.words.reach_in.Given.{Over}
 use Rattle.zf_planes.proofs.words.reach_in.Goals as goal
 
