@@ -97,12 +97,6 @@ zeros_behind a most digits within small =
     let parts : most ≡ a + suc (most - suc a) = omega arith in
     let none : digits / 2 ^ a ≡ 0 = div-eq_of_lt small in search (rules, field-add, field-zero)
 
-pub eight_of : (most digits : ℕ) → 9 ≤ most → digits < 256 → field most digits ≡ field 8 digits ++ replicate (suc (most - 9)) false
-eight_of most digits nine eight = zeros_behind 8 most digits nine eight
-
-pub nine_digits : (most digits : ℕ) → 9 ≤ most → 0 < digits → digits < 256 → code_from_run (field most digits) ≡ code_from_run (field 9 digits)
-nine_digits most digits nine one eight = search (rules, has_one-field, eight_of, run_zeros_behind)
-
 -- ---- a run in a word
 
 -- eight digits, and the run goes on

@@ -10,9 +10,9 @@ use Rattle.zf_planes.{specs.WordPlanes.{IsTailCode, IsShortCode}, specs.declared
 use Rattle.zf_planes.proofs.Tables.{same_digits, same_digits-true, each_below, each_below-true}
 use Rattle.zf_planes.{proofs.Placing.{reach_behind}, proofs.Doubled.{has_one-behind, has_one-field, rest_small, has_one-zeros_behind, run_zeros_behind, zeros_behind, word_prefix, word_behind}}
 
--- ---- zeros behind a tail
+-- ---- zeros behind the digits of a tail
 
-pub tail_zeros_behind : (ds : List Bool) (k : ℕ) → tail (ds ++ replicate (suc k) false) ≡ tail (ds ++ false ∷ [])
+tail_zeros_behind : (ds : List Bool) (k : ℕ) → tail (ds ++ replicate (suc k) false) ≡ tail (ds ++ false ∷ [])
 tail_zeros_behind [] k = tail-zeros k
 tail_zeros_behind (d ∷ ds) k = by (has_one (d ∷ ds)) refl
   where
@@ -24,6 +24,14 @@ tail_zeros_behind (d ∷ ds) k = by (has_one (d ∷ ds)) refl
     by false none =
         let P : (k : ℕ) → tail ((d ∷ ds) ++ replicate k false) ≡ false ∷ [] = λ k. ap (λ b. cond b (true ∷ code_from_run ((d ∷ ds) ++ replicate k false)) (false ∷ [])) (has_one-zeros_behind (d ∷ ds) k ∙ none) in
         P (suc k) ∙ sym (P 1)
+
+pub tail_same : (a most digits : ℕ) → a < most → digits < 2 ^ a → tail (field most digits) ≡ tail (field (suc a) digits)
+tail_same a most digits within small =
+    let one = λ (m : ℕ) (more : a < m). ap tail (zeros_behind a m digits more small) ∙ tail_zeros_behind (field a digits) (m - suc a) in
+    one most within ∙ sym (one (suc a) (omega arith))
+
+pub reach_same : (a most digits : ℕ) → a < most → digits < 2 ^ a → reach (field most digits) ≡ reach (field a digits)
+reach_same a most digits within small = ap reach (zeros_behind a most digits within small) ∙ reach_behind (field a digits) (suc (most - suc a))
 
 -- ---- the table, by computation
 
@@ -39,7 +47,7 @@ test_tail_codes = refl
 -- digits that a number of places holds reach no farther
 least : (digits a most : ℕ) → digits < 2 ^ a → reach (field a digits) ≡ a → digits < 2 ^ most → a ≤ most
 least digits a most small reached fits = ⊎_elim
-    (λ (more : most < a). absurd (omega (arith, ap reach (zeros_behind most a digits more fits), reach_behind (field most digits) (suc (a - suc most)), reach-le (field most digits), length-field most digits)))
+    (λ (more : most < a). absurd (omega (arith, reach_same most a digits more fits, reach-le (field most digits), length-field most digits)))
     (λ (order : a ≤ most). order)
     (cases_lt most a)
 
@@ -54,9 +62,8 @@ tested digits more l a test =
     let seven = and_parts _ _ six.1 in
     let small : digits < 2 ^ a = ltb-true _ _ seven.0 in
     let reached : reach (field a digits) ≡ a = eqb-true _ _ seven.1 in
-    let next : tail (field (suc a) digits) ≡ field l (digits + more) = same_digits-true _ _ one.0 in
     record {
-      whole = λ most more'. ap tail (zeros_behind a most digits more' small) ∙ tail_zeros_behind (field a digits) (most - suc a) ∙ sym (tail_zeros_behind (field a digits) (suc a - suc a)) ∙ ap tail (sym (zeros_behind a (suc a) digits (omega arith) small)) ∙ next;
+      whole = λ most wider. tail_same a most digits wider small ∙ same_digits-true _ _ one.0;
       last = same_digits-true _ _ two.0;
       bits = ltb-true _ _ three.0;
       some = ltb-true _ _ four.0;
@@ -120,12 +127,9 @@ module _ (n digits more l a : ℕ) (entry : IsTailCode (digits / 2 ^ n) more l a
 
   reached_in : (size : ℕ) → n + a ≤ size → max n (reach (field size digits)) ≡ n + a
   reached_in size order = ⊎_elim
-      (λ (more : n + a < size). ap (max n) (ap reach (zeros_behind (n + a) size digits more small_digits) ∙ reach_behind (field (n + a) digits) (suc (size - suc (n + a)))) ∙ reached_here)
+      (λ (more : n + a < size). ap (max n) (reach_same (n + a) size digits more (below_of_high n a digits entry.within)) ∙ reached_here)
       (λ (all : size ≤ n + a). let same : size ≡ n + a = omega (arith, order, all) in rw same reached_here)
       (cases_lt (n + a) size)
-    where
-      small_digits : digits < 2 ^ (n + a)
-      small_digits = below_of_high n a digits entry.within
 
   pub short_of_entry : n ≤ 32 → l ≤ 17 → IsShortCode n digits (n + l) bits (n + a)
   short_of_entry few many = record {

@@ -9,8 +9,8 @@ use Rattle.zf_bits.proofs.Fields as wide
 use Rattle.zf_bits.proofs.Fields.{field_more}
 use Rattle.zf_planes.{specs.WordPlanes.{IsReadAs, IsTail, IsBegun, IsTailEntry}, specs.Doubled.{doubled}, specs.declared.entries.TheConstants.{TAILS}}
 use Rattle.zf_planes.proofs.Tables.{same_digits, same_digits-true, each_below, each_below-true}
-use Rattle.zf_planes.{proofs.Placing.{reach_behind}, proofs.ShortPlanes.{reach_behind_all}, proofs.Gathering.{bits_behind, small_behind}}
-use Rattle.zf_planes.proofs.Doubled.{has_one-behind, has_one-field, run_doubled, eight_of, nine_digits, plane_whole, plane_without}
+use Rattle.zf_planes.{proofs.Placing.{reach_behind}, proofs.ShortPlanes.{tail_same, reach_same, reach_behind_all}, proofs.Gathering.{bits_behind, small_behind}}
+use Rattle.zf_planes.proofs.Doubled.{has_one-behind, has_one-field, run_doubled, plane_whole, plane_without}
 
 -- ---- the table, by computation
 
@@ -62,23 +62,6 @@ entry_to_9 most bits e some nine eight is =
     each_below-true (λ j. test_entry (j / 256 + 1) (j % 256) (get_or TAILS j 0)) 2304 i test_tails (omega arith)) in
     fields_tested most bits (e % 256) (e / 4096) (e / 256 % 16) whole
 
--- more digits make no difference, where they are zeros
-tail_of_nine : (most digits : ℕ) → 9 ≤ most → 0 < digits → digits < 256 → tail (field most digits) ≡ tail (field 9 digits)
-tail_of_nine most digits nine some eight =
-    let wide : digits < 2 ^ most = omega (arith, pow-le-pow_right {n = 2} (lit< tt) nine) in
-    tail-some (field most digits) (has_one-field most digits some wide)
-    ∙ ap (λ (bs : List Bool). true ∷ bs) (nine_digits most digits nine some eight)
-    ∙ sym (tail-some (field 9 digits) (has_one-field 9 digits some (omega arith)))
-
-reach_of_nine : (most digits : ℕ) → 9 ≤ most → digits < 256 → reach (field most digits) ≡ reach (field 9 digits)
-reach_of_nine most digits nine eight =
-    cc (
-      eight_of most digits nine eight,
-      reach_behind (field 8 digits) (suc (most - 9)),
-      eight_of 9 digits (omega arith) eight,
-      reach_behind (field 8 digits) (suc (9 - 9)),
-    )
-
 pub tail_of_entry : (most bits e : ℕ) → 0 < most → bits < 256 → e ≡ get_or TAILS (256 * (min most 9 - 1) + bits) 0 → IsTailEntry most bits (e % 256) (e / 4096) (e / 256 % 16)
 tail_of_entry most bits e some eight is = ⊎_elim
     (λ (few : most < 9). let all : min most 9 ≡ most = omega arith in entry_to_9 most bits e some (omega arith) eight (rw all at is))
@@ -95,11 +78,11 @@ tail_of_entry most bits e some eight is = ⊎_elim
           let digits = e % 256 in
           let low : digits < 256 = omega arith in
           record {
-            code = tail_of_nine most digits nine found.some low ∙ found.code;
+            code = tail_same 8 most digits nine low ∙ found.code;
             some = found.some;
             small = omega (arith, pow-le-pow_right {n = 2} (lit< tt) nine);
             len = found.len;
-            above = found.above ∙ sym (reach_of_nine most digits nine low);
+            above = found.above ∙ reach_same 8 9 digits (omega arith) low ∙ sym (reach_same 8 most digits nine low);
           };
     })
     (cases_lt most 9)

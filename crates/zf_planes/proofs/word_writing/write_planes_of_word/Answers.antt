@@ -49,12 +49,8 @@ put_behind-left-requires-then-rest-eq0-clause-fits g c =
 
 pub loop-i-preserved-then-rest-eq0 : goal.loop-i-preserved-then-rest-eq0
 loop-i-preserved-then-rest-eq0 g c =
-    let part = c.loop-i.part in
-    let more = c.plain_plane-more.result in
-    let new = c.put_behind-left-then-rest-eq0.new.part in
     record {
-      remains = with_next g.P.Plane.words c.loop-i.above c.args.prec c.args.size c.loop-i.i part.len part.bits c.first_word-digits.result new.len new.bits c.loop-i.above c.args.planes.now c.index-planes-planes.result (field more.len more.bits) c.loop-i.invariant.remains
-          c.index-planes-planes.is c.loop-i-test.true c.requires.planes c.first_word-digits.ensures.digits c.plain_plane-more.ensures.code c.put_behind-left-then-rest-eq0.ensures c.plain_plane-more.ensures.same;
+      remains = search (rules, with_next);
       above = c.loop-i.invariant.above;
       place = omega (arith, c.loop-i-test.true);
       small = c.put_behind-left-then-rest-eq0.ensures.small;
@@ -75,13 +71,12 @@ put_behind-left-requires-clause-fits g c =
 
 pub loop-i-preserved-then-rest-lt256 : goal.loop-i-preserved-then-rest-lt256
 loop-i-preserved-then-rest-lt256 g c =
-    let part = c.loop-i.part in
     let plane = c.short_plane-plane in
-    let new = c.put_behind-left.new.part in
     let inner : plane.result.above < c.args.size = omega (arith, plane.ensures.least c.args.size (omega (arith, c.loop-i.invariant.above)) c.first_word-digits.ensures.small, c.if-above-size.false) in
+    let reached = plane.ensures.reached c.args.size (omega (arith, inner)) in
+    let code = plane.ensures.whole c.args.size inner in
     record {
-      remains = with_next g.P.Plane.words c.loop-i.above c.args.prec c.args.size c.loop-i.i part.len part.bits c.first_word-digits.result new.len new.bits plane.result.above c.args.planes.now c.index-planes-planes.result (field plane.result.part.len plane.result.part.bits)
-          c.loop-i.invariant.remains c.index-planes-planes.is c.loop-i-test.true c.requires.planes c.first_word-digits.ensures.digits (plane.ensures.whole c.args.size inner) c.put_behind-left.ensures (plane.ensures.reached c.args.size (omega (arith, inner)));
+      remains = search (rules, with_next);
       above = inner;
       place = omega (arith, c.loop-i-test.true);
       small = c.put_behind-left.ensures.small;
@@ -100,13 +95,10 @@ write_with-left-requires-clause-fits g c =
 pub loop-i-preserved : goal.loop-i-preserved
 loop-i-preserved g c =
     let ds = field c.args.size c.first_word-digits.result in
-    let part = c.loop-i.part in
-    let new = c.write_with-left.new.part in
     let top : c.max-above.result ≡ max c.loop-i.above c.reach_in-end.result = omega (arith, c.max-above.ensures) in
     let reached : max c.loop-i.above (reach ds) ≡ c.max-above.result = omega (arith, ap reach c.first_word-digits.ensures.digits, c.reach_in-end.ensures.value, top) in
     record {
-      remains = with_next g.P.Plane.words c.loop-i.above c.args.prec c.args.size c.loop-i.i part.len part.bits c.first_word-digits.result new.len new.bits c.max-above.result c.args.planes.now c.index-planes-planes.result (plane_code c.loop-i.above ds)
-          c.loop-i.invariant.remains c.index-planes-planes.is c.loop-i-test.true c.requires.planes c.first_word-digits.ensures.digits refl c.write_with-left.ensures reached;
+      remains = search (rules, with_next);
       above = omega (arith, c.loop-i.invariant.above, c.reach_in-end.ensures.bound, top, c.if-above-size-2.false);
       place = omega (arith, c.loop-i-test.true);
       small = c.write_with-left.ensures.small;
