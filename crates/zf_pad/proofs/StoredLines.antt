@@ -42,6 +42,10 @@ index_by_four ns k four =
 
 -- ---- a line
 
+-- a line has a value
+pub line_some : (ns : List ℕ) → IsShape ns → 1 ≤ line_len ns
+line_some ns shape = (all_axes (λ n. 1 ≤ n) ns shape.four_at_most (lit≤ tt) shape.not_zero).0
+
 -- the lines along x are no more than the values
 pub others_fit : (ns : List ℕ) → IsShape ns → product (other_sizes ns) ≤ max_values
 others_fit ns shape =

@@ -1,6 +1,6 @@
 use Rattle.std.proofs.Common.{◌≡◌, ◌+◌, ◌-◌, ◌*◌, ◌/◌, ◌%◌, ◌<◌, ◌≤◌, ⊎_elim, pos, map, get_or, ap, sym, ◌∙◌, arith}
 use Rattle.std.proofs.lemmas.Bool.{cases_lt}
-use Rattle.zf_pad.{specs.Stored.{raster_of, values_in}, proofs.StoredLines.{block_value, rest_value}}
+use Rattle.zf_pad.{specs.Stored.{raster_of, values_in}, proofs.StoredLines.{block_value, rest_value, others_fit, line_some}}
 use Rattle.zf_pad.proofs.storing.copy_line.Goals as goal
 
 pub copy_blocks-requires-clause-there : goal.copy_blocks-requires-clause-there
@@ -38,3 +38,12 @@ returns-clause-values g c =
     ∙ sym (rest_value _ _ _ _ _ _ _ part stored k small)
     ∙ ap (λ j. get_or (raster_of c.args.shape.now stored) (c.args.from + j) (pos 0)) place)
     (cases_lt i (4 * (count / 4)))
+
+pub nonzero_rem-x : goal.nonzero_rem-x
+nonzero_rem-x g c = omega (arith, line_some _ c.line_at-n.ensures.part.shape, c.line_at-n.ensures.part.n_is)
+
+pub overflow_mul-lines : goal.overflow_mul-lines
+overflow_mul-lines g c = omega (arith, others_fit _ c.line_at-n.ensures.part.shape)
+
+pub put_rest-requires-clause-room : goal.put_rest-requires-clause-room
+put_rest-requires-clause-room g c = rw c.copy_blocks.auto.piece (omega arith)

@@ -1,5 +1,5 @@
 use Rattle.std.proofs.Common.{◌≡◌, ℕ, ◌+◌, ◌-◌, ◌%◌, ◌≤◌, ◌⊎◌, inl, inr, ⊎_elim, map, ap, sym, arith}
-use Rattle.zf_pad.{specs.Stored.{line_len, values_in}, proofs.StoredLines.{next_first, line_end}}
+use Rattle.zf_pad.{specs.Stored.{line_len, values_in}, proofs.StoredLines.{next_first, line_end, line_some}}
 use Rattle.zf_pad.proofs.FourLines.{four_values}
 use Rattle.zf_pad.proofs.storing.copy_next.Goals as goal
 
@@ -33,3 +33,6 @@ returns-clause-first g c =
     next_first (line_len c.args.shape.now) c.args.from c.next_count-count.result c.requires.first
     (on_line (line_len c.args.shape.now) c.size-n.result c.args.from c.next_count-count.result c.size-n.ensures some left)
     (or_all (line_len c.args.shape.now) c.size-n.result c.args.from c.next_count-count.result c.size-n.ensures some left c.next_count-count.ensures.whole)
+
+pub returns-in-Some-clause-some : goal.returns-in-Some-clause-some
+returns-in-Some-clause-some g c = omega (arith, line_some _ c.dims-dims.ensures.shape, c.size-n.ensures)
