@@ -1,21 +1,33 @@
-use Rattle.std.proofs.Common.{◌≡◌, ◌*◌, ◌/◌, ◌<◌, true, false, ap, subst, refl, ◌∙◌, arith}
-use Rattle.zf_pad.{specs.Layouts.{index_of}, proofs.Copying.{exists_here, run_within, all_runs, copied_none, copied_run, copied_skip, copied_all}}
+use Rattle.std.proofs.Common.{◌≡◌, ℕ, ◌+◌, ◌*◌, ◌/◌, ◌^◌, ◌<◌, ◌≤◌, Bool, true, false, ap, subst, refl, ◌∙◌, arith}
+use Rattle.zf_spec.specs.Grid.{is_inside}
+use Rattle.zf_base.{specs.Positions.{axes}, specs.declared.position.{Pos.{Pos}, Extent.{Extent}}}
+use Rattle.zf_pad.specs.declared.layout.Layout.{Layout}
+use Rattle.zf_pad.{specs.Layouts.{CanCopyRuns, index_of, place_indices}, proofs.Copying.{exists_here, run_within, all_runs, copied_none, copied_run, copied_skip, copied_all}}
 use Rattle.zf_pad.proofs.copies.copy.Goals.{then-is_inside, else-is_inside}
 use Rattle.zf_pad.proofs.copies.copy.Goals as goal
 
 pub loop-run-init : goal.loop-run-init
 loop-run-init g c = copied_none _ _ _ _ _ (c.args.len * 0) (omega arith)
 
+-- a run whose first place exists lies within both lists
+lies : (e : Extent) (d len : ℕ) (from : Layout) (m : ℕ) (to : Layout) (n : ℕ) → CanCopyRuns e d len from m to n → (r count : ℕ) (at : Pos) (b : Bool) → count ≡ 4 ^ d → r < count / len
+    → at ≡ place_indices (len * r) → b ≡ is_inside (axes e.size) (axes at) → b ≡ true → (index_of from at + len ≤ m) × (index_of to at + len ≤ n)
+lies e d len from m to n fits r count at b all lt is test was =
+    run_within _ _ _ _ _ _ _ fits r _ _ (subst (λ k. r < k / len) all lt) (exists_here e (len * r) at b true is test was) (ap (index_of from) is) (ap (index_of to) is)
+
+pub index-there-requires : goal.index-there-requires
+index-there-requires g c = let at = lies _ _ _ _ _ _ _ c.requires _ _ _ _ c.block_len.ensures.value c.loop-run-test.true c.indices-at.ensures c.is_inside.ensures c.if-is_inside.true in omega (arith, at.0)
+
+pub index-requires : goal.index-requires
+index-requires g c = let at = lies _ _ _ _ _ _ _ c.requires _ _ _ _ c.block_len.ensures.value c.loop-run-test.true c.indices-at.ensures c.is_inside.ensures c.if-is_inside.true in omega (arith, at.1)
+
 pub copy_run-requires-clause-there : goal.copy_run-requires-clause-there
 copy_run-requires-clause-there g c =
-    let here = exists_here c.args.e.now (c.args.len * c.loop-run.run) c.indices-at.result _ true c.indices-at.ensures c.is_inside.ensures c.if-is_inside.true in
-    (run_within _ _ _ _ _ _ _ c.requires c.loop-run.run _ _ (subst (λ n. c.loop-run.run < n / c.args.len) c.block_len.ensures.value c.loop-run-test.true) here (c.index-there.ensures ∙ ap (index_of c.args.from.now) c.indices-at.ensures) (c.index.ensures ∙ ap (index_of c.args.to.now) c.indices-at.ensures)).0
+    let at = lies _ _ _ _ _ _ _ c.requires _ _ _ _ c.block_len.ensures.value c.loop-run-test.true c.indices-at.ensures c.is_inside.ensures c.if-is_inside.true in omega (arith, at.0, c.index-there.ensures)
 
 pub copy_run-requires-clause-room : goal.copy_run-requires-clause-room
 copy_run-requires-clause-room g c =
-    let here = exists_here c.args.e.now (c.args.len * c.loop-run.run) c.indices-at.result _ true c.indices-at.ensures c.is_inside.ensures c.if-is_inside.true in
-    let room = (run_within _ _ _ _ _ _ _ c.requires c.loop-run.run _ _ (subst (λ n. c.loop-run.run < n / c.args.len) c.block_len.ensures.value c.loop-run-test.true) here (c.index-there.ensures ∙ ap (index_of c.args.from.now) c.indices-at.ensures) (c.index.ensures ∙ ap (index_of c.args.to.now) c.indices-at.ensures)).1 in
-    omega arith
+    let at = lies _ _ _ _ _ _ _ c.requires _ _ _ _ c.block_len.ensures.value c.loop-run-test.true c.indices-at.ensures c.is_inside.ensures c.if-is_inside.true in omega (arith, at.1, c.index.ensures)
 
 pub loop-run-preserved : goal.loop-run-preserved
 loop-run-preserved g c =
