@@ -68,6 +68,10 @@ pub(crate) fn bits_from(words: &[u64], at: u64) -> u64
 {
     let place = (at / 64) as usize;
     let shift = at % 64;
+    // Two tests of the end in one, as most places are far before it.
+    if place + 1 < words.len() {
+        return word(words, place) >> shift | word(words, place + 1) << (63 - shift) << 1;
+    }
     word_at(words, place) >> shift | word_at(words, place + 1) << (63 - shift) << 1
 }
 
