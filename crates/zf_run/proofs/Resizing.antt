@@ -38,7 +38,7 @@ module _ (w : Width) (a : Held) (ty : Ty) (ms ns : List ℕ) (b : ℕ) (same : m
   has_no_room large = lt-leb (file_bytes w (block_bits a.header.mode) ns) max_file (omega (arith, large, bytes))
 
 -- an array that was resized
-module _ (w : Width) (a : Held) (dim : ℕ) (is : IsArray w dim a) (v : Window) (lies : LiesIn (shape a) v) (b : Held) (ns ms : List ℕ) (same : ms ≡ ns) (new : is_new_shape (setting_of w a) (start_of a) ns ≡ true)
+module _ (w : Width) (a : Held) (dim : ℕ) (is : IsArray w dim a.header) (v : Window) (lies : LiesIn (shape a) v) (b : Held) (ns ms : List ℕ) (same : ms ≡ ns) (new : is_new_shape (setting_of w a) (start_of a) ns ≡ true)
     (rate : a.header.mode ≡ Rate (block_bits a.header.mode)) (head : b.header ≡ record { ty = a.header.ty; shape = ms; mode = Rate (block_bits a.header.mode) }) where
   coded : array_format (rate_coding w (block_bits a.header.mode)) ns ≡ format b
   coded = search rules

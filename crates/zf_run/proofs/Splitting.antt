@@ -18,7 +18,7 @@ use Rattle.zf_cache.{specs.Kept.{Kept, IsEmpty}, specs.Standing.{state_of}, proo
 use Rattle.zf_cache.{proofs.Steps.{empty_fits}, proofs.Touches.{state_is, no_tag, all_meant}}
 use Rattle.zf_private.specs.Standing as private
 use Rattle.zf_array.{specs.Standing.{Held, shape, state, format}, specs.Coded.{IsCoded}}
-use Rattle.zf_run.{specs.Sessions.{setting_of, session_of, kind, IsArray}, proofs.Sessions.{format_is, still_array}}
+use Rattle.zf_run.{specs.Sessions.{setting_of, session_of, kind, IsArray}, proofs.Sessions.{rate_format, array_suits, still_array}}
 use Rattle.zf_run.specs.Splits.{view_of, views_seen, split_session, IsPart, AreParts, IsNewPart, AreNewParts}
 use Rattle.zf_run.proofs.Viewing.{is_owner_is, seen_at}
 use Rattle.zf_commands.{specs.Steps.{Does, HasWindow}, proofs.Stepping.{accepted}}
@@ -66,7 +66,7 @@ module _ {X : Type 0} (value : X → ℤ) where
 
   -- ---- a split
 
-  module _ (w : Width) (d : ℕ) (a b : Held) (views : List (private.Held X)) (n l lines : ℕ) (array : IsArray w d a) (some : 0 < n)
+  module _ (w : Width) (d : ℕ) (a b : Held) (views : List (private.Held X)) (n l lines : ℕ) (array : IsArray w d a.header) (some : 0 < n)
       (number : is_view_count (blocks (shape a)) n ≡ true) (counts : is_line_count l ≡ true) (raises : lines ≡ raised l)
       (new : AreNewParts d (shape a) n lines n views) (flushes : state b ≡ flush (format a) (state a)) (head : b.header ≡ a.header) (is_coded : IsCoded b) where
     abbrev S : Setting (List Bool)
@@ -79,14 +79,15 @@ module _ {X : Type 0} (value : X → ℤ) where
     same_shape = ap (λ (h : Header). h.shape) head
 
     formats : format b ≡ format a
-    formats = ap (λ (h : Header). array_format (rate_coding (width_of h.ty) (block_bits h.mode)) h.shape) head
+    formats = ap rate_format head
 
     splits : (u : Window) → split_into S (session_of a u) n (raised l) ≡ split_session value b views u
     unfolding split_into
     splits u =
+        let suits = array_suits w a.header same in
         let made : Format (List Bool) → State (List Bool) → ℕ → Session (List Bool) = λ g t m. record (session_of a u) { state = t; split = Some (opened_views g t.codes m n) } in
         let there : views_seen value b views ≡ opened_views (format b) (state b).codes lines n = new_views d b n lines some views (subst (λ ns. AreNewParts d ns n lines n views) (sym same_shape) new) in
-        (λ i. made (format_is w a same u i) (flush (format_is w a same u i) (state a)) (sym raises i))
+        (λ i. made (suits.coded i) (flush (suits.coded i) (state a)) (sym raises i))
         ∙ (λ i. made (sym formats i) (sym flushes i) lines)
         ∙ (λ i. record { shape = sym same_shape i; state = state b; window = u; split = Some (sym there i) })
 
@@ -99,7 +100,7 @@ module _ {X : Type 0} (value : X → ℤ) where
     pub are_parts : AreParts value w d b views
     unfolding array_format
     are_parts = record {
-      array = still_array w d a b head array;
+      array = still_array w d a.header b.header head array;
       is_coded = is_coded;
       number = subst (λ m. is_view_count (blocks (shape b)) m ≡ true) (sym new.many) (subst (λ ns. is_view_count (blocks ns) n ≡ true) (sym same_shape) number);
       each = λ i v lt at. subst (λ m. IsPart value d b m i v) (sym new.many) (part i v (new.each i v lt at));
@@ -140,4 +141,4 @@ pub ends : (w : Width) (a mid b : Held) (s : Session (List Bool)) (u : Window) �
 unfolding ended
 ends w a mid b s u same kept joins flushes head =
     let coded : format_of (setting_of w a) (session_of mid u) ≡ format mid =
-    ap (λ (k : Ty × Mode). format_of (array_setting w (block_bits k.1)) (session_of mid u)) (sym kept) ∙ format_is w mid same u in search rules
+    ap (λ (k : Ty × Mode). format_of (array_setting w (block_bits k.1)) (session_of mid u)) (sym kept) ∙ (array_suits w mid.header same).coded in search rules

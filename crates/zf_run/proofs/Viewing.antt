@@ -22,7 +22,7 @@ use Rattle.zf_private.{specs.Standing.{Own, IsSameView, IsWhole}, proofs.Calls.{
 use Rattle.zf_private.proofs.Alike.{stay-acted, quiet-acted, alike-acted, alike-answered}
 use Rattle.zf_private.{proofs.Others.{other_codes_alike}, proofs.Ready.{ready_after, ready_beside}, proofs.Several.{own-or-not}}
 use Rattle.zf_array.{specs.Standing.{Held, shape, state, format}, specs.Coded.{IsCoded}}
-use Rattle.zf_run.{specs.Sessions.{setting_of, kind}, proofs.Sessions.{format_is, still_array}}
+use Rattle.zf_run.{specs.Sessions.{setting_of, kind}, proofs.Sessions.{rate_format, array_suits, still_array}}
 use Rattle.zf_run.specs.Splits.{owns_block, view_state, view_of, views_seen, split_session, IsPart, AreParts}
 use Rattle.zf_commands.{specs.Steps.{Does, HasWindow, starves}, proofs.Stepping.{accepted}}
 
@@ -108,7 +108,7 @@ module _ {X : Type 0} (value : X → ℤ) (w : Width) (d : ℕ) (a b : Held) (vi
   part = parts.each i v lt at
 
   formats : format b ≡ format a
-  formats = ap (λ (h : Header). array_format (rate_coding (width_of h.ty) (block_bits h.mode)) h.shape) head
+  formats = ap rate_format head
 
   -- the state of the view as the language has it, before
   abbrev seen : State (List Bool)
@@ -185,16 +185,19 @@ module _ {X : Type 0} (value : X → ℤ) (w : Width) (d : ℕ) (a b : Held) (vi
     abbrev before : Session (List Bool)
     before = split_session value a views u
 
+    set_format : format_of S before ≡ f
+    set_format = (array_suits w a.header same).coded
+
     acts_alike : acted S.width (format_of S before) (state_of_view before i) act ≡ after
     unfolding array_setting
-    acts_alike = λ j. acted w (format_is w a same u j) (with_codes (seen_at value a views i v lt at j) (state a).codes) act
+    acts_alike = λ j. acted w (set_format j) (with_codes (seen_at value a views i v lt at j) (state a).codes) act
 
     acts : (by_view S before i act).0 ≡ split_session value b (set views i n) u
     unfolding by_view with_view
     acts =
         let come : State (List Bool) → Session (List Bool) = λ t. record before { state = coded (format_of S before) (state a) t.codes; split = Some (set (views_seen value a views) i (without_codes t)) } in
         ap come acts_alike
-        ∙ (λ j. record { shape = (sym head j).shape; state = (ap (λ g. coded g (state a) after.codes) (format_is w a same u) ∙ state_is) j; window = u; split = Some (views_are j) })
+        ∙ (λ j. record { shape = (sym head j).shape; state = (ap (λ g. coded g (state a) after.codes) set_format ∙ state_is) j; window = u; split = Some (views_are j) })
 
     answers : (by_view S before i act).1 ≡ option_map Reply.number (answered (view_state value b n) act)
     unfolding by_view
@@ -203,7 +206,7 @@ module _ {X : Type 0} (value : X → ℤ) (w : Width) (d : ℕ) (a b : Held) (vi
   -- they are parts as before
   still_parts : AreParts value w d b (set views i n)
   still_parts = record {
-    array = still_array w d a b head parts.array;
+    array = still_array w d a.header b.header head parts.array;
     is_coded = has.is_coded;
     number = subst (λ m. is_view_count (blocks (shape b)) m ≡ true) (sym (length-set views i n)) (subst (λ (h : Header). is_view_count (blocks h.shape) (length views) ≡ true) (sym head) parts.number);
     each = λ k o below there. subst (λ m. IsPart value d b m k o) (sym (length-set views i n)) (part_at k o (subst (λ m. k < m) (length-set views i n) below) there (cases_eq k i));

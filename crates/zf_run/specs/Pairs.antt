@@ -1,5 +1,5 @@
 -- A store and a two-way cache over it as what a script works on.
-use Rattle.std.specs.Prelude.{◌≡◌, ℤ, Bool, List, refl}
+use Rattle.std.specs.Prelude.{◌≡◌, ℕ, ℤ, Bool, List, refl}
 use Rattle.std.specs.Int.{Width}
 use Rattle.zf_header.specs.declared.header.Header.{Header}
 use Rattle.zf_header.specs.HeaderBits.{block_bits}
@@ -11,6 +11,7 @@ use Rattle.zf_cache.specs.Kept.{Kept}
 use Rattle.zf_store.specs.Stored.{Stored, format_of, code_at}
 use Rattle.zf_twoway.specs.Runs.{twoway_setting}
 use Rattle.zf_twoway.specs.Standing.{state_of, Fits}
+use Rattle.zf_run.specs.Sessions.{IsArray}
 
 module _ {X : Type 0} (value : X → ℤ) where
   -- the state that the two stand for
@@ -24,6 +25,11 @@ module _ {X : Type 0} (value : X → ℤ) where
   -- they fit
   abbrev pub PairFits : Stored → Kept X → Type 0
   PairFits s c = Fits value c (format_of s) (code_at s)
+
+  -- so they do, and the values are of this width, in d dimensions
+  pub record IsPair (w : Width) (d : ℕ) (s : Stored) (c : Kept X) : Type 0 where
+    pub array : IsArray w d s.header
+    pub fits : PairFits s c
 
 -- what a script doesn't change about them: the type of the values and the bits of a block
 abbrev pub two_setting_of : Width → Header → Setting (List Bool)

@@ -44,15 +44,15 @@ start_of a = session_of a (whole (shape a))
 abbrev pub run_of : Width → Held → List ℕ → List ℕ → Session (List Bool) × List Reply
 run_of w a starved script = run (setting_of w a) starved (shape a) (state a) script
 
--- an array of values of this width in d dimensions: so says its header, and its sizes are those of a shape
-pub record IsArray (w : Width) (d : ℕ) (a : Held) : Type 0 where
-  pub same_type : w ≡ width_of a.header.ty
-  pub sizes : IsShape (shape a)
-  pub dims : length (shape a) ≡ d
+-- values of this width in d dimensions: so says the header of an array, and its sizes are those of a shape
+pub record IsArray (w : Width) (d : ℕ) (h : Header) : Type 0 where
+  pub same_type : w ≡ width_of h.ty
+  pub sizes : IsShape h.shape
+  pub dims : length h.shape ≡ d
 
 -- b is one of the kind of a
 abbrev pub StillArray : Width → ℕ → Held → Held → Type 0
-StillArray w d a b = IsArray w d b × (kind b ≡ kind a)
+StillArray w d a b = IsArray w d b.header × (kind b ≡ kind a)
 
 -- ---- an array that is only read
 

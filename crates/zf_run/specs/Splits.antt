@@ -82,7 +82,7 @@ module _ {X : Type 0} (value : X → ℤ) where
 
   -- the array stands for its codes alone, and its blocks are parted among the views in order
   pub record AreParts (w : Width) (d : ℕ) (a : Held) (views : List (private.Held X)) : Type 0 where
-    pub array : IsArray w d a
+    pub array : IsArray w d a.header
     pub is_coded : IsCoded a
     pub number : is_view_count (blocks (shape a)) (length views) ≡ true
     pub each : (i : ℕ) (v : private.Held X) → i < length views → v ≡ slice_index_or views i v
@@ -90,7 +90,7 @@ module _ {X : Type 0} (value : X → ℤ) where
 
   -- they are, where there are views
   abbrev pub FitTogether : {Z : Type 0} → Width → ℕ → Held → Option (Vec (private.Held X) Z) → Type 0
-  FitTogether w d a None = IsArray w d a
+  FitTogether w d a None = IsArray w d a.header
   FitTogether w d a (Some views) = AreParts w d a (vec_items views)
 
   -- a command on a view was done, whatever the window; the blocks are parted as before, in an array of the

@@ -7,11 +7,10 @@ ghost use Rattle.zf_header.specs.HeaderBits.{block_bits};
 ghost use Rattle.zf_cached.specs.Runs.{array_setting};
 ghost use Rattle.zf_run.specs.Sessions.{session_of, kind, array_width, IsArray};
 
-use crate::changes::{fill_block, sum_block};
 use std::alloc::AllocError;
 use zf_array::Array;
 use zf_base::{Lane, Pos, Shape};
-use zf_commands::{Changing, Subject, Target};
+use zf_commands::{Changing, Subject, Target, fill_line, sum_within};
 use zf_script::Stats;
 use zf_view::Window;
 
@@ -35,7 +34,7 @@ impl<'a, T: Lane, const D: usize> Subject for Whole<'a, T, D> {
 
     ghost session = { λ a. session_of a.array.now a.window.now };
 
-    ghost sound = { λ a. IsArray T.width D a.array.now };
+    ghost sound = { λ a. IsArray T.width D a.array.now.header };
 
     fn sizes(&self) -> Shape {
         self.array.shape()
@@ -61,7 +60,8 @@ impl<'a, T: Lane, const D: usize> Target for Whole<'a, T, D> {
 
     fn sum_of_block(&mut self, b: u64) -> i128 {
         let array = &mut *self.array;
-        sum_block(array, b)
+        let size = array.shape().extent(b).size;
+        sum_within(array.block(b), &size)
     }
 
     fn use_lines(&mut self, count: u32) -> Result<(), AllocError> {
@@ -90,7 +90,7 @@ impl<'a, T: Lane, const D: usize> Changing<T> for Whole<'a, T, D> {
 
     fn fill_block(&mut self, b: u64, v: T) {
         let array = &mut *self.array;
-        fill_block(array, b, v);
+        fill_line(array.block_mut(b), v);
     }
 
     fn flush_all(&mut self) {

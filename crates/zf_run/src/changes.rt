@@ -1,22 +1,20 @@
-//! Changes of an array that need the array itself: of a window, of a block, and of its shape.
+//! Changes of an array that need the array itself: through the window, and of its shape.
 
-ghost use Rattle.std.specs.Prelude.{◌≡◌, true, false, ◌<◌, ◌^◌, replicate, length, IfSome, IfNone};
-ghost use Rattle.zf_spec.specs.Grid.{IsShape, blocks};
-ghost use Rattle.zf_base.specs.Formats.{existing_of};
+ghost use Rattle.std.specs.Prelude.{◌≡◌, true, false, length, IfSome, IfNone};
+ghost use Rattle.zf_spec.specs.Grid.{IsShape};
 ghost use Rattle.zf_base.specs.Positions.{used_axes, with_unused};
 ghost use Rattle.zf_header.specs.HeaderBits.{block_bits};
 ghost use Rattle.zf_cached.specs.Commands.{Command};
-ghost use Rattle.zf_cached.specs.Windows.{LiesIn, Window as Part};
-ghost use Rattle.zf_cached.specs.Steps.{is_new_shape, touched, changed, total};
-ghost use Rattle.zf_array.specs.Standing.{shape, state, format};
-ghost use Rattle.zf_window.specs.Bounds.{IsUpTo};
+ghost use Rattle.zf_cached.specs.Windows.{LiesIn};
+ghost use Rattle.zf_cached.specs.Steps.{is_new_shape};
+ghost use Rattle.zf_array.specs.Standing.{shape};
 ghost use Rattle.zf_commands.specs.Kinds.{array_cmd, asked, IsPlain};
 ghost use Rattle.zf_commands.specs.Steps.{HasWindow, Does, said};
 ghost use Rattle.zf_run.specs.Sessions.{setting_of, session_of, start_of, IsArray, StillArray};
 
 use zf_array::Array;
 use zf_base::{Lane, Pos, Shape};
-use zf_commands::{ArrayCmd, fill_line, of_type, sum_within};
+use zf_commands::{ArrayCmd, of_type};
 use zf_header::{Header, MAX_FILE, Mode, rate_bytes};
 use zf_script::{Refusal, Reply};
 use zf_view::Window;
@@ -27,7 +25,7 @@ pub(crate) fn change_array<T: Lane, const D: usize>(
     window: &mut Window,
     cmd: ArrayCmd,
 ) -> Option<Reply>
-    requires array { IsArray T.width D a.old }
+    requires array { IsArray T.width D a.old.header }
     requires window { HasWindow (session_of a.old window.old) }
     requires plain { IsPlain (session_of a.old window.old) (array_cmd cmd) }
     ensures does { Does (setting_of T.width a.old) (asked (session_of a.old window.old) (array_cmd cmd))
@@ -47,7 +45,7 @@ fn vset<T: Lane, const D: usize>(
     p: Pos,
     v: i128,
 ) -> Option<Reply>
-    requires array { IsArray T.width D a.old }
+    requires array { IsArray T.width D a.old.header }
     requires inside { LiesIn (shape a.old) window.now }
     requires unused { p ≡ with_unused 0 (used_axes (length (shape a.old)) p) }
     ensures does { Does (setting_of T.width a.old) (Command.vset (used_axes (length (shape a.old)) p) v)
@@ -64,32 +62,6 @@ fn vset<T: Lane, const D: usize>(
     None
 }
 
-/// Makes all values of block `b` be `v`, by one touch for writing.
-pub(crate) fn fill_block<T: Lane, const D: usize>(a: &mut Array<T, D>, b: u64, v: T)
-    requires array { IsArray T.width D a.old }
-    requires block { b < blocks (shape a.old) }
-    ensures filled { (u : Part) → session_of a.new u
-        ≡ changed (setting_of T.width a.old) (session_of a.old u) b
-        (λ values. existing_of (format a.old) b (replicate (format a.old).block_len (T.value v))) }
-    ensures header { a.new.header ≡ a.old.header }
-{
-    fill_line(a.block_mut(b), v);
-}
-
-/// The sum of the values of block `b` as a touch finds them.
-pub(crate) fn sum_block<T: Lane, const D: usize>(a: &mut Array<T, D>, b: u64) -> i128
-    requires array { IsArray T.width D a.old }
-    requires block { b < blocks (shape a.old) }
-    ensures touched { (u : Part) → session_of a.new u
-        ≡ touched (setting_of T.width a.old) (session_of a.old u) b }
-    ensures sum { result ≡ total ((state a.new).values b) }
-    ensures bound { IsUpTo (2 ^ 71) result }
-    ensures header { a.new.header ≡ a.old.header }
-{
-    let size = a.shape().extent(b).size;
-    sum_within(a.block(b), &size)
-}
-
 // `resize S`: zeros of another shape; the window is the whole array.
 fn resize<T: Lane, const D: usize>(
     a: &mut Array<T, D>,
@@ -97,7 +69,7 @@ fn resize<T: Lane, const D: usize>(
     count: u8,
     sizes: Pos,
 ) -> Option<Reply>
-    requires array { IsArray T.width D a.old }
+    requires array { IsArray T.width D a.old.header }
     requires inside { LiesIn (shape a.old) window.old }
     requires count { length (used_axes count sizes) ≡ count }
     ensures does { Does (setting_of T.width a.old) (Command.resize (used_axes count sizes))

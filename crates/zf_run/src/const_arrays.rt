@@ -57,10 +57,7 @@ impl<'a, T: Lane, const D: usize> Target for Looked<'a, T, D> {
 
     fn sum_of_block(&mut self, b: u64) -> i128 {
         let array = &mut *self.array;
-        let shape = array.shape();
-        // Known by this call: the sizes are those of a shape.
-        let _dims = shape.dims();
-        let size = shape.extent(b).size;
+        let size = array.shape().extent(b).size;
         sum_within(array.block(b), &size)
     }
 

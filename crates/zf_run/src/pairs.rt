@@ -2,7 +2,7 @@
 
 ghost use Rattle.std.specs.Prelude.{Bool, List, refl};
 ghost use Rattle.zf_header.specs.declared.header.Header.{Header};
-ghost use Rattle.zf_run.specs.Pairs.{pair_session, PairFits, two_setting_of, two_width};
+ghost use Rattle.zf_run.specs.Pairs.{pair_session, IsPair, two_setting_of, two_width};
 
 use std::alloc::AllocError;
 use zf_base::{Lane, Pos, Shape};
@@ -34,7 +34,7 @@ impl<'a, T: Lane, const D: usize> Subject for Pair<'a, T, D> {
 
     ghost setting = { λ k. two_setting_of T.width k.0 };
 
-    ghost sound = { λ p. PairFits T.value p.store.now p.cache.now };
+    ghost sound = { λ p. IsPair T.value T.width D p.store.now p.cache.now };
 
     ghost session = { λ p. pair_session T.value p.store.now p.cache.now p.window };
 
@@ -58,8 +58,6 @@ impl<'a, T: Lane, const D: usize> Target for Pair<'a, T, D> {
     fn value_at(&mut self, b: u64, place: usize) -> i128 {
         let store = &mut *self.store;
         let cache = &mut *self.cache;
-        // Known by this call: what holds of a store.
-        let _header = store.header();
         cache.get(store, b, place).to_wide()
     }
 
@@ -73,8 +71,6 @@ impl<'a, T: Lane, const D: usize> Target for Pair<'a, T, D> {
     fn use_lines(&mut self, count: u32) -> Result<(), AllocError> {
         let store = &mut *self.store;
         let cache = &mut *self.cache;
-        // Known by this call: what holds of a store.
-        let _header = store.header();
         cache.relined(store, raised(count))
     }
 
@@ -104,24 +100,17 @@ impl<'a, T: Lane, const D: usize> Changing<T> for Pair<'a, T, D> {
     fn fill_block(&mut self, b: u64, v: T) {
         let store = &mut *self.store;
         let cache = &mut *self.cache;
-        // Known by this call: what holds of a store.
-        let _header = store.header();
         fill_line(cache.block_mut(store, b), v);
     }
 
     fn flush_all(&mut self) {
         let store = &mut *self.store;
         let cache = &mut *self.cache;
-        // Known by this call: what holds of a store.
-        let _header = store.header();
         cache.flush(store);
     }
 
     fn discard_all(&mut self) {
-        let store = &mut *self.store;
         let cache = &mut *self.cache;
-        // Known by this call: what holds of a store.
-        let _header = store.header();
         cache.discard();
     }
 }

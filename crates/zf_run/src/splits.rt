@@ -61,7 +61,7 @@ impl<'a, T: Lane, const D: usize> Parted<'a, T, D> {
         ensures joined { joined (setting_of T.width self.old.array.now) (session_in T.value self.old)
             ≡ session_of self.new.array.now self.new.window }
         ensures whole { self.new.views.now ≡ None }
-        ensures array { IsArray T.width D self.new.array.now }
+        ensures array { IsArray T.width D self.new.array.now.header }
         ensures kept { StaysParted self.old self.new }
     {
         let array = &mut *self.array;

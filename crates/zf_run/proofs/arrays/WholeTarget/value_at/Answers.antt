@@ -1,9 +1,9 @@
 use Rattle.std.proofs.Common.{rules, lit≤}
-use Rattle.zf_run.proofs.Sessions.{touched_is, same_whole, still_array}
+use Rattle.zf_run.proofs.Sessions.{touched_is, array_suits, same_whole, still_array}
 use Rattle.zf_run.proofs.arrays.WholeTarget.value_at.Goals as goal
 
 pub value_at-requires : goal.value_at-requires
 value_at-requires g c = (lit≤ tt, (c.requires.position, c.requires.at))
 
 pub returns-clause-touched : goal.returns-clause-touched
-returns-clause-touched g c = search (rules, touched_is, same_whole, still_array)
+returns-clause-touched g c = search (rules, touched_is, array_suits, same_whole, still_array)
